@@ -28,8 +28,8 @@ use Rattle.cert_sched.proofs.ThereLaws.{found_among}
 use Rattle.cert_sched.proofs.UnendedLaws.{unended_open_at}
 use Rattle.cert_sched.proofs.UnplacedLaws.{never_moved}
 use Rattle.cert_sched.proofs.FreshLaws.{BornRightly, born_rightly, child_new}
-use Rattle.cert_sched.proofs.FamilyLaws.{Pair, Member, none_of, among, In, not_in, Families, Together, families_at_boot, families_more, births_more, child_joins, found_born, found_child}
-use Rattle.backup_laws.proofs.Families.{fresh_named, standing_named, member_either, no_birth_of, one_passes, unsynced_by}
+use Rattle.cert_sched.proofs.FamilyLaws.{Pair, Member, none_of, among, In, not_in, Families, Together, families_at_boot, families_more, births_more, child_joins, found_born, found_child, fresh_named, standing_named}
+use Rattle.cert_sched.proofs.ChildLaws.{member_either, no_birth_of, one_passes, unsynced_by}
 use Rattle.page_laws.specs.Next.{moves_next}
 use Rattle.backup_laws.proofs.Since.{awaited_in, awaited_is, awaited-moved, awaited-on, full_mode, is_full_at, mode_at, was_moved-snoc}
 use Rattle.backup_laws.proofs.Modes.{mode_stays, moved_is}
@@ -61,7 +61,8 @@ moved_same system log e all b t = by_loss (cluster_lost (what e))
     by_loss (Some k) = moved_is here b.0 k t.parent (all.numbered).two t.parent_at ∙ both k ∙ sym (moved_is here b.1 k t.child (all.numbered).two t.child_at)
 
 -- and named where that is
-names_child : (system : System) (log : List Entry) (e : Entry) → Families system log → (b : Pair) → Member b (births_of log) → is_unsynced (placement system log) b.1 ≡ true → Together (placement system log) b
+names_child : (system : System) (log : List Entry) (e : Entry) → Families system log → (b : Pair) → Member b (births_of log) → is_unsynced (placement system log) b.1 ≡ true
+    → Together (placement system log) b
     → (w : What) → KindHolds system log e w → names b.0 w ≡ true → names b.1 w ≡ true
 names_child system log e all b m h t (Rebackup to true []) kind named = absurd kind
 names_child system log e all b m h t (Rebackup to false []) kind named = absurd kind
@@ -110,12 +111,15 @@ module _ (system : System) (log : List Entry) (e : Entry) (stands : Stands syste
   next = families_more system log e stands before.all
 
   unsynced_here : (b : Pair) → Member b (births_of log) → is_unsynced after b.1 ≡ true → is_unsynced here b.1 ≡ true
-  unsynced_here b m h = unsynced_by system log e stands before.all (what e) refl stands.kind stands.by_right b.1 ((before.all).pairs_in b m).1 (sym (ap (λ places. is_unsynced places b.1) (placement-snoc system log e)) ∙ h)
+  unsynced_here b m h =
+      unsynced_by system log e stands before.all (what e) refl stands.kind stands.by_right b.1 ((before.all).pairs_in b m).1 (sym (ap (λ places. is_unsynced places b.1) (placement-snoc system log e))
+      ∙ h)
 
   old_mode : (b : Pair) → Member b (births_of log) → (p : Pid) → In p.0 here → is_some (unended_at after p) ≡ true → mode_at after p ≡ mode_at here p
   old_mode b m p placed there =
       ap (λ places. mode_at places p) (placement-snoc system log e)
-      ∙ mode_stays (what e) here p (no_birth_of system log e stands before.all (what e) stands.kind stands.by_right p placed) (ap (λ places. is_some (unended_at places p)) (sym (placement-snoc system log e)) ∙ there)
+      ∙ mode_stays (what e) here p (no_birth_of system log e stands before.all (what e) stands.kind stands.by_right p placed)
+          (ap (λ places. is_some (unended_at places p)) (sym (placement-snoc system log e)) ∙ there)
 
   old_modes : (b : Pair) → Member b (births_of log) → is_unsynced after b.1 ≡ true → Together after b → mode_at after b.0 ≡ mode_at after b.1
   old_modes b m h t =
@@ -137,7 +141,8 @@ module _ (system : System) (log : List Entry) (e : Entry) (stands : Stands syste
       alone : is_alone b.0 after ≡ true → is_alone b.1 after ≡ true
       alone is = sym (alone_same after b t) ∙ is
 
-      later : moves_next system log e b.1 ≡ false → (awaited_in system log b.0 ≡ true → awaited_in system log b.1 ≡ true) → awaited_in system (log ++ e ∷ []) b.0 ≡ true → awaited_in system (log ++ e ∷ []) b.1 ≡ true
+      later : moves_next system log e b.1 ≡ false → (awaited_in system log b.0 ≡ true → awaited_in system log b.1 ≡ true) → awaited_in system (log ++ e ∷ []) b.0 ≡ true
+          → awaited_in system (log ++ e ∷ []) b.1 ≡ true
       later stays has is =
           awaited-on system log e b.1 stays
           ∙ by_parts (or_split (awaited_in system log b.0) (names b.0 (what e) || is_alone b.0 after) (sym (awaited-on system log e b.0 (parent_moves ∙ stays)) ∙ is))
@@ -175,11 +180,13 @@ module _ (system : System) (log : List Entry) (e : Entry) (stands : Stands syste
       let new = child_new here parent child (before.all).numbered right in
       was_moved-snoc system log e child ∙ (λ i. never_moved Stands system log child before.legal new i || ap (λ w. option_map_or (is_moved child here) (cluster_lost w) false) is i)
 
-  by_kind : (w : What) → what e ≡ w → (b : Pair) → Member b (births_of log) ⊎ Member b (born w) → is_unsynced after b.1 ≡ true → Together after b → (mode_at after b.0 ≡ mode_at after b.1) × WaitsWith system (log ++ e ∷ []) b
+  by_kind : (w : What) → what e ≡ w → (b : Pair) → Member b (births_of log) ⊎ Member b (born w) → is_unsynced after b.1 ≡ true → Together after b → (mode_at after b.0 ≡ mode_at after b.1)
+      × WaitsWith system (log ++ e ∷ []) b
   by_kind w is b (inl m) h t = (old_modes b m h t, old_waits b m h t)
   by_kind (Birth parent at child end) is b (inr (inl same)) h t =
       let right = born_rightly here (e.post).by parent child (subst (λ w. is_by_right here (e.post).by w ≡ true) is stands.by_right) (subst (KindHolds system log e) is stands.kind).child_is in
-      subst (λ (c : Pair). (mode_at after c.0 ≡ mode_at after c.1) × WaitsWith system (log ++ e ∷ []) c) (sym same) (new_modes parent at child end is right, inl (new_waits parent at child end is right))
+      subst (λ (c : Pair). (mode_at after c.0 ≡ mode_at after c.1)
+          × WaitsWith system (log ++ e ∷ []) c) (sym same) (new_modes parent at child end is right, inl (new_waits parent at child end is right))
   by_kind (Birth parent at child end) is b (inr (inr none)) h t = absurd none
   by_kind (Mail at letter) is b (inr m) h t = absurd m
   by_kind (Exit q at end) is b (inr m) h t = absurd m
@@ -218,7 +225,8 @@ and_none true = refl
 and_none false = refl
 
 -- a child that never synchronised has its new backup where its parent has
-pub child_awaited : (system : System) (log : List Entry) (parent child : Pid) → is_system system ≡ true → IsLegalBy Stands system log → bears log parent child ≡ true → is_unsynced (placement system log) child ≡ true
+pub child_awaited : (system : System) (log : List Entry) (parent child : Pid) → is_system system ≡ true → IsLegalBy Stands system log → bears log parent child ≡ true
+    → is_unsynced (placement system log) child ≡ true
     → has_awaited_backup system log parent ≡ true → has_awaited_backup system log child ≡ true
 child_awaited system log parent child valid legal bears_it unsynced has =
     let p = one_passes (λ (b : Pair). same_pid b.0 parent && same_pid b.1 child) (births_of log) bears_it in
@@ -230,7 +238,8 @@ child_awaited system log parent child valid legal bears_it unsynced has =
     ap (has_awaited_backup system log) (sym child_is)
     ∙ of_pair (p.pair) (wait.modes p.pair p.member unsynced_there) (wait.waits p.pair p.member unsynced_there) (ap (has_awaited_backup system log) parent_is ∙ has)
   where
-    of_pair : (b : Pair) → mode_at (placement system log) b.0 ≡ mode_at (placement system log) b.1 → WaitsWith system log b → has_awaited_backup system log b.0 ≡ true → has_awaited_backup system log b.1 ≡ true
+    of_pair : (b : Pair) → mode_at (placement system log) b.0 ≡ mode_at (placement system log) b.1 → WaitsWith system log b → has_awaited_backup system log b.0 ≡ true
+        → has_awaited_backup system log b.1 ≡ true
     of_pair b modes (inl never) has =
         awaited_is system log b.1 ∙ ap (λ x. not (is_full_at (placement system log) b.1 && x) || awaited_in system log b.1) never
         ∙ ap (λ x. not x || awaited_in system log b.1) (and_none (is_full_at (placement system log) b.1))

@@ -48,12 +48,14 @@ mapped_most f keeps [] = omega arith
 mapped_most f keeps (q ∷ qs) = omega (arith, first_counted (f q) (map f qs), first_counted q qs, no_more (is_unbacked (f q)) (is_unbacked q) (keeps q), mapped_most f keeps qs)
 
 -- and where one of them has one by it, fewer
-mapped_less : (f : Placed → Placed) → ((q : Placed) → is_unbacked (f q) ≡ true → is_unbacked q ≡ true) → (t : Placed → Bool) (qs : List Placed) (q : Placed) → find t qs ≡ Some q → is_unbacked q ≡ true → is_unbacked (f q) ≡ false
+mapped_less : (f : Placed → Placed) → ((q : Placed) → is_unbacked (f q) ≡ true → is_unbacked q ≡ true) → (t : Placed → Bool) (qs : List Placed) (q : Placed) → find t qs ≡ Some q → is_unbacked q ≡ true
+    → is_unbacked (f q) ≡ false
     → count_by is_unbacked (map f qs) + 1 ≤ count_by is_unbacked qs
 mapped_less f keeps t [] q found lacks has = cc
 mapped_less f keeps t (r ∷ qs) q found lacks has = by_test (t r) found (λ later. mapped_less f keeps t qs q later lacks has)
   where
-    by_test : (b : Bool) → cond b (Some r) (find t qs) ≡ Some q → (find t qs ≡ Some q → count_by is_unbacked (map f qs) + 1 ≤ count_by is_unbacked qs) → count_by is_unbacked (map f (r ∷ qs)) + 1 ≤ count_by is_unbacked (r ∷ qs)
+    by_test : (b : Bool) → cond b (Some r) (find t qs) ≡ Some q → (find t qs ≡ Some q → count_by is_unbacked (map f qs) + 1 ≤ count_by is_unbacked qs)
+        → count_by is_unbacked (map f (r ∷ qs)) + 1 ≤ count_by is_unbacked (r ∷ qs)
     by_test true is more =
         let same : r ≡ q = cc in
         let was : one_if (is_unbacked r) ≡ 1 = ap (λ (q : Placed). one_if (is_unbacked q)) same ∙ ap one_if lacks in
@@ -154,10 +156,12 @@ module _ (system : System) (log : List Entry) (e : Entry) (valid : is_system sys
       let births = births_length log e in
       omega (arith, same, births, less)
 
-pub backups_most : (system : System) (log : List Entry) (e : Entry) → is_system system ≡ true → IsLegalBy Stands system (log ++ e ∷ []) → cluster_lost (what e) ≡ None → left_of_backups system (log ++ e ∷ []) ≤ left_of_backups system log
+pub backups_most : (system : System) (log : List Entry) (e : Entry) → is_system system ≡ true → IsLegalBy Stands system (log ++ e ∷ []) → cluster_lost (what e) ≡ None
+    → left_of_backups system (log ++ e ∷ []) ≤ left_of_backups system log
 backups_most system log e valid legal none = by_kind system log e valid legal (what e) refl none
 
-pub backups_less : (system : System) (log : List Entry) (e : Entry) (to : ClusterNo) (fresh : Bool) (more : List BackRec) → is_system system ≡ true → IsLegalBy Stands system (log ++ e ∷ []) → what e ≡ Rebackup to fresh more → left_of_backups system (log ++ e ∷ []) < left_of_backups system log
+pub backups_less : (system : System) (log : List Entry) (e : Entry) (to : ClusterNo) (fresh : Bool) (more : List BackRec) → is_system system ≡ true → IsLegalBy Stands system (log ++ e ∷ [])
+    → what e ≡ Rebackup to fresh more → left_of_backups system (log ++ e ∷ []) < left_of_backups system log
 backups_less system log e to true [] valid legal is = absurd (subst (KindHolds system log e) is (IsLegal-last Stands system log e legal).kind)
 backups_less system log e to false [] valid legal is = absurd (subst (KindHolds system log e) is (IsLegal-last Stands system log e legal).kind)
 backups_less system log e to fresh (r ∷ rs) valid legal is = fewer system log e valid legal to fresh r rs is

@@ -32,7 +32,8 @@ module _ (system : System) (log : List Entry) (e : Entry) (p : Pid) where
   abbrev after : Places
   after = placement system (log ++ e ∷ [])
 
-  after_is : (q : Placed) → unended_at after p ≡ Some q → has_awaited_backup system (log ++ e ∷ []) p ≡ (not (is_full q.mode && (was_moved system log p || moves_next system log e p)) || awaited_in system (log ++ e ∷ []) p)
+  after_is : (q : Placed) → unended_at after p ≡ Some q
+      → has_awaited_backup system (log ++ e ∷ []) p ≡ (not (is_full q.mode && (was_moved system log p || moves_next system log e p)) || awaited_in system (log ++ e ∷ []) p)
   after_is q there = awaited_is system (log ++ e ∷ []) p ∙ (λ i. not (full_is after p q there i && was_moved-snoc system log e p i) || awaited_in system (log ++ e ∷ []) p)
 
   pub begins_here : (q : Placed) → moves_next system log e p ≡ true → unended_at after p ≡ Some q → has_awaited_backup system (log ++ e ∷ []) p ≡ (not (is_full q.mode) || is_alone p after)
@@ -49,21 +50,25 @@ module _ (system : System) (log : List Entry) (e : Entry) (p : Pid) where
       ∙ (λ i. not (is_full (same i) && (was_moved system log p || stays i)) || awaited-on system log e p stays i)
       ∙ ap (λ b. not (is_full was.mode && b) || (awaited_in system log p || (names p (what e) || is_alone p after))) (or_no_more (was_moved system log p))
       ∙ three (not (is_full was.mode && was_moved system log p)) (awaited_in system log p) (names p (what e) || is_alone p after)
-      ∙ ap (λ b. b || (names p (what e) || is_alone p after)) (sym (awaited_is system log p ∙ ap (λ b. not (b && was_moved system log p) || awaited_in system log p) (full_is (placement system log) p was before)))
+      ∙ ap (λ b. b || (names p (what e) || is_alone p after)) (sym (awaited_is system log p
+          ∙ ap (λ b. not (b && was_moved system log p) || awaited_in system log p) (full_is (placement system log) p was before)))
     where
       three : (a b c : Bool) → (a || (b || c)) ≡ ((a || b) || c)
       three true b c = refl
       three false b c = refl
 
-pub wait_begins : (system : System) (log : List Entry) (e : Entry) (p : Pid) (q : Placed) → moves_next system log e p ≡ true → unended_at (placement system (log ++ e ∷ [])) p ≡ Some q → has_awaited_backup system (log ++ e ∷ []) p ≡ (not (is_full q.mode) || is_alone p (placement system (log ++ e ∷ [])))
+pub wait_begins : (system : System) (log : List Entry) (e : Entry) (p : Pid) (q : Placed) → moves_next system log e p ≡ true → unended_at (placement system (log ++ e ∷ [])) p ≡ Some q
+    → has_awaited_backup system (log ++ e ∷ []) p ≡ (not (is_full q.mode) || is_alone p (placement system (log ++ e ∷ [])))
 wait_begins system log e p q moved there = begins_here system log e p q moved there
 
-pub wait_goes_on : (system : System) (log : List Entry) (e : Entry) (p : Pid) (was q : Placed) → moves_next system log e p ≡ false → unended_at (placement system log) p ≡ Some was → unended_at (placement system (log ++ e ∷ [])) p ≡ Some q → q.mode ≡ was.mode → has_awaited_backup system log p ≡ false
+pub wait_goes_on : (system : System) (log : List Entry) (e : Entry) (p : Pid) (was q : Placed) → moves_next system log e p ≡ false → unended_at (placement system log) p ≡ Some was
+    → unended_at (placement system (log ++ e ∷ [])) p ≡ Some q → q.mode ≡ was.mode → has_awaited_backup system log p ≡ false
     → has_awaited_backup system (log ++ e ∷ []) p ≡ (names p (what e) || is_alone p (placement system (log ++ e ∷ [])))
 wait_goes_on system log e p was q stays before there same waits =
     stays_here system log e p was q stays before there same ∙ ap (λ b. b || (names p (what e) || is_alone p (placement system (log ++ e ∷ [])))) waits
 
-pub wait_ended : (system : System) (log : List Entry) (e : Entry) (p : Pid) (was q : Placed) → moves_next system log e p ≡ false → unended_at (placement system log) p ≡ Some was → unended_at (placement system (log ++ e ∷ [])) p ≡ Some q → q.mode ≡ was.mode → has_awaited_backup system log p ≡ true
+pub wait_ended : (system : System) (log : List Entry) (e : Entry) (p : Pid) (was q : Placed) → moves_next system log e p ≡ false → unended_at (placement system log) p ≡ Some was
+    → unended_at (placement system (log ++ e ∷ [])) p ≡ Some q → q.mode ≡ was.mode → has_awaited_backup system log p ≡ true
     → has_awaited_backup system (log ++ e ∷ []) p ≡ true
 wait_ended system log e p was q stays before there same has =
     stays_here system log e p was q stays before there same ∙ ap (λ b. b || (names p (what e) || is_alone p (placement system (log ++ e ∷ [])))) has

@@ -30,7 +30,8 @@ use Rattle.sync_laws.specs.Sending.{MaySend}
 use Rattle.backup_mode.specs.Posts.{fresh_post, renewed_record}
 use Rattle.backup_laws.specs.Posts.{MayRenew}
 
-module _ (system : System) (log : List Entry) (k to : ClusterNo) (p : Pid) (s : ProcState) (valid : is_system system ≡ true) (legal : IsLegalBy Stands system log) (may : MaySend system log (Cluster k) p s) where
+module _ (system : System) (log : List Entry) (k to : ClusterNo) (p : Pid) (s : ProcState) (valid : is_system system ≡ true) (legal : IsLegalBy Stands system log)
+    (may : MaySend system log (Cluster k) p s) where
   abbrev e : Entry
   e = entry_of system log (fresh_post k to p s)
 

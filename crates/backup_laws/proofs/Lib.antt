@@ -1,4 +1,3 @@
-pub mod Families
 pub mod Named
 pub mod RenewedRecords
 pub mod Since

@@ -72,7 +72,8 @@ mode_stays (Fetch r index) places p other there = refl
 mode_stays (PageIs r index bytes) places p other there = refl
 mode_stays (Crash k cause) places p other there = mode_map (after_loss k) (loss_keeps k) (loss_mode k) places (placed_after places (Crash k cause)) refl p
 mode_stays (Return k) places p other there = refl
-mode_stays (Rebackup to fresh recs) places p other there = mode_map (after_rebackup to fresh recs) (backup_keeps to fresh recs) (backup_mode to fresh recs) places (placed_after places (Rebackup to fresh recs)) refl p
+mode_stays (Rebackup to fresh recs) places p other there =
+    mode_map (after_rebackup to fresh recs) (backup_keeps to fresh recs) (backup_mode to fresh recs) places (placed_after places (Rebackup to fresh recs)) refl p
 mode_stays (Done rests) places p other there = refl
 mode_stays Stop places p other there = refl
 
@@ -85,7 +86,8 @@ none_named t p (r ∷ qs) none =
     λ i. (parts.0 i && t r) || none_named t p qs parts.1 i
 
 -- where no two have one pid, one with the pid passes exactly where the one that is found does
-one_passes_so : (t : Placed → Bool) (p : Pid) (qs : List Placed) (q : Placed) → NoTwo (placed_pids qs) → find (λ (q : Placed). same_pid q.pid p) qs ≡ Some q → list_any (λ (r : Placed). same_pid r.pid p && t r) qs ≡ t q
+one_passes_so : (t : Placed → Bool) (p : Pid) (qs : List Placed) (q : Placed) → NoTwo (placed_pids qs) → find (λ (q : Placed). same_pid q.pid p) qs ≡ Some q
+    → list_any (λ (r : Placed). same_pid r.pid p && t r) qs ≡ t q
 one_passes_so t p [] q two found = cc
 one_passes_so t p (r ∷ qs) q two found = by_pid (same_pid r.pid p) refl found (one_passes_so t p qs q two.1)
   where
@@ -93,7 +95,8 @@ one_passes_so t p (r ∷ qs) q two found = by_pid (same_pid r.pid p) refl found 
     or_none true = refl
     or_none false = refl
 
-    by_pid : (b : Bool) → same_pid r.pid p ≡ b → cond b (Some r) (find (λ (q : Placed). same_pid q.pid p) qs) ≡ Some q → (find (λ (q : Placed). same_pid q.pid p) qs ≡ Some q → list_any (λ (r : Placed). same_pid r.pid p && t r) qs ≡ t q)
+    by_pid : (b : Bool) → same_pid r.pid p ≡ b → cond b (Some r) (find (λ (q : Placed). same_pid q.pid p) qs) ≡ Some q
+        → (find (λ (q : Placed). same_pid q.pid p) qs ≡ Some q → list_any (λ (r : Placed). same_pid r.pid p && t r) qs ≡ t q)
         → ((b && t r) || list_any (λ (r : Placed). same_pid r.pid p && t r) qs) ≡ t q
     by_pid true is found more =
         let same : r ≡ q = cc in

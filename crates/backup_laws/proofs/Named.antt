@@ -23,8 +23,7 @@ use Rattle.cert_sched.specs.Legal.{IsLegalBy, Stands}
 use Rattle.cert_sched.specs.Simulation.{IsUnended}
 use Rattle.cert_sched.proofs.LogLaws.{IsLegal-before, IsLegal-last}
 use Rattle.cert_sched.proofs.CameLaws.{same_of}
-use Rattle.cert_sched.proofs.FamilyLaws.{Pair, Member, among, all_family, Families, families, or_left}
-use Rattle.backup_laws.proofs.Families.{fresh_named, standing_named, one_record}
+use Rattle.cert_sched.proofs.FamilyLaws.{Pair, Member, among, all_family, Families, families, or_left, fresh_named, standing_named, one_record}
 use Rattle.backup_records.specs.Records.{record_after}
 use Rattle.record_laws.specs.Kept.{is_renewed}
 use Rattle.record_laws.proofs.OneRecord.{record_follows}
@@ -77,7 +76,8 @@ module _ (system : System) (log : List Entry) (all : Families system log) where
           record { at = t.child; found = t.child_at; none = sym t.backup ∙ ap (λ (q : Placed). q.backup) same ∙ parent.none }
 
   -- each process that a new backup names has not ended, and has no backup
-  pub named_unbacked : (e : Entry) (to : ClusterNo) (fresh : Bool) (recs : List BackRec) → KindHolds system log e (Rebackup to fresh recs) → (p : Pid) → list_any (λ (r : BackRec). same_pid r.pid p) recs ≡ true → Unbacked (placement system log) p
+  pub named_unbacked : (e : Entry) (to : ClusterNo) (fresh : Bool) (recs : List BackRec) → KindHolds system log e (Rebackup to fresh recs) → (p : Pid)
+      → list_any (λ (r : BackRec). same_pid r.pid p) recs ≡ true → Unbacked (placement system log) p
   named_unbacked e to true [] kind p named = absurd kind
   named_unbacked e to false [] kind p named = absurd kind
   named_unbacked e to true (r ∷ rs) kind p named =
@@ -89,7 +89,8 @@ module _ (system : System) (log : List Entry) (all : Families system log) where
       family_unbacked r.pid to kind.backup p (sym (standing_named system log r.pid to (r ∷ rs) kind (record (own.at) { pid = p })) ∙ named)
 
 -- in a log in which each entry stands
-pub named_in_log : (system : System) (log : List Entry) (e : Entry) (to : ClusterNo) (fresh : Bool) (more : List BackRec) (p : Pid) → is_system system ≡ true → IsLegalBy Stands system (log ++ e ∷ []) → what e ≡ Rebackup to fresh more
+pub named_in_log : (system : System) (log : List Entry) (e : Entry) (to : ClusterNo) (fresh : Bool) (more : List BackRec) (p : Pid) → is_system system ≡ true → IsLegalBy Stands system (log ++ e ∷ [])
+    → what e ≡ Rebackup to fresh more
     → list_any (λ (r : BackRec). same_pid r.pid p) more ≡ true → Unbacked (placement system log) p
 named_in_log system log e to fresh more p valid legal is named =
     named_unbacked system log (families Stands itself system log valid (IsLegal-before Stands system log e legal)) e to fresh more
@@ -126,7 +127,8 @@ module _ (system : System) (log : List Entry) (e : Entry) (valid : is_system sys
   kept_same to fresh recs (Some r) = refl
 
   -- a new backup that does not cut the process leaves its record
-  pub record_stays : (to : ClusterNo) (fresh : Bool) (recs : List BackRec) (p : Pid) → what e ≡ Rebackup to fresh recs → is_renewed p (Rebackup to fresh recs) ≡ false → IsUnended system log p → backup_record system (log ++ e ∷ []) p ≡ backup_record system log p
+  pub record_stays : (to : ClusterNo) (fresh : Bool) (recs : List BackRec) (p : Pid) → what e ≡ Rebackup to fresh recs → is_renewed p (Rebackup to fresh recs) ≡ false → IsUnended system log p
+      → backup_record system (log ++ e ∷ []) p ≡ backup_record system log p
   record_stays to fresh recs p is none unended =
       record_follows Stands itself system log e p valid legal (ap (is_renewed p) is ∙ none) unended
       ∙ ap (λ w. option_map (record_after w) (backup_record system log p)) is

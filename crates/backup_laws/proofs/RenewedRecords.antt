@@ -31,7 +31,8 @@ either_way true x = refl
 either_way false x = refl
 
 -- of a process of which there is a record among those that come it is that record, and of any other what was there
-put_each : (f : Pid → Option BackRec) (more recs : List BackRec) (p : Pid) → AllAre f more → record_in (with_records more recs) p ≡ cond (list_any (λ (r : BackRec). same_pid r.pid p) more) (f p) (record_in recs p)
+put_each : (f : Pid → Option BackRec) (more recs : List BackRec) (p : Pid) → AllAre f more
+    → record_in (with_records more recs) p ≡ cond (list_any (λ (r : BackRec). same_pid r.pid p) more) (f p) (record_in recs p)
 put_each f [] recs p all = refl
 put_each f (r ∷ rs) recs p all = put_each f rs (with_record r recs) p all.1 ∙ by_pid (same_pid r.pid p) refl
   where
@@ -61,7 +62,8 @@ unnamed_unrenewed to fresh (r ∷ rs) p none = ap (λ b. fresh && b) (by_first (
 
 -- ---- the records
 
-module _ (system : System) (log : List Entry) (e : Entry) (k to : ClusterNo) (fresh : Bool) (more recs : List BackRec) (valid : is_system system ≡ true) (legal : IsLegalBy Stands system (log ++ e ∷ [])) (is : what e ≡ Rebackup to fresh more) (keeps : KeepsRecords system log k recs) where
+module _ (system : System) (log : List Entry) (e : Entry) (k to : ClusterNo) (fresh : Bool) (more recs : List BackRec) (valid : is_system system ≡ true)
+    (legal : IsLegalBy Stands system (log ++ e ∷ [])) (is : what e ≡ Rebackup to fresh more) (keeps : KeepsRecords system log k recs) where
   abbrev now : Pid → Option BackRec
   now p = backup_record system (log ++ e ∷ []) p
 
@@ -87,7 +89,8 @@ module _ (system : System) (log : List Entry) (e : Entry) (k to : ClusterNo) (fr
   unnamed_found : (p : Pid) → named p ≡ false → record_in (records_renewed to k more recs) p ≡ record_in recs p
   unnamed_found p none = found p ∙ ap (λ b. cond (same_cluster to k && b) (now p) (record_in recs p)) none ∙ ap (λ b. cond b (now p) (record_in recs p)) (and_none (same_cluster to k))
 
-  by_named : (p : Pid) (q : Placed) → unended_at (placement system log) p ≡ Some q → (b : Bool) → named p ≡ b → record_in (records_renewed to k more recs) p ≡ cond (has_backup_in system (log ++ e ∷ []) k p) (now p) None
+  by_named : (p : Pid) (q : Placed) → unended_at (placement system log) p ≡ Some q → (b : Bool) → named p ≡ b
+      → record_in (records_renewed to k more recs) p ≡ cond (has_backup_in system (log ++ e ∷ []) k p) (now p) None
   by_named p q there true is_named_so =
       let u = named_in_log system log e to fresh more p valid legal is is_named_so in
       let same : u.at ≡ q = ap (λ (o : Option Placed). unwrap_or o q) (sym u.found ∙ there) in
@@ -119,6 +122,7 @@ module _ (system : System) (log : List Entry) (e : Entry) (k to : ClusterNo) (fr
       not_named false h = refl
 
 -- where the records of a cluster are those of the log, those that a new backup leaves and brings are those of the log with it
-pub renewed_kept : (system : System) (log : List Entry) (e : Entry) (k to : ClusterNo) (fresh : Bool) (more recs : List BackRec) → is_system system ≡ true → IsLegalBy Stands system (log ++ e ∷ []) → what e ≡ Rebackup to fresh more → KeepsRecords system log k recs
+pub renewed_kept : (system : System) (log : List Entry) (e : Entry) (k to : ClusterNo) (fresh : Bool) (more recs : List BackRec) → is_system system ≡ true → IsLegalBy Stands system (log ++ e ∷ [])
+    → what e ≡ Rebackup to fresh more → KeepsRecords system log k recs
     → KeepsRecords system (log ++ e ∷ []) k (records_renewed to k more recs)
 renewed_kept system log e k to fresh more recs valid legal is keeps p = by_placed system log e k to fresh more recs valid legal is keeps p (unended_at (placement system log) p) refl

@@ -44,8 +44,10 @@ other_lives : (places : Places) (home : ClusterNo) (ks : List ClusterNo) (to : C
 other_lives places home [] to is = absurd (true≢false (sym (ap is_some is)))
 other_lives places home (k ∷ ks) to is = by_test (lives_in places k && not (same_cluster k home)) refl is (other_lives places home ks to)
   where
-    by_test : (b : Bool) → (lives_in places k && not (same_cluster k home)) ≡ b → cond b (Some k) (find (λ k. lives_in places k && not (same_cluster k home)) ks) ≡ Some to → (find (λ k. lives_in places k && not (same_cluster k home)) ks ≡ Some to → lives_in places to ≡ true) → lives_in places to ≡ true
-    by_test true passes e more = let same : k ≡ to = ap (λ (o : Option ClusterNo). unwrap_or o k) e in ap (lives_in places) (sym same) ∙ (and_parts (lives_in places k) (not (same_cluster k home)) passes).0
+    by_test : (b : Bool) → (lives_in places k && not (same_cluster k home)) ≡ b → cond b (Some k) (find (λ k. lives_in places k && not (same_cluster k home)) ks) ≡ Some to
+        → (find (λ k. lives_in places k && not (same_cluster k home)) ks ≡ Some to → lives_in places to ≡ true) → lives_in places to ≡ true
+    by_test true passes e more = let same : k ≡ to =
+        ap (λ (o : Option ClusterNo). unwrap_or o k) e in ap (lives_in places) (sym same) ∙ (and_parts (lives_in places k) (not (same_cluster k home)) passes).0
     by_test false passes e more = more e
 
 mode_lives : (places : Places) (q : Placed) (mode : Mode) (to : ClusterNo) → backup_by_mode places q mode ≡ Some to → lives_in places to ≡ true
@@ -144,7 +146,8 @@ module _ (system : System) (log : List Entry) (e : Entry) (stands : Stands syste
       by_pid : (b : Bool) → same_pid child p ≡ b → BackedAt after q
       by_pid true same =
           let pid : child ≡ p = λ i. record { 0 = eqb-true child.0 p.0 same i } in
-          let to : child_of born.at child ≡ q = ap (λ (o : Option Placed). unwrap_or o q) (sym (found_child system log e stands all.families parent at child end is born) ∙ ap (unended_at after) pid ∙ found) in
+          let to : child_of born.at child ≡ q =
+              ap (λ (o : Option Placed). unwrap_or o q) (sym (found_child system log e stands all.families parent at child end is born) ∙ ap (unended_at after) pid ∙ found) in
           longer here after lives born.at q (ap (λ (x : Placed). x.backup) (sym to)) (all.backed parent born.at born.found)
       by_pid false other = longer here after lives q q refl (all.backed p q (sym (found_born system log e stands all.families parent at child end is born p other) ∙ found))
 
@@ -170,7 +173,8 @@ module _ (system : System) (log : List Entry) (e : Entry) (stands : Stands syste
   backed_by (Page q at index bytes) is kind right = after_is (Page q at index bytes) is all.backed
   backed_by (Sync r small read took) is kind right =
       after_is (Sync r small read took) is
-      (by_map here (placed_after here (Sync r small read took)) (after_sync r) (sync_keeps r) refl (λ p q found. longer here here (λ b lives. lives) q (after_sync r q) (sync_home r q).1 (all.backed p q found)))
+      (by_map here (placed_after here (Sync r small read took)) (after_sync r) (sync_keeps r) refl
+          (λ p q found. longer here here (λ b lives. lives) q (after_sync r q) (sync_home r q).1 (all.backed p q found)))
   backed_by (Fetch q index) is kind right = after_is (Fetch q index) is all.backed
   backed_by (PageIs q index bytes) is kind right = after_is (PageIs q index bytes) is all.backed
   backed_by (Crash k cause) is kind right =
@@ -179,7 +183,8 @@ module _ (system : System) (log : List Entry) (e : Entry) (stands : Stands syste
       (λ p q found b left. let was = left_backup k q b (unended_open_at here p q found) left in lives_on here k b cause was.1 (all.backed p q found b was.0)))
   backed_by (Return k) is kind right =
       after_is (Return k) is
-      (λ p q found. longer here (placed_after here (Return k)) (λ b lives. kept_at (λ (c : ClusterPlace). c.lives) returned_cluster (λ c h. refl) here.clusters k.0 b.0 lives) q q refl (all.backed p q found))
+      (λ p q found. longer here (placed_after here (Return k)) (λ b lives. kept_at (λ (c : ClusterPlace). c.lives) returned_cluster (λ c h. refl) here.clusters k.0 b.0 lives) q q refl
+          (all.backed p q found))
   backed_by (Rebackup to fresh recs) is kind right =
       after_is (Rebackup to fresh recs) is
       (by_map here (placed_after here (Rebackup to fresh recs)) (after_rebackup to fresh recs) (backup_keeps to fresh recs) refl
@@ -199,7 +204,8 @@ roots_below s few earlier (r ∷ roots) fit p q b found backup =
     here : (r.backup).0 < s.clusters
     here = (root_fits s r few (first_of_two _ (list_all (is_root s.clusters (length s.images)) roots) fit)).backup
 
-    by_pid : (t : Bool) → cond (t && true) (Some (placed_root (pid_of (r.home).0 (1 + count_by (λ (q : Root). eqb (q.home).0 (r.home).0) earlier), r))) (find (λ (q : Placed). same_pid q.pid p && not q.ended) (map placed_root (with_pids (earlier ++ r ∷ []) roots))) ≡ Some q
+    by_pid : (t : Bool) → cond (t && true) (Some (placed_root (pid_of (r.home).0 (1 + count_by (λ (q : Root). eqb (q.home).0 (r.home).0) earlier), r)))
+        (find (λ (q : Placed). same_pid q.pid p && not q.ended) (map placed_root (with_pids (earlier ++ r ∷ []) roots))) ≡ Some q
         → (find (λ (q : Placed). same_pid q.pid p && not q.ended) (map placed_root (with_pids (earlier ++ r ∷ []) roots)) ≡ Some q → b.0 < s.clusters) → b.0 < s.clusters
     by_pid true e more =
         let to : placed_root (pid_of (r.home).0 (1 + count_by (λ (q : Root). eqb (q.home).0 (r.home).0) earlier), r) ≡ q = ap (λ (o : Option Placed). unwrap_or o q) e in
@@ -223,7 +229,8 @@ all_in system log valid legal =
     (λ log e all stands. record { families = families_more system log e stands all.families; backed = backed_by system log e stands all (what e) refl stands.kind stands.by_right }) log legal
 
 -- in any legal log the backup of a process that has not ended lives
-pub backups_live : (system : System) (log : List Entry) (p : Pid) (q : Placed) (b : ClusterNo) → is_system system ≡ true → IsLegalBy Stands system log → unended_at (placement system log) p ≡ Some q → q.backup ≡ Some b → lives_in (placement system log) b ≡ true
+pub backups_live : (system : System) (log : List Entry) (p : Pid) (q : Placed) (b : ClusterNo) → is_system system ≡ true → IsLegalBy Stands system log → unended_at (placement system log) p ≡ Some q
+    → q.backup ≡ Some b → lives_in (placement system log) b ≡ true
 unfolding AllBacked BackedAt
 backups_live system log p q b valid legal found is = (all_in system log valid legal).backed p q found b is
 

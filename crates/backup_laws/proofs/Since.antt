@@ -54,7 +54,8 @@ module _ (system : System) (log : List Entry) (e : Entry) (p : Pid) where
   pub was_moved-snoc : was_moved system (log ++ e ∷ []) p ≡ (was_moved system log p || moves_next system log e p)
   was_moved-snoc = ap (list_any (moves p)) (told-snoc system log e) ∙ list_any-last (moves p) (told system log) (next_told system log e)
 
-  alone-snoc : list_any (is_alone p) (places_since_moved system (log ++ e ∷ []) p) ≡ cond (moves_next system log e p) (is_alone p after) (list_any (is_alone p) (places_since_moved system log p) || is_alone p after)
+  alone-snoc : list_any (is_alone p) (places_since_moved system (log ++ e ∷ []) p) ≡ cond (moves_next system log e p) (is_alone p after)
+      (list_any (is_alone p) (places_since_moved system log p) || is_alone p after)
   alone-snoc =
       ap (λ ts. list_any (is_alone p) (map (λ (t : Told). t.places) (after_last (moves p) ts) ++ after ∷ [])) (told-snoc system log e)
       ∙ ap (λ ts. list_any (is_alone p) (map (λ (t : Told). t.places) ts ++ after ∷ [])) (after_last-snoc (moves p) (told system log) (next_told system log e))
@@ -63,7 +64,9 @@ module _ (system : System) (log : List Entry) (e : Entry) (p : Pid) where
       since : List Told
       since = after_last (moves p) (told system log)
 
-      by_test : (b : Bool) → list_any (is_alone p) (map (λ (t : Told). t.places) (cond b [] (since ++ next_told system log e ∷ [])) ++ after ∷ []) ≡ cond b (is_alone p after) (list_any (is_alone p) (map (λ (t : Told). t.places) since ++ placement system log ∷ []) || is_alone p after)
+      by_test : (b : Bool)
+          → list_any (is_alone p) (map (λ (t : Told). t.places) (cond b [] (since ++ next_told system log e ∷ [])) ++ after ∷ []) ≡ cond b (is_alone p after)
+              (list_any (is_alone p) (map (λ (t : Told). t.places) since ++ placement system log ∷ []) || is_alone p after)
       by_test true = or_nothing (is_alone p after)
       by_test false =
           list_any-last (is_alone p) (map (λ (t : Told). t.places) (since ++ next_told system log e ∷ [])) after

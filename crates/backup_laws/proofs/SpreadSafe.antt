@@ -53,7 +53,8 @@ or_right false b h = h
 -- ---- clusters that change
 
 -- what every change of a cluster keeps, one of them keeps
-pub kept_at : (g : ClusterPlace → Bool) (f : ClusterPlace → ClusterPlace) → ((c : ClusterPlace) → g c ≡ true → g (f c) ≡ true) → (clusters : List ClusterPlace) (k h : ℕ) → option_map_or g (slice_get clusters h) false ≡ true
+pub kept_at : (g : ClusterPlace → Bool) (f : ClusterPlace → ClusterPlace) → ((c : ClusterPlace) → g c ≡ true → g (f c) ≡ true) → (clusters : List ClusterPlace) (k h : ℕ)
+    → option_map_or g (slice_get clusters h) false ≡ true
     → option_map_or g (slice_get (changed_at k f (slice_get clusters k) clusters) h) false ≡ true
 kept_at g f keeps clusters k h has = by_cluster (slice_get clusters k) refl
   where
@@ -69,7 +70,8 @@ kept_at g f keeps clusters k h has = by_cluster (slice_get clusters k) refl
     by_cluster (Some c) there = by_number c there (eqb h k) refl
 
 -- the loss of another leaves one as it was
-kept_apart : (g : ClusterPlace → Bool) (f : ClusterPlace → ClusterPlace) (clusters : List ClusterPlace) (k h : ℕ) → eqb h k ≡ false → option_map_or g (slice_get clusters h) false ≡ true → option_map_or g (slice_get (changed_at k f (slice_get clusters k) clusters) h) false ≡ true
+kept_apart : (g : ClusterPlace → Bool) (f : ClusterPlace → ClusterPlace) (clusters : List ClusterPlace) (k h : ℕ) → eqb h k ≡ false → option_map_or g (slice_get clusters h) false ≡ true
+    → option_map_or g (slice_get (changed_at k f (slice_get clusters k) clusters) h) false ≡ true
 kept_apart g f clusters k h apart has = by_cluster (slice_get clusters k)
   where
     by_cluster : (o : Option ClusterPlace) → option_map_or g (slice_get (changed_at k f o clusters) h) false ≡ true
@@ -77,7 +79,8 @@ kept_apart g f clusters k h apart has = by_cluster (slice_get clusters k)
     by_cluster (Some c) = ap (λ o. option_map_or g o false) (kept_elsewhere clusters k h (f c) (λ e. true≢false (sym (eq-eqb h k e) ∙ apart))) ∙ has
 
 -- each cluster at boot
-boot_at : (g : ClusterPlace → Bool) (system : System) (placed : List Placed) (h : ℕ) → ((n : ℕ) → g (boot_cluster placed n) ≡ true) → h < system.clusters → option_map_or g (slice_get (map (boot_cluster placed) (range_with_len 0 system.clusters)) h) false ≡ true
+boot_at : (g : ClusterPlace → Bool) (system : System) (placed : List Placed) (h : ℕ) → ((n : ℕ) → g (boot_cluster placed n) ≡ true) → h < system.clusters
+    → option_map_or g (slice_get (map (boot_cluster placed) (range_with_len 0 system.clusters)) h) false ≡ true
 boot_at g system placed h all within =
     let long = length-map-range_with_len (boot_cluster placed) 0 system.clusters in
     ap (λ o. option_map_or g o false)
@@ -118,7 +121,8 @@ module _ (lost : ClusterNo → Bool) where
   safe_backup places q b is safe lives = inr (b, is, safe, lives)
 
   -- the same in places in which each cluster that lived lives
-  longer : (places after : Places) → ((b : ClusterNo) → lost b ≡ false → lives_in places b ≡ true → lives_in after b ≡ true) → (q r : Placed) → r.home ≡ q.home → r.backup ≡ q.backup → SafeAt places q → SafeAt after r
+  longer : (places after : Places) → ((b : ClusterNo) → lost b ≡ false → lives_in places b ≡ true → lives_in after b ≡ true) → (q r : Placed) → r.home ≡ q.home → r.backup ≡ q.backup → SafeAt places q
+      → SafeAt after r
   unfolding SafeAt
   longer places after lives q r home backup (inl safe) = inl (ap lost home ∙ safe)
   longer places after lives q r home backup (inr b) = inr (b.0, backup ∙ b.1, b.2, lives b.0 b.2 b.3)
@@ -133,7 +137,8 @@ module _ (lost : ClusterNo → Bool) where
 
   -- ---- a loss by a word
 
-  loss_is : (k : ClusterNo) (q : Placed) (h b : Bool) → q.ended ≡ false → same_cluster q.home k ≡ h → is_cluster q.backup k ≡ b → after_loss k q ≡ cond h (moved_to q k q.backup) (cond b (record q { backup = None; lost = Some k }) q)
+  loss_is : (k : ClusterNo) (q : Placed) (h b : Bool) → q.ended ≡ false → same_cluster q.home k ≡ h → is_cluster q.backup k ≡ b
+      → after_loss k q ≡ cond h (moved_to q k q.backup) (cond b (record q { backup = None; lost = Some k }) q)
   loss_is k q h b ended home backup = λ i. cond (ended i) q (cond (home i) (moved_to q k q.backup) (cond (backup i) (record q { backup = None; lost = Some k }) q))
 
   loss_safe : (places : Places) (k : ClusterNo) (cause : Cause) (q : Placed) → lost k ≡ true → q.ended ≡ false → SafeAt places q → SafeAt (placed_after places (Crash k cause)) (after_loss k q)
@@ -148,17 +153,20 @@ module _ (lost : ClusterNo → Bool) where
       other : is_cluster q.backup k ≡ false
       other = ap (λ o. is_cluster o k) b.1 ∙ apart_from b.0 k b.2 by_word
 
-      by_home : (h : Bool) → same_cluster q.home k ≡ h → (lost (after_loss k q).home ≡ false) ⊎ ((c : ClusterNo) × ((after_loss k q).backup ≡ Some c) × (lost c ≡ false) × (lives_in (placed_after places (Crash k cause)) c ≡ true))
+      by_home : (h : Bool) → same_cluster q.home k ≡ h
+          → (lost (after_loss k q).home ≡ false) ⊎ ((c : ClusterNo) × ((after_loss k q).backup ≡ Some c) × (lost c ≡ false) × (lives_in (placed_after places (Crash k cause)) c ≡ true))
       by_home true home = inl (ap (λ (x : Placed). lost x.home) (loss_is k q true false ended home other) ∙ ap (λ o. lost (moved_to q k o).home) b.1 ∙ b.2)
       by_home false home =
           inr (b.0, ap (λ (x : Placed). x.backup) (loss_is k q false false ended home other) ∙ b.1, b.2, lives_on places k b.0 cause (apart_from b.0 k b.2 by_word) b.3)
 
   -- ---- a new backup
 
-  renewed_is : (to : ClusterNo) (fresh : Bool) (recs : List BackRec) (q : Placed) (b : Bool) → is_named recs q ≡ b → after_rebackup to fresh recs q ≡ cond b (record q { backup = Some to; synced = q.synced || fresh }) q
+  renewed_is : (to : ClusterNo) (fresh : Bool) (recs : List BackRec) (q : Placed) (b : Bool) → is_named recs q ≡ b
+      → after_rebackup to fresh recs q ≡ cond b (record q { backup = Some to; synced = q.synced || fresh }) q
   renewed_is to fresh recs q b is = ap (λ b. cond b (record q { backup = Some to; synced = q.synced || fresh }) q) is
 
-  renewed_safe : (places : Places) (to : ClusterNo) (fresh : Bool) (recs : List BackRec) (q : Placed) → (is_named recs q ≡ true → q.backup ≡ None) → SafeAt places q → SafeAt places (after_rebackup to fresh recs q)
+  renewed_safe : (places : Places) (to : ClusterNo) (fresh : Bool) (recs : List BackRec) (q : Placed) → (is_named recs q ≡ true → q.backup ≡ None) → SafeAt places q
+      → SafeAt places (after_rebackup to fresh recs q)
   unfolding SafeAt
   renewed_safe places to fresh recs q none safe = by_name (is_named recs q) refl safe
     where
@@ -248,7 +256,8 @@ module _ (lost : ClusterNo → Bool) where
         by_pid : (b : Bool) → same_pid child p ≡ b → SafeAt after q
         by_pid true same =
             let pid : child ≡ p = λ i. record { 0 = eqb-true child.0 p.0 same i } in
-            let to : child_of born.at child ≡ q = ap (λ (o : Option Placed). unwrap_or o q) (sym (found_child system log e stands all.families parent at child end is born) ∙ ap (unended_at after) pid ∙ found) in
+            let to : child_of born.at child ≡ q =
+                ap (λ (o : Option Placed). unwrap_or o q) (sym (found_child system log e stands all.families parent at child end is born) ∙ ap (unended_at after) pid ∙ found) in
             longer here after lives born.at q (ap (λ (x : Placed). x.home) (sym to)) (ap (λ (x : Placed). x.backup) (sym to)) (all.safe parent born.at born.found)
         by_pid false other = longer here after lives q q refl refl (all.safe p q (sym (found_born system log e stands all.families parent at child end is born p other) ∙ found))
 
@@ -260,7 +269,8 @@ module _ (lost : ClusterNo → Bool) where
     safe_by (Page q at index bytes) is kind right word = after_is (Page q at index bytes) is all.safe
     safe_by (Sync r small read took) is kind right word =
         after_is (Sync r small read took) is
-        (by_map here (placed_after here (Sync r small read took)) (after_sync r) (sync_keeps r) refl (λ p q found. longer here here (λ b safe lives. lives) q (after_sync r q) (sync_home r q).0 (sync_home r q).1 (all.safe p q found)))
+        (by_map here (placed_after here (Sync r small read took)) (after_sync r) (sync_keeps r) refl
+            (λ p q found. longer here here (λ b safe lives. lives) q (after_sync r q) (sync_home r q).0 (sync_home r q).1 (all.safe p q found)))
     safe_by (Fetch q index) is kind right word = after_is (Fetch q index) is all.safe
     safe_by (PageIs q index bytes) is kind right word = after_is (PageIs q index bytes) is all.safe
     safe_by (Crash k cause) is kind right word =
@@ -268,7 +278,8 @@ module _ (lost : ClusterNo → Bool) where
         (by_map here (placed_after here (Crash k cause)) (after_loss k) (loss_keeps k) refl (λ p q found. loss_safe here k cause q word (unended_open_at here p q found) (all.safe p q found)))
     safe_by (Return k) is kind right word =
         after_is (Return k) is
-        (λ p q found. longer here (placed_after here (Return k)) (λ b safe lives. kept_at (λ (c : ClusterPlace). c.lives) returned_cluster (λ c h. refl) here.clusters k.0 b.0 lives) q q refl refl (all.safe p q found))
+        (λ p q found. longer here (placed_after here (Return k)) (λ b safe lives. kept_at (λ (c : ClusterPlace). c.lives) returned_cluster (λ c h. refl) here.clusters k.0 b.0 lives) q q refl refl
+            (all.safe p q found))
     safe_by (Rebackup to fresh recs) is kind right word =
         after_is (Rebackup to fresh recs) is
         (by_map here (placed_after here (Rebackup to fresh recs)) (after_rebackup to fresh recs) (backup_keeps to fresh recs) refl
@@ -300,7 +311,8 @@ module _ (lost : ClusterNo → Bool) where
       by_test false h = refl
       by_test true h = absurd (true≢false (sym h))
 
-  roots_safe : (s : System) → s.clusters ≤ 16 → (places : Places) → ((b : ClusterNo) → b.0 < s.clusters → lives_in places b ≡ true) → (earlier roots : List Root) → list_all (is_root s.clusters (length s.images)) roots ≡ true → list_all (λ (r : Root). not (lost r.home && lost r.backup)) roots ≡ true
+  roots_safe : (s : System) → s.clusters ≤ 16 → (places : Places) → ((b : ClusterNo) → b.0 < s.clusters → lives_in places b ≡ true) → (earlier roots : List Root)
+      → list_all (is_root s.clusters (length s.images)) roots ≡ true → list_all (λ (r : Root). not (lost r.home && lost r.backup)) roots ≡ true
       → (p : Pid) (q : Placed) → find (λ (q : Placed). same_pid q.pid p && not q.ended) (map placed_root (with_pids earlier roots)) ≡ Some q → SafeAt places q
   roots_safe s few places lives earlier [] fit spread p q found = cc
   roots_safe s few places lives earlier (r ∷ roots) fit spread p q found =
@@ -317,21 +329,24 @@ module _ (lost : ClusterNo → Bool) where
       own pid false is = safe_home places (placed_root (pid, r)) is
       own pid true is = safe_backup places (placed_root (pid, r)) r.backup refl (not_both (lost r.home) (lost r.backup) apart is) (lives r.backup below)
 
-      by_pid : (b : Bool) → cond (b && true) (Some (placed_root (pid_of (r.home).0 (1 + count_by (λ (q : Root). eqb (q.home).0 (r.home).0) earlier), r))) (find (λ (q : Placed). same_pid q.pid p && not q.ended) (map placed_root (with_pids (earlier ++ r ∷ []) roots))) ≡ Some q
+      by_pid : (b : Bool) → cond (b && true) (Some (placed_root (pid_of (r.home).0 (1 + count_by (λ (q : Root). eqb (q.home).0 (r.home).0) earlier), r)))
+          (find (λ (q : Placed). same_pid q.pid p && not q.ended) (map placed_root (with_pids (earlier ++ r ∷ []) roots))) ≡ Some q
           → (find (λ (q : Placed). same_pid q.pid p && not q.ended) (map placed_root (with_pids (earlier ++ r ∷ []) roots)) ≡ Some q → SafeAt places q) → SafeAt places q
       by_pid true e more =
           let to : placed_root (pid_of (r.home).0 (1 + count_by (λ (q : Root). eqb (q.home).0 (r.home).0) earlier), r) ≡ q = ap (λ (o : Option Placed). unwrap_or o q) e in
           subst (SafeAt places) to (own (pid_of (r.home).0 (1 + count_by (λ (q : Root). eqb (q.home).0 (r.home).0) earlier)) (lost r.home) refl)
       by_pid false e more = more e
 
-  all_at_boot : (system : System) → is_system system ≡ true → not (lost (system.pager).0 && lost (system.pager).1) ≡ true → list_all (λ (r : Root). not (lost r.home && lost r.backup)) system.roots ≡ true → AllIn system []
+  all_at_boot : (system : System) → is_system system ≡ true → not (lost (system.pager).0 && lost (system.pager).1) ≡ true
+      → list_all (λ (r : Root). not (lost r.home && lost r.backup)) system.roots ≡ true → AllIn system []
   unfolding placement AllSafe NeverLost
   all_at_boot system valid servers spread =
       let bounds = system_bounds system valid in
       record {
         families = families_at_boot system valid;
         safe =
-            roots_safe system bounds.clusters (places_at_boot system) (λ b within. boot_at (λ (c : ClusterPlace). c.lives) system (map placed_root (roots_of system)) b.0 (λ n. refl) within) [] system.roots
+            roots_safe system bounds.clusters (places_at_boot system) (λ b within. boot_at (λ (c : ClusterPlace). c.lives) system (map placed_root (roots_of system)) b.0 (λ n. refl) within) []
+                system.roots
             (root_tests system.clusters (length system.images) system.roots (tests system valid).roots).each spread;
         pager = refl;
         first = λ safe. boot_at (λ (c : ClusterPlace). not c.was_lost) system (map placed_root (roots_of system)) ((system.pager).0).0 (λ n. refl) bounds.first;
@@ -341,14 +356,16 @@ module _ (lost : ClusterNo → Bool) where
   -- ---- covered
 
   -- what holds of each that is found among those that have not ended, and of each that has ended, holds of each
-  each_of : (t : Placed → Bool) → ((q : Placed) → q.ended ≡ true → t q ≡ true) → (qs : List Placed) → NoTwo (placed_pids qs) → ((p : Pid) (q : Placed) → find (λ (q : Placed). same_pid q.pid p && not q.ended) qs ≡ Some q → t q ≡ true) → list_all t qs ≡ true
+  each_of : (t : Placed → Bool) → ((q : Placed) → q.ended ≡ true → t q ≡ true) → (qs : List Placed) → NoTwo (placed_pids qs)
+      → ((p : Pid) (q : Placed) → find (λ (q : Placed). same_pid q.pid p && not q.ended) qs ≡ Some q → t q ≡ true) → list_all t qs ≡ true
   each_of t gone [] two found = refl
   each_of t gone (q ∷ qs) two found = and_from (t q) (list_all t qs) (here q.ended refl) (each_of t gone qs two.1 later)
     where
       here : (b : Bool) → q.ended ≡ b → t q ≡ true
       here true is = gone q is
       here false is =
-          found q.pid q (ap (λ b. cond b (Some q) (find (λ (r : Placed). same_pid r.pid q.pid && not r.ended) qs)) (and_from (same_pid q.pid q.pid) (not q.ended) (eq-eqb (q.pid).0 (q.pid).0 refl) (ap not is)))
+          found q.pid q (ap (λ b. cond b (Some q) (find (λ (r : Placed). same_pid r.pid q.pid && not r.ended) qs))
+              (and_from (same_pid q.pid q.pid) (not q.ended) (eq-eqb (q.pid).0 (q.pid).0 refl) (ap not is)))
 
       later : (p : Pid) (r : Placed) → find (λ (q : Placed). same_pid q.pid p && not q.ended) qs ≡ Some r → t r ≡ true
       later p r there = found p r (by_test (same_pid q.pid p && not q.ended) refl)
@@ -369,9 +386,12 @@ module _ (lost : ClusterNo → Bool) where
 
   gone_backed : (places : Places) (k : ClusterNo) (q : Placed) → q.ended ≡ true → backed places k q ≡ true
   unfolding backed
-  gone_backed places k q ended = ap (λ b. not (same_cluster q.home k && not b) || option_map_or (lives_in places) q.backup false) ended ∙ ap (λ b. not b || option_map_or (lives_in places) q.backup false) (and_none (same_cluster q.home k))
+  gone_backed places k q ended =
+      ap (λ b. not (same_cluster q.home k && not b) || option_map_or (lives_in places) q.backup false) ended
+      ∙ ap (λ b. not b || option_map_or (lives_in places) q.backup false) (and_none (same_cluster q.home k))
 
-  covered : (system : System) (log : List Entry) (k : ClusterNo) → AllIn system log → not (lost (system.pager).0 && lost (system.pager).1) ≡ true → lost k ≡ true → is_covered (placement system log) k ≡ true
+  covered : (system : System) (log : List Entry) (k : ClusterNo) → AllIn system log → not (lost (system.pager).0 && lost (system.pager).1) ≡ true → lost k ≡ true
+      → is_covered (placement system log) k ≡ true
   unfolding AllSafe NeverLost backed
   covered system log k all servers by_word =
       and_from (list_all (λ (q : Placed). not (is_at_home k q) || option_map_or (lives_in places) q.backup false) places.placed) (list_any (λ s. not (same_cluster s k)) (servers_in places))
@@ -397,20 +417,23 @@ module _ (lost : ClusterNo → Bool) where
           ap (λ x. list_any (λ s. not (same_cluster s k)) (cond x (b ∷ []) [])) (all.second safe) ∙ ap (λ x. not x || false) (apart_from b k safe by_word) in
           by_never (never_lost places a) last
         where
-          by_never : (x : Bool) → list_any (λ s. not (same_cluster s k)) (filter (never_lost places) (b ∷ [])) ≡ true → list_any (λ s. not (same_cluster s k)) (cond x (a ∷ filter (never_lost places) (b ∷ [])) (filter (never_lost places) (b ∷ []))) ≡ true
+          by_never : (x : Bool) → list_any (λ s. not (same_cluster s k)) (filter (never_lost places) (b ∷ [])) ≡ true
+              → list_any (λ s. not (same_cluster s k)) (cond x (a ∷ filter (never_lost places) (b ∷ [])) (filter (never_lost places) (b ∷ []))) ≡ true
           by_never true last = or_right (not (same_cluster a k)) (list_any (λ s. not (same_cluster s k)) (filter (never_lost places) (b ∷ []))) last
           by_never false last = last
 
 -- ---- the whole
 
-pub spread_covered : (system : System) (script : List ScriptWord) (log : List Entry) (k : ClusterNo) → is_system system ≡ true → is_spread system script ≡ true → IsLegalBy Stands system log → AllLostBy script log → is_lost_by script k ≡ true → is_covered (placement system log) k ≡ true
+pub spread_covered : (system : System) (script : List ScriptWord) (log : List Entry) (k : ClusterNo) → is_system system ≡ true → is_spread system script ≡ true → IsLegalBy Stands system log
+    → AllLostBy script log → is_lost_by script k ≡ true → is_covered (placement system log) k ≡ true
 unfolding lost_word
 spread_covered system script log k valid spread legal losses by_word =
     let lost : ClusterNo → Bool = is_lost_by script in
     let parts = and_parts (not (lost (system.pager).0 && lost (system.pager).1)) (list_all (λ (r : Root). not (lost r.home && lost r.backup)) system.roots) spread in
     let all = legal_induction Stands system (λ log. AllLostBy script log → AllIn lost system log) (λ none. all_at_boot lost system valid parts.0 parts.1)
     (λ log e before stands more.
-    let both = and_parts (list_all (λ (e : Entry). option_map_or lost (cluster_lost (what e)) true) log) (list_all (λ (e : Entry). option_map_or lost (cluster_lost (what e)) true) (e ∷ [])) (sym (list_all-append (λ (e : Entry). option_map_or lost (cluster_lost (what e)) true) log (e ∷ [])) ∙ more) in
+    let both = and_parts (list_all (λ (e : Entry). option_map_or lost (cluster_lost (what e)) true) log) (list_all (λ (e : Entry). option_map_or lost (cluster_lost (what e)) true) (e ∷ []))
+        (sym (list_all-append (λ (e : Entry). option_map_or lost (cluster_lost (what e)) true) log (e ∷ [])) ∙ more) in
     all_more lost system log e stands (before both.0) (and_parts (option_map_or lost (cluster_lost (what e)) true) true both.1).0)
     log legal losses in
     covered lost system log k all parts.0 by_word

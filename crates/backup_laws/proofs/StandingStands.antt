@@ -59,7 +59,8 @@ record AllQuiet (system : System) (log : List Entry) : Type 0 where
   pub legal : IsLegal system log
   pub quiet : Quiet system log
 
-module _ (system : System) (log : List Entry) (e : Entry) (may : MayFollow system log e) (all : AllQuiet system log) (p : Pid) (unended : IsUnended system (log ++ e ∷ []) p) (waits : has_awaited_backup system (log ++ e ∷ []) p ≡ false) where
+module _ (system : System) (log : List Entry) (e : Entry) (may : MayFollow system log e) (all : AllQuiet system log) (p : Pid) (unended : IsUnended system (log ++ e ∷ []) p)
+    (waits : has_awaited_backup system (log ++ e ∷ []) p ≡ false) where
   abbrev here : Places
   here = placement system log
 
@@ -70,9 +71,11 @@ module _ (system : System) (log : List Entry) (e : Entry) (may : MayFollow syste
       by_child : (b : Bool) → same_pid child p ≡ b → b ≡ false
       by_child false other = refl
       by_child true same =
-          let right = born_rightly here (e.post).by parent child (subst (λ w. is_by_right here (e.post).by w ≡ true) is (may.stands).by_right) (subst (KindHolds system log e) is (may.stands).kind).child_is in
+          let right = born_rightly here (e.post).by parent child (subst (λ w. is_by_right here (e.post).by w ≡ true) is (may.stands).by_right)
+              (subst (KindHolds system log e) is (may.stands).kind).child_is in
           let new = child_new here parent child (all.numbered) right in
-          let never : was_moved system (log ++ e ∷ []) child ≡ false = was_moved-snoc system log e child ∙ (λ i. never_moved MayFollow system log child all.legal new i || ap (λ w. option_map_or (is_moved child here) (cluster_lost w) false) is i) in
+          let never : was_moved system (log ++ e ∷ []) child ≡ false =
+              was_moved-snoc system log e child ∙ (λ i. never_moved MayFollow system log child all.legal new i || ap (λ w. option_map_or (is_moved child here) (cluster_lost w) false) is i) in
           let one : child ≡ p = λ i. record { 0 = eqb-true child.0 p.0 same i } in
           absurd (true≢false (sym (waiting_says system (log ++ e ∷ []) p waits).moved ∙ sym (ap (was_moved system (log ++ e ∷ [])) one) ∙ never))
   not_born (Mail at letter) is = refl
@@ -103,7 +106,8 @@ module _ (system : System) (log : List Entry) (e : Entry) (may : MayFollow syste
   waited : moves_next system log e p ≡ false → has_awaited_backup system log p ≡ false
   waited stays = by_wait (has_awaited_backup system log p) refl
     where
-      by_found : (o : Option Placed) → unended_at here p ≡ o → is_some o ≡ true → (n : Option Placed) → unended_at (placement system (log ++ e ∷ [])) p ≡ n → is_some n ≡ true → option_map (λ (q : Placed). q.mode) n ≡ option_map (λ (q : Placed). q.mode) o → has_awaited_backup system log p ≡ true → has_awaited_backup system (log ++ e ∷ []) p ≡ true
+      by_found : (o : Option Placed) → unended_at here p ≡ o → is_some o ≡ true → (n : Option Placed) → unended_at (placement system (log ++ e ∷ [])) p ≡ n → is_some n ≡ true
+          → option_map (λ (q : Placed). q.mode) n ≡ option_map (λ (q : Placed). q.mode) o → has_awaited_backup system log p ≡ true → has_awaited_backup system (log ++ e ∷ []) p ≡ true
       by_found None there some n now is same has = absurd (true≢false (sym some))
       by_found (Some was) there some None now is same has = absurd (true≢false (sym is))
       by_found (Some was) there some (Some q) now is same has = wait_ended system log e p was q stays there now (ap (λ o. unwrap_or o q.mode) same) has
@@ -144,12 +148,14 @@ all_quiet system log valid legal =
     }) log legal
 
 -- in a legal log a process that waits for its new backup has done nothing since it was moved
-pub waiting_quiet : (system : System) (log : List Entry) (p : Pid) → is_system system ≡ true → IsLegal system log → IsUnended system log p → has_awaited_backup system log p ≡ false → any_since_moved system log p (is_done_by p) ≡ false
+pub waiting_quiet : (system : System) (log : List Entry) (p : Pid) → is_system system ≡ true → IsLegal system log → IsUnended system log p → has_awaited_backup system log p ≡ false
+    → any_since_moved system log p (is_done_by p) ≡ false
 waiting_quiet system log p valid legal unended waits = (all_quiet system log valid legal).quiet p unended waits
 
 -- ---- the post
 
-pub standing_follows : (system : System) (log : List Entry) (k to : ClusterNo) (first : BackRec) (rest : List BackRec) → is_system system ≡ true → IsLegal system log → MayHandOn system log k to first rest → MayFollow system log (entry_of system log (standing_post k to (first ∷ rest)))
+pub standing_follows : (system : System) (log : List Entry) (k to : ClusterNo) (first : BackRec) (rest : List BackRec) → is_system system ≡ true → IsLegal system log
+    → MayHandOn system log k to first rest → MayFollow system log (entry_of system log (standing_post k to (first ∷ rest)))
 standing_follows system log k to first rest valid legal may =
     let w = waiting_says system log first.pid may.waits in
     record {

@@ -23,11 +23,12 @@ pub record MayRenew (system : System) (log : List Entry) (p : Pid) (s : ProcStat
   pub account : (account_after system log p).now ≡ all_pages s.memory
 
 -- Its home k, which lives, holds the records of the log of the process and its family, in which the process has a state and waits for its new backup.
-pub record MayHandOn (system : System) (log : List Entry) (k : ClusterNo) (to : ClusterNo) (first : BackRec) (rest : List BackRec) : Type 0 where
+pub record MayHandOn (system : System) (log : List Entry) (k to : ClusterNo) (first : BackRec) (rest : List BackRec) : Type 0 where
   pub goes_on : is_over system log ≡ false
   pub by_home : is_by_home (placement system log) (Cluster k) (Some first.pid) ≡ true
   pub waits : has_awaited_backup system log first.pid ≡ false
   pub stated : has_state system log first.pid ≡ true
   pub backup : next_backup_at (placement system log) first.pid ≡ Some to
-  pub family : rising (map (λ (r : BackRec). (r.pid).0) (first ∷ rest)) ≡ rising (map (λ (q : Pid). q.0) (unsynced_family system log first.pid))
+  pub family : rising (map (λ (r : BackRec). (r.pid).0) (first ∷ rest)) ≡
+      rising (map (λ (q : Pid). q.0) (unsynced_family system log first.pid))
   pub records : map Some (first ∷ rest) ≡ map (λ (r : BackRec). backup_record system log r.pid) (first ∷ rest)

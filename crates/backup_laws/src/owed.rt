@@ -13,7 +13,10 @@ ghost use Rattle.backup_laws.specs.Owed.{left_of_backups};
 
 /// A law and no code: a new backup leaves fewer to give,
 pub fn new_backups_run_out()
-    ensures less { (system : System) (log : List Entry) (e : Entry) (to : ClusterNo) (fresh : Bool) (more : List BackRec) → is_system system ≡ true → IsLegalBy Stands system (log ++ e ∷ []) → what e ≡ Rebackup to fresh more → left_of_backups system (log ++ e ∷ []) < left_of_backups system log }
+    ensures less { (system : System) (log : List Entry) (e : Entry) (to : ClusterNo) (fresh : Bool) (more : List BackRec) → is_system system ≡ true
+        → IsLegalBy Stands system (log ++ e ∷ []) → what e ≡ Rebackup to fresh more
+        → left_of_backups system (log ++ e ∷ []) < left_of_backups system log }
     // and no other entry but a loss leaves more.
-    ensures most { (system : System) (log : List Entry) (e : Entry) → is_system system ≡ true → IsLegalBy Stands system (log ++ e ∷ []) → cluster_lost (what e) ≡ None → left_of_backups system (log ++ e ∷ []) ≤ left_of_backups system log }
+    ensures most { (system : System) (log : List Entry) (e : Entry) → is_system system ≡ true → IsLegalBy Stands system (log ++ e ∷ [])
+        → cluster_lost (what e) ≡ None → left_of_backups system (log ++ e ∷ []) ≤ left_of_backups system log }
 {}

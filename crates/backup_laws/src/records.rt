@@ -18,7 +18,11 @@ ghost use Rattle.backup_laws.specs.Renewed.{Unbacked, records_renewed};
 /// A law and no code: a new backup of either form, beside the records of a cluster.
 pub fn new_backups_keep_records()
     // Each process that it names has not ended, and had no backup;
-    ensures named { (system : System) (log : List Entry) (e : Entry) (to : ClusterNo) (fresh : Bool) (more : List BackRec) (p : Pid) → is_system system ≡ true → IsLegalBy Stands system (log ++ e ∷ []) → what e ≡ Rebackup to fresh more → list_any (λ r. same_pid r.pid p) more ≡ true → Unbacked (placement system log) p }
+    ensures named { (system : System) (log : List Entry) (e : Entry) (to : ClusterNo) (fresh : Bool) (more : List BackRec) (p : Pid)
+        → is_system system ≡ true → IsLegalBy Stands system (log ++ e ∷ []) → what e ≡ Rebackup to fresh more
+        → list_any (λ r. same_pid r.pid p) more ≡ true → Unbacked (placement system log) p }
     // so where the records of a cluster are those of the log, those that it brings there are, with them, those of the log with it.
-    ensures kept { (system : System) (log : List Entry) (e : Entry) (k to : ClusterNo) (fresh : Bool) (more recs : List BackRec) → is_system system ≡ true → IsLegalBy Stands system (log ++ e ∷ []) → what e ≡ Rebackup to fresh more → KeepsRecords system log k recs → KeepsRecords system (log ++ e ∷ []) k (records_renewed to k more recs) }
+    ensures kept { (system : System) (log : List Entry) (e : Entry) (k to : ClusterNo) (fresh : Bool) (more recs : List BackRec)
+        → is_system system ≡ true → IsLegalBy Stands system (log ++ e ∷ []) → what e ≡ Rebackup to fresh more
+        → KeepsRecords system log k recs → KeepsRecords system (log ++ e ∷ []) k (records_renewed to k more recs) }
 {}

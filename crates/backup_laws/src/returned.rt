@@ -16,9 +16,13 @@ ghost use Rattle.record_laws.specs.Kept.{KeepsRecords};
 /// A law and no code: a cluster that returns is empty.
 pub fn clusters_return_empty()
     // In any legal log the backup of a process that has not ended lives.
-    ensures backups { (system : System) (log : List Entry) (p : Pid) (q : Placed) (b : ClusterNo) → is_system system ≡ true → IsLegalBy Stands system log → unended_at (placement system log) p ≡ Some q → q.backup ≡ Some b → lives_in (placement system log) b ≡ true }
+    ensures backups { (system : System) (log : List Entry) (p : Pid) (q : Placed) (b : ClusterNo) → is_system system ≡ true → IsLegalBy Stands system log
+        → unended_at (placement system log) p ≡ Some q → q.backup ≡ Some b → lives_in (placement system log) b ≡ true }
     // So at its return no process is at home in the cluster,
-    ensures home { (system : System) (log : List Entry) (e : Entry) (k : ClusterNo) → is_system system ≡ true → IsLegalBy Stands system (log ++ e ∷ []) → what e ≡ Return k → (p : Pid) (q : Placed) → unended_at (placement system (log ++ e ∷ [])) p ≡ Some q → same_cluster q.home k ≡ false }
+    ensures home { (system : System) (log : List Entry) (e : Entry) (k : ClusterNo) → is_system system ≡ true → IsLegalBy Stands system (log ++ e ∷ [])
+        → what e ≡ Return k → (p : Pid) (q : Placed) → unended_at (placement system (log ++ e ∷ [])) p ≡ Some q
+        → same_cluster q.home k ≡ false }
     // and its records are none.
-    ensures records { (system : System) (log : List Entry) (e : Entry) (k : ClusterNo) → is_system system ≡ true → IsLegalBy Stands system (log ++ e ∷ []) → what e ≡ Return k → KeepsRecords system (log ++ e ∷ []) k [] }
+    ensures records { (system : System) (log : List Entry) (e : Entry) (k : ClusterNo) → is_system system ≡ true → IsLegalBy Stands system (log ++ e ∷ [])
+        → what e ≡ Return k → KeepsRecords system (log ++ e ∷ []) k [] }
 {}

@@ -14,5 +14,7 @@ ghost use Rattle.backup_laws.specs.LostBy.{AllLostBy};
 /// A law and no code: where the words of a script that lose clusters name neither both clusters of a root nor both page servers, each
 /// loss by them is covered, in any log whose losses are of these words: also behind other losses, returns and new backups.
 pub fn spread_losses_are_covered()
-    ensures { (system : System) (script : List ScriptWord) (log : List Entry) (k : ClusterNo) → is_system system ≡ true → is_spread system script ≡ true → IsLegalBy Stands system log → AllLostBy script log → is_lost_by script k ≡ true → is_covered (placement system log) k ≡ true }
+    ensures { (system : System) (script : List ScriptWord) (log : List Entry) (k : ClusterNo) → is_system system ≡ true
+        → is_spread system script ≡ true → IsLegalBy Stands system log → AllLostBy script log → is_lost_by script k ≡ true
+        → is_covered (placement system log) k ≡ true }
 {}

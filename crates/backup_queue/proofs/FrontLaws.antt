@@ -52,9 +52,6 @@ shorter test (a ∷ rest) found is = at (test a) is (λ later. shorter test rest
 
 -- ---- one end after the other
 
-pub drops_nothing : (read : List ℕ) (mail : MailState) → Drops read mail mail
-drops_nothing read mail = record { next = refl; left = refl; fronts = λ h. h; ends = λ h. h; none = λ end h. h }
-
 pub drops_more : (read : List ℕ) (old mid new : MailState) → Drops read old mid → Drops read mid new → Drops read old new
 drops_more read old mid new first second = record {
   next = second.next ∙ first.next;

@@ -58,12 +58,6 @@ none_saved letter to t (r ∷ rest) is = λ i. ap (λ to. cond (is_receiver r.pi
 pub is_for : (p : Pid) (end : ℕ) (to : To) → to ≡ Proc p end → is_receiver p to ≡ true
 is_for p end to is = ap (is_receiver p) is ∙ eq-eqb p.0 p.0 refl
 
--- it is saved by the record of that
-pub saved_for : (letter : Letter) (to : To) (p : Pid) (end : ℕ) (recs : List BackRec) → to ≡ Proc p end
-    → map (λ (r : BackRec). cond (is_receiver r.pid to) (with_saved letter r) r) recs ≡ map (λ (r : BackRec). cond (same_pid p r.pid) (with_saved letter r) r) recs
-saved_for letter to p end [] is = refl
-saved_for letter to p end (r ∷ rest) is = λ i. ap (λ to. cond (is_receiver r.pid to) (with_saved letter r) r) is i ∷ saved_for letter to p end rest is i
-
 -- what is found after a change was found before it
 found_before : (f : BackRec → BackRec) (o : Option BackRec) (r : BackRec) → option_map f o ≡ Some r → (was : BackRec) × (o ≡ Some was) × (f was ≡ r)
 found_before f None r is = cc

@@ -8,7 +8,6 @@ pub mod Raises
 pub mod Gives
 pub mod Opens
 pub mod Splits
-pub mod Joins
 pub mod Closes
 pub mod Fresh
 mod Examples

@@ -1,14 +1,12 @@
 -- What a caller that has seen all of the log knows after the looks that were due.
-use Rattle.std.proofs.Common.{◌≡◌, ℕ, ◌<◌, ◌≤◌, sym, ◌∙◌, ap, subst, arith, length, false, Err}
+use Rattle.std.proofs.Common.{◌≡◌, ℕ, ◌<◌, ◌≤◌, sym, ◌∙◌, ap, subst, arith, length, false}
 use Rattle.t32_base.specs.declared.process.ClusterNo.{ClusterNo}
 use Rattle.bus_msg.specs.declared.entry.Post.{Post}
 use Rattle.cert_sched.specs.Rules.{is_over}
 use Rattle.cert_sched.specs.Appended.{entry_of}
 use Rattle.cert_sched.specs.Built.{BuiltMayFollow}
 use Rattle.bus_order.specs.declared.marks.Mark.{Mark}
-use Rattle.bus_order.specs.declared.refused.Refused.{Refused}
-use Rattle.bus_order.specs.declared.refused.Refused.TheVariants.{Over, Off, Behind, NoMemory}
-use Rattle.bus_order.specs.View.{Admits, BusView, Idles, IsMarkOf, MayIdle, MayTransmit, Transmits, after_words}
+use Rattle.bus_order.specs.View.{BusView, IsMarkOf, MayIdle, MayTransmit, after_words}
 use Rattle.bus_order.proofs.Looking.{Grown, grown, same_log}
 
 pub grown_after : (old mid : BusView) → mid ≡ after_words old → Grown old mid
@@ -41,16 +39,3 @@ module _ (old mid : BusView) (cursor : ℕ) (same : mid ≡ after_words old) (se
 
   pub has_after : (by : ClusterNo) (m : Mark) → MayIdle old by cursor m → by.0 < (mid.system).clusters
   has_after by m may = subst (λ s. by.0 < s.clusters) (sym g.system) may.has
-
--- a refusal of the caller is one of the call
-pub transmit_refused : (old mid new : BusView) (by : ClusterNo) (cursor : ℕ) (post : Post) (r : Refused) → mid ≡ after_words old → Admits mid by cursor (Err r) → new ≡ mid → Transmits old by cursor post (Err r) new
-transmit_refused old mid new by cursor post (Over at) same admits is = (subst (λ b. Admits b by cursor (Err (Over at))) same admits, is ∙ same)
-transmit_refused old mid new by cursor post (Off at) same admits is = (subst (λ b. Admits b by cursor (Err (Off at))) same admits, is ∙ same)
-transmit_refused old mid new by cursor post (Behind n) same admits is = (subst (λ b. Admits b by cursor (Err (Behind n))) same admits, is ∙ same)
-transmit_refused old mid new by cursor post NoMemory same admits is = absurd admits
-
-pub idle_refused : (old mid new : BusView) (by : ClusterNo) (cursor : ℕ) (m : Mark) (r : Refused) → mid ≡ after_words old → Admits mid by cursor (Err r) → new ≡ mid → Idles old by cursor m (Err r) new
-idle_refused old mid new by cursor m (Over at) same admits is = (subst (λ b. Admits b by cursor (Err (Over at))) same admits, is ∙ same)
-idle_refused old mid new by cursor m (Off at) same admits is = (subst (λ b. Admits b by cursor (Err (Off at))) same admits, is ∙ same)
-idle_refused old mid new by cursor m (Behind n) same admits is = (subst (λ b. Admits b by cursor (Err (Behind n))) same admits, is ∙ same)
-idle_refused old mid new by cursor m NoMemory same admits is = absurd admits

@@ -1,8 +1,7 @@
 -- The loss of a cluster may stand next, by a word for a place that was reached, or by one for a step or a disk call.
-use Rattle.std.proofs.Common.{◌≡◌, ℕ, refl, sym, ◌∙◌, ap, subst, arith, List, [], ◌∷◌, ◌++◌, length, Bool, cond, ◌&&◌, true, false, eqb, eqb-true, Option, Some, None, is_some, true≢false}
+use Rattle.std.proofs.Common.{◌≡◌, ℕ, refl, sym, ◌∙◌, ap, subst, arith, List, [], ◌∷◌, ◌++◌, length, Bool, cond, ◌&&◌, true, false, eqb, eqb-true, Some, None, is_some, true≢false}
 use Rattle.std.specs.Prelude.{remove}
 use Rattle.std.specs.List.{list_all}
-use Rattle.std.specs.Option.{option_map}
 use Rattle.std.proofs.Math.Bool.{and-false}
 use Rattle.std.proofs.lemmas.Bool.{and_parts}
 use Rattle.proc_state.specs.Mail.{without_first}
@@ -26,7 +25,7 @@ use Rattle.cert_sched.specs.Simulation.{crash_entry}
 use Rattle.cert_sched.proofs.LogLaws.{no_items}
 use Rattle.cert_sched.proofs.ThereLaws.{plain_there}
 use Rattle.bus_order.specs.Script.{IsFirst, is_loss_for, is_word_for}
-use Rattle.bus_order.specs.View.{BusView, IsKept, KeepsScript, MayLose, MayPass}
+use Rattle.bus_order.specs.View.{BusView, IsKept, KeepsScript, MayLose}
 use Rattle.bus_order.proofs.WordsLaws.{find-filter, without-filter, filter-without, all-without, all-found, count-without, length-without}
 use Rattle.bus_order.proofs.Keeping.{IsMore, accounts_more, reached_bus, words_stay}
 
@@ -94,10 +93,6 @@ given_loses b w k keeps built goes_on first given = record {
 pub place_loses : (b : BusView) (over : Bool) (places : Places) (cert : CertView) (number : ℕ) (w : ScriptWord) (k : ClusterNo) → IsKept b over places cert → is_over b.system b.log ≡ false → IsFirst (is_reached (length b.log)) b.left number w
     → given_by (placement b.system b.log) w ≡ Some (Crash k Place) → MayLose b k Place (remove b.left number)
 place_loses b over places cert number w k kept goes_on first given = subst (MayLose b k Place) (sym first.2) (given_loses b w k kept.lawful.scripted kept.words goes_on first.0 given)
-
--- a word that was reached and loses no cluster gives nothing
-pub passes : (b : BusView) (number : ℕ) (w : ScriptWord) (o : Option ClusterNo) → IsFirst (is_reached (length b.log)) b.left number w → o ≡ None → given_by (placement b.system b.log) w ≡ option_map (λ k. Crash k Place) o → MayPass b number
-passes b number w o first none given = record { word = w; first = first; nothing = given ∙ ap (option_map (λ k. Crash k Place)) none }
 
 -- ---- by a word for a step or a disk call
 

@@ -1,8 +1,8 @@
 -- A log bears no more children than the roots may fork at boot, so with the roots there are 32 processes at most.
-use Rattle.std.proofs.Common.{◌≡◌, ℕ, suc, ◌+◌, ◌-◌, ◌≤◌, refl, sym, ◌∙◌, ap, subst, arith, List, [], ◌∷◌, ◌++◌, map, length, true, eqb, Option, Some, None, is_some, true≢false}
+use Rattle.std.proofs.Common.{◌≡◌, ℕ, ◌+◌, ◌-◌, ◌≤◌, refl, sym, ◌∙◌, ap, subst, arith, List, [], ◌∷◌, ◌++◌, length, true, eqb, Option, Some, None, is_some, true≢false}
 use Rattle.std.specs.Prelude.{fold}
 use Rattle.std.specs.List.{count_by, sum_by}
-use Rattle.std.proofs.lemmas.List.{length-append, length-map}
+use Rattle.std.proofs.lemmas.List.{length-append}
 use Rattle.std.proofs.lemmas.List.Sums.{sum_by-cons}
 use Rattle.t32_base.specs.declared.process.Pid.{Pid}
 use Rattle.t32_base.specs.Small.{SmallState}
@@ -29,16 +29,11 @@ use Rattle.bus_msg.specs.declared.entry.What.{What}
 use Rattle.bus_msg.specs.declared.entry.What.TheVariants.{Birth}
 use Rattle.bus_msg.specs.declared.entry.Entry.{Entry}
 use Rattle.bus_msg.specs.PlacedAfter.{what}
-use Rattle.cert_sched.specs.Schedule.{after_entry, items_of, run_upto, plain_after, placed_root, placement, places_at_boot}
+use Rattle.cert_sched.specs.Schedule.{after_entry, items_of, run_upto, plain_after}
 use Rattle.cert_sched.specs.Family.{born, births_of}
-use Rattle.cert_sched.specs.Legal.{IsLegalBy}
-use Rattle.cert_sched.proofs.PidLaws.{placed_pids}
-use Rattle.cert_sched.proofs.CameLaws.{IsStandingRule}
 use Rattle.cert_sched.proofs.RunAndFork.{run_and_fork}
 use Rattle.cert_sched.proofs.KernelSums.{fork_lowers, process_sum, put_most, put_rising, sum_of}
 use Rattle.cert_sched.proofs.LoadLaws.{step_rising, sum_items}
-use Rattle.cert_sched.proofs.PidsBorn.{pids_with_born}
-use Rattle.cert_sched.proofs.ThereLaws.{plain_there}
 use Rattle.plain_kernel.proofs.TakePids.{take_step-rising}
 use Rattle.sys_calls.specs.Take.{taken}
 use Rattle.sys_calls.proofs.TakeLaws.{taken_strikes}
@@ -131,19 +126,3 @@ few_births system log valid there = by_kernel (plain_after system log) refl ther
     by_kernel : (o : Option Kernel) → plain_after system log ≡ o → is_some o ≡ true → length system.roots + length (births_of log) ≤ 32
     by_kernel None is h = absurd (true≢false (sym h))
     by_kernel (Some k) is h = omega (arith, births_after system log k is, (boot_births system).few, (system_bounds system valid).births)
-
-numbered_length : (earlier roots : List Root) → length (with_pids earlier roots) ≡ length roots
-numbered_length earlier [] = refl
-numbered_length earlier (r ∷ roots) = ap suc (numbered_length (earlier ++ r ∷ []) roots)
-
-pub few_placed : (May : System → List Entry → Entry → Type 0) → IsStandingRule May → (system : System) (log : List Entry) → is_system system ≡ true → IsLegalBy May system log → length (placement system log).placed ≤ 32
-few_placed May standing system log valid legal =
-    let pids = ap length (pids_with_born May standing system log legal) in
-    let all = length-map (placement system log).placed (λ q. (q.pid).0) in
-    let start = length-map (places_at_boot system).placed (λ q. (q.pid).0) in
-    let roots = length-map (roots_of system) placed_root in
-    let numbers = numbered_length [] system.roots in
-    let children = length-map (births_of log) (λ (b : Pid × Pid). (b.1).0) in
-    let both = length-append (placed_pids (places_at_boot system).placed) (map (λ (b : Pid × Pid). (b.1).0) (births_of log)) in
-    let few = few_births system log valid (plain_there May standing system log legal) in
-    omega (arith, pids, all, start, roots, numbers, children, both, few)

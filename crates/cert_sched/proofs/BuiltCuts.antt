@@ -1,35 +1,18 @@
--- Which entries cut a process: one that its home sends while it has not ended.
 use Rattle.std.proofs.Common.{◌≡◌, refl, sym, ◌∙◌, ap, List, [], ◌∷◌, true, false, Option, Some, None, is_some, true≢false}
 use Rattle.std.specs.Prelude.{option_map}
 use Rattle.std.proofs.lemmas.Bool.{and_parts}
 use Rattle.t32_base.specs.declared.process.Pid.{Pid}
 use Rattle.t32_base.specs.declared.letter.BackRec.{BackRec}
 use Rattle.bus_msg.specs.declared.entry.What.{What}
-use Rattle.bus_msg.specs.declared.entry.What.TheVariants.{Mail, Birth, Exit, Page, Sync, Fetch, PageIs, Crash, Return, Rebackup, Done, Stop}
+use Rattle.bus_msg.specs.declared.entry.What.TheVariants.{Sync, Rebackup}
 use Rattle.bus_msg.specs.declared.entry.By.{By}
 use Rattle.bus_msg.specs.declared.entry.By.TheVariants.{Cluster, Bus}
 use Rattle.bus_msg.specs.declared.placed.Placed.{Placed}
 use Rattle.bus_msg.specs.Places.{Places, unended_at}
-use Rattle.cert_sched.specs.Deeds.{is_cut, is_birth_of, is_first}
+use Rattle.cert_sched.specs.Deeds.{is_cut, is_first}
 use Rattle.cert_sched.specs.Steps.{process_of}
 use Rattle.cert_sched.specs.Rules.{is_by, is_living, is_by_home, is_by_right}
-use Rattle.cert_sched.proofs.BirthKind.{is_birth}
 use Rattle.cert_sched.proofs.CameLaws.{same_of}
-
--- an entry that tells of no birth is the birth of no process
-pub bears_none : (p : Pid) (w : What) → is_birth w ≡ false → is_birth_of p w ≡ false
-bears_none p (Mail at letter) other = refl
-bears_none p (Birth parent at child end) other = absurd (true≢false other)
-bears_none p (Exit pid at end) other = refl
-bears_none p (Page pid at index bytes) other = refl
-bears_none p (Sync pid small read took) other = refl
-bears_none p (Fetch pid index) other = refl
-bears_none p (PageIs pid index bytes) other = refl
-bears_none p (Crash k cause) other = refl
-bears_none p (Return k) other = refl
-bears_none p (Rebackup to fresh recs) other = refl
-bears_none p (Done rests) other = refl
-bears_none p Stop other = refl
 
 -- ---- who cuts a process
 

@@ -43,7 +43,7 @@ module _ (system : System) (log : List Entry) (e : Entry) (stands : Stands syste
   by_exit r at end p h false apart = sym (ap (λ o. option_map_or (λ (q : Placed). not q.synced) o false) (exit_elsewhere (placement system log) r p at end apart)) ∙ h
 
   -- a process that was placed and is unsynced was unsynced
-  unsynced_by : (w : What) → what e ≡ w → KindHolds system log e w → is_by_right (placement system log) (e.post).by w ≡ true → (p : Pid) → In p.0 (placement system log) → is_unsynced (placed_after (placement system log) w) p ≡ true → is_unsynced (placement system log) p ≡ true
+  pub unsynced_by : (w : What) → what e ≡ w → KindHolds system log e w → is_by_right (placement system log) (e.post).by w ≡ true → (p : Pid) → In p.0 (placement system log) → is_unsynced (placed_after (placement system log) w) p ≡ true → is_unsynced (placement system log) p ≡ true
   unsynced_by (Mail at letter) is kind right p there h = h
   unsynced_by (Birth parent at child end) is kind right p there h =
       let born = born_rightly (placement system log) (e.post).by parent child right kind.child_is in
@@ -68,7 +68,7 @@ module _ (system : System) (log : List Entry) (e : Entry) (stands : Stands syste
   cut_children _ kind p cut = absurd (true≢false (sym cut))
 
   -- no process that is placed is born
-  no_birth_of : (w : What) → KindHolds system log e w → is_by_right (placement system log) (e.post).by w ≡ true → (p : Pid) → In p.0 (placement system log) → is_birth_of p w ≡ false
+  pub no_birth_of : (w : What) → KindHolds system log e w → is_by_right (placement system log) (e.post).by w ≡ true → (p : Pid) → In p.0 (placement system log) → is_birth_of p w ≡ false
   no_birth_of (Birth parent at child end) kind right p there =
       not_in p.0 child (placement system log) (child_new (placement system log) parent child all.numbered (born_rightly (placement system log) (e.post).by parent child right kind.child_is)) there
   no_birth_of (Mail at letter) kind right p there = refl
@@ -142,7 +142,7 @@ module _ (system : System) (log : List Entry) (e : Entry) (stands : Stands syste
   by_kind (Done rests) is kind right b (inr m) h = absurd m
   by_kind Stop is kind right b (inr m) h = absurd m
 
-member_either : (b : Pair) (xs ys : List Pair) → Member b (xs ++ ys) → Member b xs ⊎ Member b ys
+pub member_either : (b : Pair) (xs ys : List Pair) → Member b (xs ++ ys) → Member b xs ⊎ Member b ys
 member_either b [] ys m = inr m
 member_either b (x ∷ xs) ys (inl same) = inl (inl same)
 member_either b (x ∷ xs) ys (inr later) = by_part (member_either b xs ys later)
@@ -167,12 +167,12 @@ recorded May standing system log valid legal =
 -- ---- with its parent
 
 -- a pair that passes
-record Passes (t : Pair → Bool) (bs : List Pair) : Type 0 where
+pub record Passes (t : Pair → Bool) (bs : List Pair) : Type 0 where
   pub pair : Pair
   pub member : Member pair bs
   pub passes : t pair ≡ true
 
-one_passes : (t : Pair → Bool) (bs : List Pair) → list_any t bs ≡ true → Passes t bs
+pub one_passes : (t : Pair → Bool) (bs : List Pair) → list_any t bs ≡ true → Passes t bs
 one_passes t [] any = absurd (true≢false (sym any))
 one_passes t (b ∷ bs) any = by_test (t b) refl any (one_passes t bs)
   where

@@ -1,5 +1,5 @@
 -- So many items are read one after the other.
-use Rattle.std.proofs.Common.{◌≡◌, ℕ, suc, ◌+◌, List, [], ◌∷◌, ◌++◌, Option, Some, None, Result, Ok, Err, refl, sym, ap, ◌∙◌, append_assoc, append-nil}
+use Rattle.std.proofs.Common.{◌≡◌, ℕ, suc, ◌+◌, List, [], ◌∷◌, ◌++◌, Option, Some, None, Result, Ok, Err, refl, sym, ap, ◌∙◌, append_assoc}
 use Rattle.std.specs.Option.{option_map}
 use Rattle.plain_kernel.specs.declared.item.Item.{Item}
 use Rattle.cert_sched.specs.ItemLine.{item_of}
@@ -14,16 +14,9 @@ with_front front (Err bad) = Err bad
 pub record ReadsOn (total : Result (List Item) ℕ) (items : List Item) (index left : ℕ) (lines : List (List (List ℕ))) : Type 0 where
   pub same : with_front items (reading_from index left lines) ≡ total
 
-front-nil : (r : Result (List Item) ℕ) → with_front [] r ≡ r
-front-nil (Ok items) = refl
-front-nil (Err bad) = refl
-
 front-more : (front : List Item) (item : Item) (index : ℕ) (r : Result (List Item) ℕ) → with_front (front ++ item ∷ []) r ≡ with_front front (with_item index (Some item) r)
 front-more front item index (Ok items) = ap Ok (append_assoc front (item ∷ []) items)
 front-more front item index (Err bad) = refl
-
-pub reads_none : (count left : ℕ) (lines : List (List (List ℕ))) → left ≡ count → ReadsOn (reading_from 0 count lines) [] 0 left lines
-reads_none count left lines e = record { same = rw e (front-nil (reading_from 0 count lines)) }
 
 -- the next item is that of the first line
 pub record IsNext (line : List (List ℕ)) (lines : List (List (List ℕ))) (item : Item) (after : List (List (List ℕ))) : Type 0 where
@@ -59,9 +52,3 @@ pub reads_bad : (total : Result (List Item) ℕ) (items : List Item) (index left
 reads_bad total items index left less [] more e reads = sym reads.same ∙ rw more refl
 reads_bad total items index left less (line ∷ lines) more e reads =
     sym reads.same ∙ rw more (ap (λ (o : Option Item). with_front items (with_item index o (reading_from (index + 1) less lines))) (none_from line lines (item_of line) e))
-
-pub reads_all : (total : Result (List Item) ℕ) (items : List Item) (index left : ℕ) (lines : List (List (List ℕ))) → left ≡ 0 → lines ≡ [] → ReadsOn total items index left lines → total ≡ Ok items
-reads_all total items index left lines none e reads = sym reads.same ∙ rw (none, e) (ap Ok (append-nil items))
-
-pub reads_further : (total : Result (List Item) ℕ) (items : List Item) (index left count : ℕ) (lines more : List (List (List ℕ))) (line : List (List ℕ)) → left ≡ 0 → index ≡ count → lines ≡ line ∷ more → ReadsOn total items index left lines → total ≡ Err count
-reads_further total items index left count lines more line none same e reads = sym reads.same ∙ rw (none, e) (ap Err same)

@@ -120,25 +120,6 @@ module _ (Q : ProcState → Type 0) (stays : StaysSo Q) (p : Pid) where
   pub entry_so : (system : System) (log : List Entry) (e : Entry) (was now : ProcState) → process_after system log p ≡ Some was → Q was → process_after system (log ++ e ∷ []) p ≡ Some now → Q now
   entry_so system log e was now there has after = rest_so system log (e ∷ []) was now there has after
 
--- a process that is there stays
-every_so : StaysSo (λ s. Unit {0})
-every_so = record { silent = λ s t is has. tt; sends = λ s t e is has. tt; forks = λ s child is has. tt; takes = λ s can has. tt; arrives = λ s letter has. tt }
-
-pub stays_there : (system : System) (log rest : List Entry) (p : Pid) (was : ProcState) → process_after system log p ≡ Some was → is_some (plain_after system (log ++ rest)) ≡ true → is_some (process_after system (log ++ rest) p) ≡ true
-unfolding plain_after
-stays_there system log rest p was there applies =
-    by_after (fold after_entry (Some (boot system)) (log ++ rest)) applies
-    (subst (λ o. IfSome o (Has (λ s. Unit {0}) p)) (sym (fold-append after_entry (Some (boot system)) log rest))
-    (log_keeps (Has (λ s. Unit {0}) p) (one_has (λ s. Unit {0}) every_so p) (fork_has (λ s. Unit {0}) every_so p) (take_has (λ s. Unit {0}) every_so p) (plain_after system log) rest (by_before (plain_after system log) there)))
-  where
-    by_before : (o : Option Kernel) → option_and_then (λ k. process_at k p) o ≡ Some was → IfSome o (Has (λ s. Unit {0}) p)
-    by_before None e = tt
-    by_before (Some k) e = record { now = was; there = e; has = tt }
-
-    by_after : (o : Option Kernel) → is_some o ≡ true → IfSome o (Has (λ s. Unit {0}) p) → is_some (option_and_then (λ k. process_at k p) o) ≡ true
-    by_after None some h = absurd (true≢false (sym some))
-    by_after (Some k) some h = ap is_some h.there
-
 -- ---- each process
 
 module _ (Q : Pid → ProcState → Type 0) (stays : (p : Pid) → StaysSo (Q p)) (inherits : (p c : Pid) (s : ProcState) → next_step s ≡ Forks → Q p s → Q c (fork_child s c)) where

@@ -10,7 +10,7 @@ use Rattle.sys_calls.specs.Next.{next_step}
 use Rattle.sys_calls.specs.Small.{weight_with_children}
 use Rattle.sys_calls.specs.Fork.{fork_child, fork_parent}
 use Rattle.sys_calls.proofs.Bearing.{emits_lightens, fork_lightens, silent_lightens, silently_lightens}
-use Rattle.sys_calls.proofs.Counting.{emits_counts, last_sent, silent_counts}
+use Rattle.sys_calls.proofs.Counting.{last_sent}
 use Rattle.sys_calls.proofs.ForkLaws.{forks_can}
 use Rattle.plain_kernel.specs.Kernel.{Kernel, boot, emitted, with_process}
 use Rattle.plain_kernel.specs.Apply.{apply_all, fork_step, one_step, take_step}
@@ -118,29 +118,3 @@ load_birth system log e parent at child end a is =
     let run_rising = items_keep IsRising step_rising fork_step-rising take_step-rising (run_upto a.old parent (at - 1)) a.old r.to rising r.ran in
     let forked = fork_step_lightens parent child r.to a.new run_rising r.forks in
     omega (arith, ran, forked)
-
--- ---- the steps made, and those left
-
--- the steps that a process has made and those that it and its children have left, at most
-abbrev pub all_steps : SmallState → ℕ
-all_steps s = s.steps + weight_with_children s
-
-silent_all : (s t : ProcState) → next_step s ≡ Silent t → all_steps t.small ≤ all_steps s.small
-silent_all s t is = let one = silent_counts s t is in omega (arith, silent_lightens s t is, one.steps)
-
-sends_all : (s t : ProcState) (e : Emission) → next_step s ≡ Emits e t → all_steps t.small ≤ all_steps s.small
-sends_all s t e is = let one = emits_counts s t e is in omega (arith, emits_lightens s t e is, one.steps)
-
-forks_all : (s : ProcState) (c : Pid) → next_step s ≡ Forks → all_steps (fork_parent s c).small + all_steps (fork_child s c).small ≤ all_steps s.small
-forks_all s c is = omega (arith, fork_lightens s c (forks_can s is))
-
-takes_all : (s : ProcState) → can_take s ≡ true → all_steps (taken s).small ≤ all_steps s.small
-takes_all s can = let t = taken_strikes s can in omega (arith, t.steps, t.weight_children)
-
--- in sum they are no more after an entry than before it
-pub steps_entry : (system : System) (log : List Entry) (e : Entry) (a : Applied system log e) → sum_of all_steps a.new ≤ sum_of all_steps a.old
-steps_entry = sum_entry all_steps silent_all sends_all forks_all takes_all
-
--- so they are no more than at boot
-pub steps_after : (system : System) (log : List Entry) (k : Kernel) → plain_after system log ≡ Some k → sum_of all_steps k ≤ sum_of all_steps (boot system)
-steps_after = sum_after all_steps silent_all sends_all forks_all takes_all

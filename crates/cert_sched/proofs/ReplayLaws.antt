@@ -209,50 +209,6 @@ replays_computes (suc n) s t ds h = step_computes n s t (next_step s) ds h (λ x
 pub first_is : (r : ProcState × List Deed) (t : ProcState) (ds : List Deed) → Some r ≡ Some (t, ds) → (r.0 ≡ t) × (r.1 ≡ ds)
 first_is r t ds e = (ap (λ (o : Option (ProcState × List Deed)). option_map_or (λ (q : ProcState × List Deed). q.0) o t) e, ap (λ (o : Option (ProcState × List Deed)). option_map_or (λ (q : ProcState × List Deed). q.1) o ds) e)
 
--- what was put first, and the rest
-record Put (d : Deed) (t : ProcState) (ds : List Deed) (o : Option (ProcState × List Deed)) : Type 0 where
-  pub rest : List Deed
-  pub is : o ≡ Some (t, rest)
-  pub deeds : ds ≡ d ∷ rest
-
-put_is : (d : Deed) (t : ProcState) (ds : List Deed) (o : Option (ProcState × List Deed)) → option_map (put_first d) o ≡ Some (t, ds) → Put d t ds o
-put_is d t ds None e = cc
-put_is d t ds (Some r) e =
-    let same = first_is (r.0, d ∷ r.1) t ds e in
-    record { rest = r.1; is = ap (λ x. Some (x, r.1)) same.0; deeds = sym same.1 }
-
-rest_births : (child c : Pid) (rest more : List Pid) → (child ∷ rest) ≡ (c ∷ more) → (child ≡ c) × (rest ≡ more)
-rest_births child c rest more e = (ap (λ (xs : List Pid). head_or xs child) e, ap (λ (xs : List Pid). tail_of xs) e)
-  where
-    head_or : List Pid → Pid → Pid
-    head_or [] d = d
-    head_or (x ∷ xs) d = x
-
-    tail_of : List Pid → List Pid
-    tail_of [] = []
-    tail_of (x ∷ xs) = xs
-
-step_back : (n : ℕ) (s t : ProcState) (next : Next) (births : List Pid) (ds : List Deed) → replay_step s (λ x rest. replayed n x rest) next births ≡ Some (t, ds) → births ≡ births_in ds
-    → ((x : ProcState) (rest : List Pid) (r : List Deed) → replayed n x rest ≡ Some (t, r) → rest ≡ births_in r → Replays n x r t) → ReplaysBy s (λ x r. Replays n x r t) next ds
-step_back n s t (Silent x) births ds e born back = back x births ds e born
-step_back n s t Blocked births ds e born back = cc
-step_back n s t Forks [] ds e born back = cc
-step_back n s t Forks (child ∷ rest) ds e born back =
-    let put = put_is (Bears child) t ds (replayed n (fork_parent s child) rest) e in
-    let same = rest_births child child rest (births_in put.rest) (born ∙ ap births_in put.deeds) in
-    subst (ReplaysBy s (λ x r. Replays n x r t) Forks) (sym put.deeds) (back (fork_parent s child) rest put.rest put.is same.1)
-step_back n s t (Emits m x) births ds e born back =
-    let put = put_is (Sends m) t ds (replayed n x births) e in
-    let after : Replays n x put.rest t = back x births put.rest put.is (born ∙ ap births_in put.deeds) in
-    let both : ReplaysBy s (λ x r. Replays n x r t) (Emits m x) (Sends m ∷ put.rest) = (refl, after) in
-    subst (ReplaysBy s (λ x r. Replays n x r t) (Emits m x)) (sym put.deeds) both
-step_back n s t Over births ds e born back = cc
-
--- so many steps that take their children from those of the deeds, and do these deeds, are such a replay
-pub replays_back : (n : ℕ) (s t : ProcState) (births : List Pid) (ds : List Deed) → replayed n s births ≡ Some (t, ds) → births ≡ births_in ds → Replays n s ds t
-replays_back zero s t births ds e born = let same = first_is (s, []) t ds e in (sym same.1, sym same.0)
-replays_back (suc n) s t births ds e born = step_back n s t (next_step s) births ds e born (λ x rest r f g. replays_back n x t rest r f g)
-
 -- ---- up to the last deed
 
 abbrev pub IsSome : List Deed → Type 0

@@ -18,8 +18,7 @@ use Rattle.roll_forward.specs.Deeds.{Deed, births_in}
 use Rattle.cert_sched.specs.Deeds.{starts, is_cut, is_birth_of, start_of, since, deeds_in, letter_for, letters_to, numbered, arrived_count, saved_letters}
 use Rattle.roll_forward.specs.Replay.{replayed}
 use Rattle.cert_sched.specs.Rolling.{refilled, replay_from, RollsForward}
-use Rattle.cert_sched.specs.Legal.{IsLegalBy, IsLegal, MayFollow, Stands}
-use Rattle.cert_sched.specs.Built.{BuiltMayFollow}
+use Rattle.cert_sched.specs.Legal.{IsLegalBy, Stands}
 use Rattle.cert_sched.proofs.ListLaws.{after_last-snoc}
 use Rattle.cert_sched.proofs.RecordLaws.{start_of-snoc, since-snoc, saved_letters-start, saved_letters-other, arrived_count-other, letters_started}
 use Rattle.cert_sched.proofs.RisingLaws.{NoTwo}
@@ -237,11 +236,3 @@ rolls_forward-by May standing system log p valid legal goes_on = by_process (pro
     by_process : (o : Option ProcState) → process_after system log p ≡ o → RollsForward system log p
     by_process None none = rw none (nothing (start_of system log p))
     by_process (Some now) there = rolls-forward system log p now there ((all_roll May standing system log valid legal).rolls p now there (goes_on now there))
-
--- in a legal log each process that has not ended rolls forward
-pub rolls_forward : (system : System) (log : List Entry) (p : Pid) → is_system system ≡ true → IsLegal system log → HasNotEnded system log p → RollsForward system log p
-rolls_forward = rolls_forward-by MayFollow (λ system log e may. may.stands)
-
--- and in one of the entries that are built so far
-pub built_rolls_forward : (system : System) (log : List Entry) (p : Pid) → is_system system ≡ true → IsLegalBy BuiltMayFollow system log → HasNotEnded system log p → RollsForward system log p
-built_rolls_forward = rolls_forward-by BuiltMayFollow (λ system log e may. may.stands)

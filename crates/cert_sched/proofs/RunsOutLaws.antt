@@ -1,5 +1,5 @@
 -- The record alone leads there: a process that starts again makes so many steps until nothing of its record is left, and silent steps from there to where it is.
-use Rattle.std.proofs.Common.{◌≡◌, ℕ, zero, suc, ◌+◌, ◌-◌, ◌<◌, refl, sym, ◌∙◌, ap, subst, arith, List, [], ◌∷◌, ◌++◌, length, Bool, true, false, eqb, Option, Some, None, true≢false, All, zero-add}
+use Rattle.std.proofs.Common.{◌≡◌, ℕ, zero, suc, ◌+◌, ◌-◌, ◌<◌, refl, sym, ◌∙◌, ap, subst, arith, List, [], ◌∷◌, ◌++◌, length, Bool, true, false, eqb, Some, true≢false, All, zero-add}
 use Rattle.std.specs.Prelude.{option_and_then, option_map}
 use Rattle.std.proofs.lemmas.List.Elements.{All-nil, All-cons}
 use Rattle.std.proofs.lemmas.Bool.Decides.{nat_tests}
@@ -9,13 +9,12 @@ use Rattle.t32_base.specs.declared.letter.Letter.{Letter}
 use Rattle.t32_base.specs.declared.letter.BackRec.{BackRec}
 use Rattle.sys_text.specs.declared.system.System.{System}
 use Rattle.sys_text.specs.Valid.{is_system}
-use Rattle.proc_state.specs.State.{ProcState, delivered, has_ended}
+use Rattle.proc_state.specs.State.{ProcState, has_ended}
 use Rattle.sys_calls.specs.declared.steps.Emission.TheVariants.{Mail as Sent, Exit as Ended}
 use Rattle.sys_calls.specs.Calls.{Next, Silent, Blocked, Forks, Emits, Over}
-use Rattle.sys_calls.specs.Next.{next_step, silently, silent_of, is_blocked}
+use Rattle.sys_calls.specs.Next.{next_step, silently, silent_of}
 use Rattle.sys_calls.specs.Fork.{fork_parent}
 use Rattle.sys_calls.proofs.Counting.{exit_ends}
-use Rattle.sys_calls.proofs.RunLemma.{with_after, next_step-delivered}
 use Rattle.sys_calls.proofs.Leaving.{silent_ends, emits_ends, letter_leaves, fork_ends}
 use Rattle.write_count.specs.Counting.{counts_of, total_of, count_for, lowered}
 use Rattle.write_count.proofs.CountLaws.{counts_of-cons, count_for-raised, length-counts_of, total_of-counts_of}
@@ -23,19 +22,17 @@ use Rattle.write_count.proofs.Prefix.{lowered-counts_of}
 use Rattle.plain_kernel.proofs.Entries.{some_same}
 use Rattle.plain_kernel.proofs.Laws.{last_silent}
 use Rattle.bus_msg.specs.declared.entry.Entry.{Entry}
-use Rattle.bus_msg.specs.PlacedAfter.{what}
 use Rattle.cert_sched.specs.Schedule.{process_after}
 use Rattle.cert_sched.specs.Parts.{upto_last}
 use Rattle.roll_forward.specs.Deeds.{Deed, Sends, Bears, letters_in, births_in}
-use Rattle.cert_sched.specs.Deeds.{is_birth_of, starts, start_of, since, letter_for, arrived_count}
+use Rattle.cert_sched.specs.Deeds.{starts, start_of, since}
 use Rattle.cert_sched.specs.Record.{backup_record, record_from}
 use Rattle.roll_forward.specs.RunsOut.{RunsOut, RunsOn, nothing_left}
 use Rattle.roll_forward.specs.Replay.{replayed}
-use Rattle.cert_sched.specs.Rolling.{refilled, replay_from, RollsForward}
+use Rattle.cert_sched.specs.Rolling.{refilled}
 use Rattle.cert_sched.specs.Legal.{IsLegalBy}
 use Rattle.cert_sched.specs.Simulation.{RecordLeads}
-use Rattle.cert_sched.proofs.RecordLaws.{arrived_count-other}
-use Rattle.cert_sched.proofs.ReplayLaws.{Sharp, Replays, ReplaysBy, replays_none, replays_goes_on, replays_computes, replays_back, replays_counts}
+use Rattle.cert_sched.proofs.ReplayLaws.{Sharp, Replays, ReplaysBy, replays_none, replays_goes_on, replays_computes}
 use Rattle.cert_sched.proofs.CameLaws.{IsStandingRule}
 use Rattle.cert_sched.proofs.RollLaws.{Rolls, rolls_steps, all_roll}
 use Rattle.cert_sched.proofs.EndsLaws.{process_after-ends}
@@ -280,68 +277,3 @@ pub sharp_runs_out : (n : ℕ) (s t : ProcState) (ds : List Deed) → AllFine ds
 sharp_runs_out zero s t ds fine h = ap Left h.0
 sharp_runs_out (suc n) s t [] fine h = absurd h.0
 sharp_runs_out (suc n) s t (d ∷ ds) fine h = (some_left d ds fine, step_sharp n s t (next_step s) d ds fine h.1 (λ x r f g. sharp_runs_out n x t r f g))
-
--- ---- from the rolling forward alone
-
--- the start, where a process that is there rolls forward, and its replay
-record Rolled (system : System) (log : List Entry) (p : Pid) (now : ProcState) : Type 0 where
-  pub start : ProcState
-  pub started : start_of system log p ≡ Some start
-  pub replays : Replays ((now.small).steps - (start.small).steps) (refilled log p start) (since log p) now
-
-rolled : (system : System) (log : List Entry) (p : Pid) (now : ProcState) → process_after system log p ≡ Some now → RollsForward system log p → Rolled system log p now
-rolled system log p now there rolls =
-    by_start (start_of system log p) refl
-    (ap (λ o. option_and_then (λ start. option_and_then (replay_from log p start) o) (start_of system log p)) (sym there) ∙ rolls ∙ ap (option_map (λ (now : ProcState). let pair : ProcState × List Deed = (now, since log p) in pair)) there)
-  where
-    by_start : (o : Option ProcState) → start_of system log p ≡ o → option_and_then (λ start. replay_from log p start now) o ≡ Some (now, since log p) → Rolled system log p now
-    by_start None is e = cc
-    by_start (Some start) is e = record { start = start; started = is; replays = replays_back ((now.small).steps - (start.small).steps) (refilled log p start) now (births_in (since log p)) (since log p) e refl }
-
--- a process that rolls forward and has not ended is led there by its record
-pub rolling_record : (system : System) (log : List Entry) (p : Pid) (now : ProcState) (r : BackRec) → process_after system log p ≡ Some now → has_ended (now.small).status ≡ false → RollsForward system log p → backup_record system log p ≡ Some r
-    → RecordLeads system log p r now
-rolling_record system log p now r there goes_on rolls is =
-    let h = rolled system log p now there rolls in
-    led_by_record system log p now r goes_on h.start h.started ((now.small).steps - ((h.start).small).steps) refl h.replays is
-
--- ---- letters that arrive on the way
-
-step_out : (s : ProcState) (l : Letter) (counts : Counts) (A B : ProcState → Counts → List Pid → Type 0) (next : Next) (births : List Pid) → RunsOn s counts A next births
-    → ((t : ProcState) (left : Counts) (rest : List Pid) → A t left rest → B (delivered t l) left rest) → RunsOn (delivered s l) counts B (with_after (λ t. delivered t l) next) births
-step_out s l counts A B (Silent t) births h on = on t counts births h
-step_out s l counts A B Blocked births h on = absurd h
-step_out s l counts A B Forks [] h on = absurd h
-step_out s l counts A B Forks (child ∷ rest) h on = on (fork_parent s child) counts rest h
-step_out s l counts A B (Emits (Sent letter) t) births h on = (h.0, on t (lowered counts letter) births h.1)
-step_out s l counts A B (Emits (Ended end) t) births h on = absurd h
-step_out s l counts A B Over births h on = absurd h
-
-not_blocked : (s : ProcState) (counts : Counts) (A : ProcState → Counts → List Pid → Type 0) (next : Next) (births : List Pid) → RunsOn s counts A next births → is_blocked next ≡ false
-not_blocked s counts A (Silent t) births h = refl
-not_blocked s counts A Blocked births h = absurd h
-not_blocked s counts A Forks births h = refl
-not_blocked s counts A (Emits e t) births h = refl
-not_blocked s counts A Over births h = refl
-
--- counts and births run out at the same number of steps where one more letter has arrived
-pub runs_out_delivered : (n : ℕ) (s : ProcState) (l : Letter) (counts : Counts) (births : List Pid) → RunsOut s counts births n → RunsOut (delivered s l) counts births n
-runs_out_delivered zero s l counts births h = h
-runs_out_delivered (suc n) s l counts births h =
-    let same = next_step-delivered s l (not_blocked s counts (λ t left rest. RunsOut t left rest n) (next_step s) births h.1) in (
-      h.0,
-      subst (λ next. RunsOn (delivered s l) counts (λ t left rest. RunsOut t left rest n) next births) (sym same)
-          (step_out s l counts (λ t left rest. RunsOut t left rest n) (λ t left rest. RunsOut t left rest n) (next_step s) births h.1 (λ t left rest g. runs_out_delivered n t l left rest g)),
-    )
-
--- ---- why a process that has ended is left out
-
--- one that has ended, and to whom a letter comes after that, does not roll forward: the letter is saved, and is in no mailbox
-pub ended_does_not_roll : (system : System) (log : List Entry) (e : Entry) (p : Pid) (now : ProcState) → process_after system log p ≡ Some now → now.next ≡ arrived_count log p
-    → process_after system (log ++ e ∷ []) p ≡ Some now → is_birth_of p (what e) ≡ false → length (letter_for p (what e)) ≡ 1 → RollsForward system (log ++ e ∷ []) p → ⊥
-ended_does_not_roll system log e p now there next after other one rolls =
-    let h = rolled system (log ++ e ∷ []) p now after rolls in
-    let counts = replays_counts ((now.small).steps - ((h.start).small).steps) (refilled (log ++ e ∷ []) p h.start) now (since (log ++ e ∷ []) p) h.replays in
-    let arrived : now.next ≡ arrived_count (log ++ e ∷ []) p = counts.next in
-    let more = arrived_count-other log e p other in
-    absurd (omega (arith, next, arrived, more, one))

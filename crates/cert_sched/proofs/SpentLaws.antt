@@ -13,13 +13,13 @@ use Rattle.sys_calls.proofs.Bearing.{Bears, next_bears}
 use Rattle.sys_calls.proofs.Counting.{silent_counts, emits_counts}
 use Rattle.sys_calls.proofs.ForkLaws.{forks_can}
 use Rattle.sys_calls.proofs.Weighing.{Leaves, emits_leaves, next_leaves}
-use Rattle.plain_kernel.specs.Kernel.{boot, process_at}
+use Rattle.plain_kernel.specs.Kernel.{boot}
 use Rattle.plain_kernel.proofs.AtBoot.{Each}
-use Rattle.plain_kernel.proofs.Spending.{boot_weight, boot_weight-few, boot-within}
+use Rattle.plain_kernel.proofs.Spending.{boot_weight-few, boot-within}
 use Rattle.bus_msg.specs.declared.entry.Entry.{Entry}
-use Rattle.cert_sched.specs.Schedule.{plain_after, process_after}
+use Rattle.cert_sched.specs.Schedule.{process_after}
 use Rattle.cert_sched.proofs.ForkWeight.{fork_weighs}
-use Rattle.cert_sched.proofs.EachLaws.{StaysSo, each_so, rest_so}
+use Rattle.cert_sched.proofs.EachLaws.{StaysSo, each_so}
 use Rattle.sys_calls.proofs.TakeLaws.{taken_strikes}
 
 -- the steps made and those left, at most, are no more than so many
@@ -37,12 +37,6 @@ within_stays most = record {
   takes = λ s can within. let t = taken_strikes s can in omega (arith, within, t.steps, t.weight_is);
   arrives = λ s letter within. within;
 }
-
--- a process that was there at boot is within what it had left there
-pub process_after-within : (system : System) (log : List Entry) (p : Pid) (first s : ProcState) → process_at (boot system) p ≡ Some first → process_after system log p ≡ Some s → (s.small).steps + weight s.small ≤ boot_weight system p
-unfolding plain_after
-process_after-within system log p first s there now =
-    rest_so (IsWithin (boot_weight system p)) (within_stays (boot_weight system p)) p system [] log first s there (boot-within system p first.small (ap (option_map (λ (s : ProcState). s.small)) there)) now
 
 -- ---- children too
 

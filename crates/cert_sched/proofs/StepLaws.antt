@@ -20,7 +20,7 @@ use Rattle.plain_kernel.proofs.Forking.{fork_made, fork-steps_parent}
 use Rattle.plain_kernel.proofs.ForkPids.{fork_step-own, fork_step-rising}
 use Rattle.plain_kernel.proofs.AtBoot.{boot-own, boot-pids, boot-steps}
 use Rattle.plain_kernel.proofs.Others.{small_at, steps-here, steps-other, steps-small, steps-sent, is_outward, process_at-outward, process_at-other, items_keep, silently-made, silently-here, silently-other}
-use Rattle.plain_kernel.proofs.Pids.{HasOwnPids, HasPids, IsRising, one_step-own, one_step-pids, pids_in}
+use Rattle.plain_kernel.proofs.Pids.{HasOwnPids, IsRising, one_step-own, one_step-pids, pids_in}
 use Rattle.bus_msg.specs.declared.entry.What.{What}
 use Rattle.bus_msg.specs.declared.entry.What.TheVariants.{Mail, Birth, Exit, Page, Sync, Fetch, PageIs, Crash, Return, Rebackup, Done, Stop}
 use Rattle.bus_msg.specs.declared.entry.Entry.{Entry}
@@ -266,10 +266,6 @@ module _ (P : Kernel → Type 0) (one : (p : Pid) (k j : Kernel) → P k → one
 pub plain_after-rising : (system : System) (log : List Entry) (k : Kernel) → plain_after system log ≡ Some k → IsRising k
 plain_after-rising system log k is =
     log_keeps_all IsRising (λ p k j rising made. (one_step-pids (pids_in k) p k j (record { rising = rising; are = refl }) made).rising) fork_step-rising take_step-rising system log k (boot-pids system).rising is
-
--- so they have pids of which no two are equal
-pub plain_after-own_pids : (system : System) (log : List Entry) (k : Kernel) → plain_after system log ≡ Some k → HasPids (pids_in k) k
-plain_after-own_pids system log k is = record { rising = plain_after-rising system log k is; are = refl }
 
 -- and each has the pid under which it stands
 pub process_after-own : (system : System) (log : List Entry) (p : Pid) (s : ProcState) → process_after system log p ≡ Some s → (s.small).pid ≡ p

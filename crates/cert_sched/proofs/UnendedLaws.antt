@@ -35,9 +35,6 @@ exit_pid p q = pid_if (same_pid q.pid p) (record q { ended = true }) q q refl re
 
 -- ---- the processes that have not ended, after a change
 
-test_of : Pid → Placed → Bool
-test_of p q = same_pid q.pid p && not q.ended
-
 -- what is found after a change that leaves the pids and who has ended
 find_map : (t : Placed → Bool) (f : Placed → Placed) → ((q : Placed) → t (f q) ≡ t q) → (qs : List Placed) → find t (map f qs) ≡ option_map f (find t qs)
 find_map t f same [] = refl

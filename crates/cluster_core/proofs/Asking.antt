@@ -22,8 +22,8 @@ use Rattle.cluster_core.specs.declared.quantum.Quantum.TheVariants.{Moved, Sent,
 use Rattle.cluster_core.specs.Quantum.{RunsQuantum, RunsTo}
 use Rattle.cluster_core.specs.Residents.{AsksOf, AsksPage, lacks_none_at, with_changed}
 use Rattle.cluster_core.specs.Slots.{in_slot, stands_in, IsKept, IsSlot}
-use Rattle.cluster_core.specs.View.{Held, Runs, Rolls, Waits, asked_held, can_act, is_waiting, page_lacked}
-use Rattle.cluster_core.specs.Work.{AsksNext, any_lacks, any_waits, is_lowest_lacking}
+use Rattle.cluster_core.specs.View.{Held, Runs, Rolls, Waits, asked_held, can_act, page_lacked}
+use Rattle.cluster_core.specs.Work.{AsksNext, any_lacks, is_lowest_lacking}
 use Rattle.cluster_core.proofs.Slots.{at_key_is, one_key, passes_there, process_there, written}
 use Rattle.cluster_core.proofs.Kept.{first_some, written_back}
 
@@ -177,15 +177,3 @@ lowest_asks limits slots keys ready asking first n kept least is = lowest_each l
 pub next_asked : (n index : ℕ) (was old new : List (Pid × Held)) → old ≡ was → is_lowest_lacking (pid_of n) old ≡ true → AsksPage (pid_of n) old index new → AsksNext was new (pid_of n) index
 next_asked n index was old new same lowest asks =
     subst (λ hs. AsksNext hs new (pid_of n) index) same (record { was = asks.was; there = asks.there; lacks = asks.lacks; lowest = lowest; new_is = asks.here })
-
--- ---- who waits
-
--- where one waits, one of them and others does
-pub one_waits : (slots : Slab Held) (e : ℕ × ℕ) (p : Held) (es : List (ℕ × ℕ)) → get slots e.1 ≡ Some p → is_waiting p ≡ true → any_waits (stands_in slots (e ∷ es)) ≡ true
-one_waits slots e p es there waits =
-    ap (λ o. any_waits (in_slot (pid_of e.0) o (stands_in slots es))) there ∙ ap (λ b. b || any_waits (stands_in slots es)) waits
-
--- where it does not, one of the others has to
-pub others_wait : (slots : Slab Held) (e : ℕ × ℕ) (p : Held) (es : List (ℕ × ℕ)) → get slots e.1 ≡ Some p → is_waiting p ≡ false → any_waits (stands_in slots (e ∷ es)) ≡ any_waits (stands_in slots es)
-others_wait slots e p es there stays =
-    ap (λ o. any_waits (in_slot (pid_of e.0) o (stands_in slots es))) there ∙ ap (λ b. b || any_waits (stands_in slots es)) stays

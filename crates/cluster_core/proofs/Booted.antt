@@ -74,15 +74,6 @@ here_booted system number here is p h there =
       is = one.is;
     }
 
--- a process that runs here at boot has made no step and read nothing, and no page of it is marked
-pub booted_fresh : (system : System) (number : ClusterNo) (here : List (Pid × Held)) → AreBooted system number here → (p : Pid) (process : Process) → held_of here p ≡ Some (Runs process) → IsFresh process
-booted_fresh system number here is p process there =
-    let one = here_booted system number here is p (Runs process) there in
-    subst IsFresh (same one.process one.is) one.fresh
-  where
-    same : (q : Process) → Runs process ≡ Runs q → q ≡ process
-    same q e = cc
-
 -- no steps lead to a process of the kernel at boot
 steps_now : (system : System) (p : Pid) (s : ProcState) → process_at (boot system) p ≡ Some s → silent_upto system [] p (s.small).steps ≡ Some s
 unfolding plain_after

@@ -1,5 +1,5 @@
 -- What is here once a child is put beside its parent.
-use Rattle.std.proofs.Common.{◌≡◌, ◌⊎◌, ℕ, refl, sym, ◌∙◌, ap, subst, arith, List, [], ◌∷◌, Bool, true, false, cond, ◌||◌, ltb, eqb-true, eq-eqb, Some, None, true≢false, inl, inr}
+use Rattle.std.proofs.Common.{◌≡◌, ◌⊎◌, ℕ, refl, sym, ◌∙◌, ap, subst, arith, List, [], ◌∷◌, Bool, true, false, cond, ◌||◌, ltb, eqb-true, eq-eqb, Some, true≢false, inl, inr}
 use Rattle.std.specs.Prelude.{find, option_map}
 use Rattle.std.specs.List.{list_any}
 use Rattle.std.specs.Option.{option_map_or}
@@ -58,11 +58,6 @@ found_among (e ∷ here) p h there = by_test (same_pid e.0 p) there (found_among
         → (held_of here p ≡ Some h → list_any (λ (e : Pid × Held). same_pid e.0 p) here ≡ true) → (b || list_any (λ (e : Pid × Held). same_pid e.0 p) here) ≡ true
     by_test true is more = refl
     by_test false is more = more is
-
--- ---- a parent that is not here
-
-pub born_nowhere : (p child : Pid) (here : List (Pid × Held)) → held_of here p ≡ None → with_born p child here ≡ here
-born_nowhere p child here none = ap (λ o. option_map_or (λ (h : Held). with_fork p child h here) o here) none
 
 -- ---- a parent that runs here
 

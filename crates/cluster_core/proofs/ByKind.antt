@@ -87,9 +87,6 @@ lone_is _ lone = absurd (true≢false (sym lone))
 pub page_unlost : (w : What) → is_of_page w ≡ true → is_unlost w ≡ true
 page_unlost = by_page (λ w. is_unlost w ≡ true) (λ pid index. refl) (λ pid index bytes. refl)
 
-pub page_built : (w : What) → is_of_page w ≡ true → is_built w ≡ true
-page_built = by_page (λ w. is_built w ≡ true) (λ pid index. refl) (λ pid index bytes. refl)
-
 -- a post that may follow and tells of steps, as one that tells
 pub told_may : (system : System) (log : List Entry) (e : Entry) → UnlostMayFollow system log e → tells_or_closes (what e) ≡ true → TellingMayFollow system log e
 told_may system log e may tells = record { stands = may.stands; built = tells; limits = may.limits; pages = may.pages }

@@ -18,7 +18,7 @@ use Rattle.sync_point.specs.Due.{is_due_by}
 use Rattle.sync_point.proofs.Cuts.{cut_keeps, cut_untaken, synced_takes_none}
 use Rattle.quanta.specs.declared.limits.Limits.{Limits}
 use Rattle.quanta.specs.Limited.{is_due}
-use Rattle.cluster_core.specs.ChildrenFirst.{child_before, comes_after_at, comes_after_children, is_hindered, is_running, runs_at}
+use Rattle.cluster_core.specs.ChildrenFirst.{child_before, comes_after_at, comes_after_children, is_hindered, runs_at}
 use Rattle.cluster_core.specs.Quantum.{SyncsNow}
 use Rattle.cluster_core.specs.View.{Held, Runs, Rolls, Waits, can_act, held_of, page_lacked}
 
@@ -96,21 +96,6 @@ pub none_before : (limits : Limits) (family : List (Pid × Pid)) (here : List (P
 none_before limits family here p h there comes =
     ap (option_and_then (λ (h : Held). cond (comes_after_children limits h) (first_unsynced family p) None)) there ∙ ap (λ b. cond b (first_unsynced family p) None) comes
 
--- none is before one that is not here, nor where there is no child
-pub nobody_before : (limits : Limits) (family : List (Pid × Pid)) (here : List (Pid × Held)) (p : Pid) → held_of here p ≡ None → child_before limits family here p ≡ None
-nobody_before limits family here p none = ap (option_and_then (λ (h : Held). cond (comes_after_children limits h) (first_unsynced family p) None)) none
-
-pub childless_before : (limits : Limits) (family : List (Pid × Pid)) (here : List (Pid × Held)) (p : Pid) → first_unsynced family p ≡ None → child_before limits family here p ≡ None
-childless_before limits family here p none = by_held (held_of here p)
-  where
-    either : (b : Bool) → cond b (first_unsynced family p) None ≡ None
-    either true = none
-    either false = refl
-
-    by_held : (o : Option Held) → option_and_then (λ (h : Held). cond (comes_after_children limits h) (first_unsynced family p) None) o ≡ None
-    by_held None = refl
-    by_held (Some h) = either (comes_after_children limits h)
-
 -- where none is before one that comes after its children, it has none
 pub last_childless : (limits : Limits) (family : List (Pid × Pid)) (here : List (Pid × Held)) (p : Pid) → child_before limits family here p ≡ None → comes_after_at limits here p ≡ true → is_none (first_unsynced family p) ≡ true
 last_childless limits family here p none comes = by_held (held_of here p) refl comes
@@ -134,20 +119,6 @@ free_runs limits family here p child free is = by_runs (runs_at here child) (sym
     by_runs : (b : Bool) → not b ≡ false → b ≡ true
     by_runs true free = refl
     by_runs false free = absurd (true≢false free)
-
--- one that runs is found so
-pub record RunsThere (here : List (Pid × Held)) (p : Pid) : Type 0 where
-  pub process : Process
-  pub there : held_of here p ≡ Some (Runs process)
-
-pub runs_there : (here : List (Pid × Held)) (p : Pid) → runs_at here p ≡ true → RunsThere here p
-runs_there here p runs = by_held (held_of here p) refl runs
-  where
-    by_held : (o : Option Held) → held_of here p ≡ o → option_map_or is_running o false ≡ true → RunsThere here p
-    by_held None there runs = absurd (true≢false (sym runs))
-    by_held (Some (Runs process)) there runs = record { process = process; there = there }
-    by_held (Some (Rolls process counts births)) there runs = absurd (true≢false (sym runs))
-    by_held (Some (Waits waiting)) there runs = absurd (true≢false (sym runs))
 
 -- ---- one synchronises
 

@@ -1,5 +1,5 @@
 -- How a process stands that rolled forward and made a fork again, and how its child stands where it begins.
-use Rattle.std.proofs.Common.{◌≡◌, ℕ, zero, suc, ◌≤◌, cond, List, [], ◌∷◌, Bool, true, false, Option, Some, None, is_none, length, sym, ◌∙◌, ap, subst, arith}
+use Rattle.std.proofs.Common.{◌≡◌, ℕ, zero, suc, ◌≤◌, cond, List, [], ◌∷◌, Bool, true, false, Option, Some, None, length, sym, ◌∙◌, ap, subst, arith}
 use Rattle.t32_base.specs.declared.process.Pid.{Pid}
 use Rattle.t32_base.specs.declared.process.Counts.{Counts}
 use Rattle.proc_state.specs.declared.process.Process.{Process}
@@ -12,15 +12,13 @@ use Rattle.sys_calls.proofs.ForkLaws.{forks_marks_none, forks_takes_none}
 use Rattle.roll_forward.specs.declared.rolled.Rolled.{Rolled}
 use Rattle.roll_forward.specs.declared.rolled.Rolled.TheVariants.{Silent as WasSilent, Withheld, Born}
 use Rattle.roll_forward.specs.Advancing.{Advances, IsMade, IsNewborn, MakesChild}
-use Rattle.roll_forward.specs.Rolling.{RollingState, with_saved}
-use Rattle.page_waits.specs.Waiting.{WaitingState}
-use Rattle.t32_base.specs.declared.letter.BackRec.{BackRec}
+use Rattle.roll_forward.specs.Rolling.{RollingState}
 use Rattle.roll_forward.specs.RunsOut.{RunsOut, nothing_left}
 use Rattle.cluster_core.specs.declared.resident.Standing.TheVariants.{Runs as IsRunning, Rolls as IsRolling}
 use Rattle.cluster_core.specs.Bearing.{forked, newborn}
-use Rattle.cluster_core.specs.ForkingAgain.{begun_with, born_by, going_held, with_mail_of, HasForkedAgain, StandsAtForkAgain}
+use Rattle.cluster_core.specs.ForkingAgain.{born_by, going_held, HasForkedAgain, StandsAtForkAgain}
 use Rattle.cluster_core.specs.Resident.{StandsSo, held_standing}
-use Rattle.cluster_core.specs.View.{Held, Runs, Rolls, Waits, rolling_held}
+use Rattle.cluster_core.specs.View.{Held, Runs, Rolls}
 use Rattle.cluster_core.proofs.Standing.{forks_on}
 
 -- ---- where something is left, and where nothing is
@@ -145,20 +143,3 @@ module _ (made : Bool) (old new : RollingState) (r : Rolled) (stands : StandsSo 
 
   pub forked_runs : new.ahead ≡ 0 → HasForkedAgain made (held_standing (Some (IsRolling old))) (born_by r) (held_standing (Some (IsRunning new.process)))
   forked_runs none = record { stood = at; child = child_is; now = ap (λ b. cond b (Runs new.process) (Rolls new.process new.counts new.births)) (sym (nothing_of new.ahead (state_of new.process) new.counts new.births none runs_out)) ∙ now_is }
-
--- ---- the child
-
--- one that began by a record is as it was born, with the letters that the record saved
-pub begun_is : (kept : BackRec) (born now : Process) → state_of now ≡ with_saved (state_of born) kept.saved kept.next → (now.ram).dirty ≡ (born.ram).dirty → now.read ≡ [] → now.since ≡ (born.small).steps → born.read ≡ [] → born.since ≡ (born.small).steps → now ≡ with_mail_of kept born
-begun_is kept born now state dirty read since unread new = λ i. record {
-  small = (state i).small;
-  ram = record { bytes = (state i).memory; dirty = dirty i };
-  mail = record { letters = (state i).mail; next = (state i).next };
-  read = (read ∙ sym unread) i;
-  since = (since ∙ sym new) i;
-}
-
--- so it goes on
-pub begins_held : (w : WaitingState) (born : Process) (now : RollingState) → (w.kept).state ≡ None → now.process ≡ with_mail_of w.kept born → now.counts ≡ (w.kept).counts → now.births ≡ (w.kept).births → rolling_held now ≡ begun_with born (Waits w)
-begins_held w born now none process counts births =
-    (λ i. going_held (process i) (counts i) (births i)) ∙ ap (λ o. cond (is_none o) (going_held (with_mail_of w.kept born) (w.kept).counts (w.kept).births) (Waits w)) (sym none)

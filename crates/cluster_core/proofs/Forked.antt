@@ -95,13 +95,3 @@ still_absent p child old born new b absent =
 pub born_beside : (p child : Pid) (old : List (Pid × Held)) (born : Process) (new : List (Pid × Held)) → Borne p child old born new → with_more child (Runs born) new ≡ with_born p child old
 born_beside p child old born new b =
     (λ i. with_more child (Runs (b.born_is i)) (b.new_is i)) ∙ ap (λ o. option_map_or (λ (h : Held). with_fork p child h old) o old) (sym b.there)
-
--- no child, and none is born
-pub none_born : (p child : Pid) (old new : List (Pid × Held)) → ForksAt p child old None new → new ≡ with_born p child old
-none_born p child old new f = by_found (held_of old p) refl f
-  where
-    by_found : (o : Option Held) → held_of old p ≡ o → ForksFrom p child old o None new → new ≡ with_born p child old
-    by_found None there f = f.1 ∙ ap (λ o. option_map_or (λ (h : Held). with_fork p child h old) o old) (sym there)
-    by_found (Some (Runs process)) there f = let none : None ≡ Some (newborn process child) = f.0 in cc
-    by_found (Some (Rolls process counts births)) there f = f.1 ∙ ap (λ o. option_map_or (λ (h : Held). with_fork p child h old) o old) (sym there)
-    by_found (Some (Waits waiting)) there f = f.1 ∙ ap (λ o. option_map_or (λ (h : Held). with_fork p child h old) o old) (sym there)

@@ -39,9 +39,6 @@ pub record SameForks (was now : Held) : Type 0 where
 pub same_forks : (h : Held) → SameForks h h
 same_forks h = record { waits = refl; bears = λ child. refl }
 
-then_same : (a b c : Held) → SameForks a b → SameForks b c → SameForks a c
-then_same a b c one two = record { waits = two.waits ∙ one.waits; bears = λ child. two.bears child ∙ one.bears child }
-
 pub asked_forks : (h : Held) → SameForks h (asked_held h)
 asked_forks (Runs p) = same_forks (Runs p)
 asked_forks (Rolls p counts births) = same_forks (Rolls p counts births)

@@ -78,7 +78,8 @@ any_less s t (b ∷ bs) any = by_test (t b) any (any_less s t bs)
     by_test false any more = ap (λ x. s b || x) (more any) ∙ or_true (s b)
 
 -- those of another child stay, by tests that agree on them
-pub without_child : (s u : Pid × Pid → Bool) (pid : Pid) (bs : List (Pid × Pid)) → ((b : Pid × Pid) → same_pid b.1 pid ≡ false → u b ≡ s b) → filter (λ (b : Pid × Pid). not (same_pid b.1 pid)) (filter s bs) ≡ filter u (filter (λ (b : Pid × Pid). not (same_pid b.1 pid)) bs)
+pub without_child : (s u : Pid × Pid → Bool) (pid : Pid) (bs : List (Pid × Pid)) → ((b : Pid × Pid) → same_pid b.1 pid ≡ false → u b ≡ s b)
+    → filter (λ (b : Pid × Pid). not (same_pid b.1 pid)) (filter s bs) ≡ filter u (filter (λ (b : Pid × Pid). not (same_pid b.1 pid)) bs)
 without_child s u pid bs same =
     sym (filter_both (λ (b : Pid × Pid). s b && not (same_pid b.1 pid)) s (λ (b : Pid × Pid). not (same_pid b.1 pid)) (λ b. refl) bs)
     ∙ filter_both (λ (b : Pid × Pid). s b && not (same_pid b.1 pid)) (λ (b : Pid × Pid). not (same_pid b.1 pid)) u (λ b. by_child b (same_pid b.1 pid) refl) bs
@@ -104,12 +105,14 @@ any_alike t u v (j ∷ ks) same = by_test (t j) refl (any_alike t u v ks same)
     none w true fails = ap (λ b. b || list_any t (filter w ks)) fails
     none w false fails = refl
 
-    by_test : (x : Bool) → t j ≡ x → list_any t (filter u ks) ≡ list_any t (filter v ks) → list_any t (cond (u j) (j ∷ filter u ks) (filter u ks)) ≡ list_any t (cond (v j) (j ∷ filter v ks) (filter v ks))
+    by_test : (x : Bool) → t j ≡ x → list_any t (filter u ks) ≡ list_any t (filter v ks)
+        → list_any t (cond (u j) (j ∷ filter u ks) (filter u ks)) ≡ list_any t (cond (v j) (j ∷ filter v ks) (filter v ks))
     by_test true is more = ap (λ x. list_any t (cond x (j ∷ filter u ks) (filter u ks))) (same j is) ∙ either (v j) more
     by_test false is more = none u (u j) is ∙ more ∙ sym (none v (v j) is)
 
 -- a cut leaves what concerns a cluster
-pub sync_keeps_concerns : (places : Places) (k : ClusterNo) (pid : Pid) (small : SmallState) (read : List ℕ) (took : Option ℕ) (b : Pid × Pid) → concerns (placed_after places (Sync pid small read took)) k b ≡ concerns places k b
+pub sync_keeps_concerns : (places : Places) (k : ClusterNo) (pid : Pid) (small : SmallState) (read : List ℕ) (took : Option ℕ) (b : Pid × Pid)
+    → concerns (placed_after places (Sync pid small read took)) k b ≡ concerns places k b
 sync_keeps_concerns places k pid small read took b =
     ap (λ o. option_map_or of_it o false) (unended_map (after_sync pid) (sync_keeps pid) places (placed_after places (Sync pid small read took)) refl b.1) ∙ by_found (unended_at places b.1)
   where
@@ -126,8 +129,9 @@ sync_keeps_concerns places k pid small read took b =
 
 -- ---- the law
 
-module _ (c : ClusterView) (log : List Entry) (e : Entry) (server : Option PagerState) (valid : is_system c.system ≡ true) (now : IsOpen BuiltMayFollow c.system log) (next : IsOpen BuiltMayFollow c.system (log ++ e ∷ [])) (comes : goes_to e.dests c.number ≡ true)
-    (foreign : is_by_cluster c.number e ≡ false) (spared : is_crash_of c.number (what e) ≡ false) (order : are_rising (moved_by c.places c.number (what e) (records_after (what e) c.records)) ≡ true) (serves : Serves (placement c.system log) e c.server server)
+module _ (c : ClusterView) (log : List Entry) (e : Entry) (server : Option PagerState) (valid : is_system c.system ≡ true) (now : IsOpen BuiltMayFollow c.system log)
+    (next : IsOpen BuiltMayFollow c.system (log ++ e ∷ [])) (comes : goes_to e.dests c.number ≡ true) (foreign : is_by_cluster c.number e ≡ false) (spared : is_crash_of c.number (what e) ≡ false)
+    (order : are_rising (moved_by c.places c.number (what e) (records_after (what e) c.records)) ≡ true) (serves : Serves (placement c.system log) e c.server server)
     (f : FollowsHeard c.system log c) where
   abbrev k : ClusterNo
   k = c.number
@@ -195,7 +199,8 @@ module _ (c : ClusterView) (log : List Entry) (e : Entry) (server : Option Pager
   place_is = ((may.stands).placed).0
 
   -- it is another cluster that an entry loses
-  asks_stay : (t : ClusterPlace → Bool) → ((c : ClusterPlace) → t (raised_serial c) ≡ t c) → (w : What) → is_built w ≡ true → is_crash_of k w ≡ false → option_map_or t (slice_get (placed_after places w).clusters k.0) false ≡ option_map_or t (slice_get places.clusters k.0) false
+  asks_stay : (t : ClusterPlace → Bool) → ((c : ClusterPlace) → t (raised_serial c) ≡ t c) → (w : What) → is_built w ≡ true → is_crash_of k w ≡ false
+      → option_map_or t (slice_get (placed_after places w).clusters k.0) false ≡ option_map_or t (slice_get places.clusters k.0) false
   asks_stay t same (Mail at letter) is other = refl
   asks_stay t same (Birth parent at child end) is other = birth_keeps t same places child (placed_at places parent) k
   asks_stay t same (Exit pid at end) is other = refl
@@ -209,7 +214,8 @@ module _ (c : ClusterView) (log : List Entry) (e : Entry) (server : Option Pager
   asks_stay t same (Done rests) is other = refl
   asks_stay t same Stop is other = refl
 
-  asked_later : (t : ClusterPlace → Bool) → ((c : ClusterPlace) → t (raised_serial c) ≡ t c) → option_map_or t (slice_get (placement c.system later).clusters k.0) false ≡ option_map_or t (slice_get places.clusters k.0) false
+  asked_later : (t : ClusterPlace → Bool) → ((c : ClusterPlace) → t (raised_serial c) ≡ t c)
+      → option_map_or t (slice_get (placement c.system later).clusters k.0) false ≡ option_map_or t (slice_get places.clusters k.0) false
   asked_later t same = ap (λ (p : Places). option_map_or t (slice_get p.clusters k.0) false) at_later ∙ asks_stay t same (what e) may.built spared
 
   served_before : (o p : Option PagerState) → Serves places e o p → is_some p ≡ true → is_some o ≡ true
@@ -218,7 +224,8 @@ module _ (c : ClusterView) (log : List Entry) (e : Entry) (server : Option Pager
 
   server_stays : is_some server ≡ true → list_any (λ s. same_cluster s k) (servers_in (placement c.system later)) ≡ true
   server_stays some =
-      ap (λ pair. list_any (λ s. same_cluster s k) (filter (never_lost (placement c.system later)) (pair.0 ∷ pair.1 ∷ []))) (ap (λ (p : Places). p.pager) at_later ∙ same_pager (what e) places may.built)
+      ap (λ pair. list_any (λ s. same_cluster s k) (filter (never_lost (placement c.system later)) (pair.0 ∷ pair.1 ∷ []))) (ap (λ (p : Places). p.pager) at_later
+          ∙ same_pager (what e) places may.built)
       ∙ any_alike (λ s. same_cluster s k) (never_lost (placement c.system later)) (never_lost places) ((places.pager).0 ∷ (places.pager).1 ∷ []) one
       ∙ f.server (served_before c.server server serves some)
     where
@@ -235,9 +242,11 @@ module _ (c : ClusterView) (log : List Entry) (e : Entry) (server : Option Pager
   abbrev of_here : Placed → Bool
   of_here q = same_cluster q.home k || is_cluster q.backup k
 
-  alike_here : (w : What) → what e ≡ w → changes_unsynced w ≡ false → ((b : Pid × Pid) → concerns places k b ≡ concerns (placed_after places w) k b) → c.family ≡ filter (concerns (placement c.system later) k) (unsynced_births c.system later)
+  alike_here : (w : What) → what e ≡ w → changes_unsynced w ≡ false → ((b : Pid × Pid) → concerns places k b ≡ concerns (placed_after places w) k b)
+      → c.family ≡ filter (concerns (placement c.system later) k) (unsynced_births c.system later)
   alike_here w is none same =
-      f.family ∙ filters_same (concerns places k) (concerns (placed_after places w) k) (unsynced_births c.system log) same ∙ (λ i. filter (concerns (placed_after places (sym is i)) k) (unsynced_births c.system log))
+      f.family ∙ filters_same (concerns places k) (concerns (placed_after places w) k) (unsynced_births c.system log) same
+          ∙ (λ i. filter (concerns (placed_after places (sym is i)) k) (unsynced_births c.system log))
       ∙ (λ i. filter (concerns (sym at_later i) k) (sym (others_leave c.system log e may.built (ap changes_unsynced is ∙ none)) i))
 
   there : (w : What) → what e ≡ w → placement c.system later ≡ placed_after places w
@@ -245,7 +254,9 @@ module _ (c : ClusterView) (log : List Entry) (e : Entry) (server : Option Pager
 
   -- a loss of another cluster leaves what concerns this one
   loss_one : (lost : ClusterNo) (q : Placed) → same_cluster lost k ≡ false → q.ended ≡ false → of_here (after_loss lost q) ≡ of_here q
-  loss_one lost q other open_still = ap (λ b. of_here (cond b q (cond (same_cluster q.home lost) (moved_to q lost q.backup) (cond (is_cluster q.backup lost) (record q { backup = None; lost = Some lost }) q)))) open_still ∙ by_home (same_cluster q.home lost) refl
+  loss_one lost q other open_still =
+      ap (λ b. of_here (cond b q (cond (same_cluster q.home lost) (moved_to q lost q.backup) (cond (is_cluster q.backup lost) (record q { backup = None; lost = Some lost }) q)))) open_still
+      ∙ by_home (same_cluster q.home lost) refl
     where
       or_false : (x : Bool) → (x || false) ≡ x
       or_false true = refl
@@ -274,7 +285,8 @@ module _ (c : ClusterView) (log : List Entry) (e : Entry) (server : Option Pager
   loss_concerns lost cause other b =
       by_found (unended_at places b.1) refl ∙ ap (λ o. option_map_or of_here o false) (sym (unended_map (after_loss lost) (loss_keeps lost) places (placed_after places (Crash lost cause)) refl b.1))
     where
-      by_found : (o : Option Placed) → unended_at places b.1 ≡ o → option_map_or of_here (unended_at places b.1) false ≡ option_map_or of_here (option_map (after_loss lost) (unended_at places b.1)) false
+      by_found : (o : Option Placed) → unended_at places b.1 ≡ o
+          → option_map_or of_here (unended_at places b.1) false ≡ option_map_or of_here (option_map (after_loss lost) (unended_at places b.1)) false
       by_found None is = ap (λ o. option_map_or of_here o false) is ∙ ap (λ o. option_map_or of_here (option_map (after_loss lost) o) false) (sym is)
       by_found (Some q) is =
           ap (λ o. option_map_or of_here o false) is ∙ sym (loss_one lost q other (unended_open_at places b.1 q is)) ∙ ap (λ o. option_map_or of_here (option_map (after_loss lost) o) false) (sym is)
@@ -284,7 +296,8 @@ module _ (c : ClusterView) (log : List Entry) (e : Entry) (server : Option Pager
   birth_kept parent at child end is =
       by_kept (concerns c.places k (child, parent))
       ∙ (λ i. f.family i ++ cond (sym asked i) ((parent, child) ∷ []) [])
-      ∙ ap (λ bs. bs ++ cond (concerns (placement c.system later) k (parent, child)) ((parent, child) ∷ []) []) (filter_alike (concerns places k) (concerns (placement c.system later) k) (unsynced_births c.system log) (λ b m. sym (before b m)))
+      ∙ ap (λ bs. bs ++ cond (concerns (placement c.system later) k (parent, child)) ((parent, child) ∷ []) [])
+          (filter_alike (concerns places k) (concerns (placement c.system later) k) (unsynced_births c.system log) (λ b m. sym (before b m)))
       ∙ sym (filter-append (concerns (placement c.system later) k) (unsynced_births c.system log) ((parent, child) ∷ []))
       ∙ ap (filter (concerns (placement c.system later) k)) (sym (birth_last c.system log e parent at child end valid stands may.stands is))
     where
@@ -317,7 +330,8 @@ module _ (c : ClusterView) (log : List Entry) (e : Entry) (server : Option Pager
 
           apart : (x : Bool) → same_pid child b.1 ≡ x → same_pid child b.1 ≡ false
           apart true same =
-              absurd (true≢false (sym (passes_any (stands_in child) (unsynced_births c.system log) b m (second (same_pid child b.0) (same_pid child b.1) same)) ∙ stands_in_none c.system log e parent at child end valid stands may.stands is))
+              absurd (true≢false (sym (passes_any (stands_in child) (unsynced_births c.system log) b m (second (same_pid child b.0) (same_pid child b.1) same))
+                  ∙ stands_in_none c.system log e parent at child end valid stands may.stands is))
           apart false same = same
 
       asked : concerns (placement c.system later) k (parent, child) ≡ concerns c.places k (child, parent)
@@ -331,12 +345,14 @@ module _ (c : ClusterView) (log : List Entry) (e : Entry) (server : Option Pager
   family_kept (Exit pid at end) is kind other =
       ap (filter (λ (b : Pid × Pid). not (same_pid b.1 pid))) f.family
       ∙ without_child (concerns places k) (concerns (placement c.system later) k) pid (unsynced_births c.system log)
-      (λ b apart. ap (λ ps. concerns ps k b) (there (Exit pid at end) is) ∙ ap (λ o. option_map_or of_here o false) (unended_exit pid b.1 places.placed (λ same. true≢false (sym (eq-eqb (b.1).0 pid.0 same) ∙ apart))))
+      (λ b apart. ap (λ ps. concerns ps k b) (there (Exit pid at end) is)
+          ∙ ap (λ o. option_map_or of_here o false) (unended_exit pid b.1 places.placed (λ same. true≢false (sym (eq-eqb (b.1).0 pid.0 same) ∙ apart))))
       ∙ ap (filter (concerns (placement c.system later) k)) (sym (ended_goes c.system log e pid at end is))
   family_kept (Page pid at index bytes) is kind other = alike_here (Page pid at index bytes) is refl (λ b. refl)
   family_kept (Sync pid small read took) is kind other =
       ap (filter (λ (b : Pid × Pid). not (same_pid b.1 pid))) f.family
-      ∙ without_child (concerns places k) (concerns (placement c.system later) k) pid (unsynced_births c.system log) (λ b apart. ap (λ ps. concerns ps k b) (there (Sync pid small read took) is) ∙ sync_keeps_concerns places k pid small read took b)
+      ∙ without_child (concerns places k) (concerns (placement c.system later) k) pid (unsynced_births c.system log) (λ b apart. ap (λ ps. concerns ps k b) (there (Sync pid small read took) is)
+          ∙ sync_keeps_concerns places k pid small read took b)
       ∙ ap (filter (concerns (placement c.system later) k)) (sym (synced_goes c.system log e pid small read took is))
   family_kept (Fetch pid index) is kind other = alike_here (Fetch pid index) is refl (λ b. refl)
   family_kept (PageIs pid index bytes) is kind other = alike_here (PageIs pid index bytes) is refl (λ b. refl)
@@ -351,7 +367,8 @@ module _ (c : ClusterView) (log : List Entry) (e : Entry) (server : Option Pager
   more_steps : least_steps (heard_in k later) later k ≡ least_steps (heard_in k log) log k + 1
   more_steps =
       let one = with_last (λ (e : Entry). goes_to e.dests k) log e comes in
-      let sent : count_by (is_by_cluster k) later ≡ count_by (is_by_cluster k) log = count_by-snoc (is_by_cluster k) log e ∙ ap (λ b. count_by (is_by_cluster k) log + cond b 1 0) foreign ∙ add-zero _ in
+      let sent : count_by (is_by_cluster k) later ≡ count_by (is_by_cluster k) log =
+          count_by-snoc (is_by_cluster k) log e ∙ ap (λ b. count_by (is_by_cluster k) log + cond b 1 0) foreign ∙ add-zero _ in
       omega (arith, one, sent)
 
   pub heard_follows : FollowsHeard c.system later heard
@@ -388,7 +405,9 @@ module _ (c : ClusterView) (log : List Entry) (e : Entry) (server : Option Pager
     own = subst (λ n. AllOwn (n + 1) heard.here) (sym place_is) own_later;
   }
 
-pub taken_in_heard : (c : ClusterView) (log : List Entry) (e : Entry) (server : Option PagerState) → is_system c.system ≡ true → IsOpen BuiltMayFollow c.system log → IsOpen BuiltMayFollow c.system (log ++ e ∷ []) → goes_to e.dests c.number ≡ true → is_by_cluster c.number e ≡ false
-    → is_crash_of c.number (what e) ≡ false → are_rising (moved_by c.places c.number (what e) (records_after (what e) c.records)) ≡ true → Serves (placement c.system log) e c.server server → FollowsHeard c.system log c
+pub taken_in_heard : (c : ClusterView) (log : List Entry) (e : Entry) (server : Option PagerState) → is_system c.system ≡ true → IsOpen BuiltMayFollow c.system log
+    → IsOpen BuiltMayFollow c.system (log ++ e ∷ []) → goes_to e.dests c.number ≡ true → is_by_cluster c.number e ≡ false
+    → is_crash_of c.number (what e) ≡ false → are_rising (moved_by c.places c.number (what e) (records_after (what e) c.records)) ≡ true → Serves (placement c.system log) e c.server server
+        → FollowsHeard c.system log c
     → FollowsHeard c.system (log ++ e ∷ []) (with_server server (with_heard c e))
 taken_in_heard c log e server valid now next comes foreign spared order serves f = heard_follows c log e server valid now next comes foreign spared order serves f

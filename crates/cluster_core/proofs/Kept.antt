@@ -1,5 +1,5 @@
 -- The processes of a cluster in their slots stay as they have to: what is kept over a write, a removal and one more.
-use Rattle.std.proofs.Common.{◌≡◌, ℕ, ◌<◌, Bool, true, false, cond, not, ◌||◌, ◌&&◌, eqb, ltb, eqb-true, eq-eqb, ne_eqb, List, [], ◌∷◌, ◌++◌, find, length, refl, sym, ap, subst, ◌∙◌, arith, Option, Some, None, IsSome, is_none, is_some, true≢false, append_assoc}
+use Rattle.std.proofs.Common.{◌≡◌, ℕ, ◌<◌, Bool, true, false, cond, not, ◌||◌, ◌&&◌, eqb, ltb, eqb-true, eq-eqb, ne_eqb, List, [], ◌∷◌, ◌++◌, find, length, refl, sym, ap, subst, ◌∙◌, arith, Option, Some, None, IsSome, is_none, is_some, true≢false}
 use Rattle.std.specs.Prelude.{filter, Result, Ok, Err, slice_get, slice_index_or, IfOk, IfSome}
 use Rattle.std.specs.Borrow.{Bor}
 use Rattle.std.specs.BTreeMap.Range.{range_contains}
@@ -17,14 +17,14 @@ use Rattle.slab.specs.Slab.{Slab, get, Updates}
 use Rattle.t32_base.specs.declared.process.Pid.{Pid}
 use Rattle.t32_base.specs.declared.process.ClusterNo.{ClusterNo}
 use Rattle.quanta.specs.declared.limits.Limits.{Limits}
-use Rattle.cluster_core.specs.View.{Held, can_act, page_lacked, steps_of_held}
+use Rattle.cluster_core.specs.View.{Held, can_act, page_lacked}
 use Rattle.cluster_core.specs.Calls.{rests_in}
 use Rattle.bus_msg.specs.Places.{same_pid}
 use Rattle.plain_kernel.specs.Maps.{at_key, pid_of}
 use Rattle.plain_kernel.proofs.Entries.{some_same}
 use Rattle.cert_sched.specs.Parts.{first_of}
 use Rattle.cert_sched.proofs.RisingLaws.{NoTwo, either_not}
-use Rattle.cluster_core.specs.Residents.{is_stuck, are_rising, are_settled, pids_in, next_ready, is_settled, is_stuck_at, lacks_none_at, RunsOnAt, RunsRest, SyncsAt, with_changed, with_more}
+use Rattle.cluster_core.specs.Residents.{is_stuck, are_rising, are_settled, pids_in, next_ready, is_stuck_at, lacks_none_at, RunsOnAt, RunsRest, SyncsAt, with_changed, with_more}
 use Rattle.cluster_core.specs.Slots.{in_slot, stands_in, IsSlot, IsKept}
 use Rattle.t32_base.specs.declared.streams.NoMemory.{NoMemory}
 use Rattle.cluster_core.specs.declared.quantum.Quantum.{Quantum}
@@ -337,17 +337,6 @@ rising_here limits slots keys ready asking k = ap are_rising (pids_stand limits 
 -- what rests, after some: all, or nothing where one of them can move or waits
 abbrev pub rests_with : Limits → List (Pid × ℕ) → List (Pid × Held) → Option (List (Pid × ℕ))
 rests_with limits before here = cond (are_settled limits here) (Some (before ++ rests_in here)) None
-
-pub one_rests : (limits : Limits) (slots : Slab Held) (before : List (Pid × ℕ)) (e : ℕ × ℕ) (p : Held) (es : List (ℕ × ℕ)) → get slots e.1 ≡ Some p → is_settled limits p ≡ true
-    → rests_with limits before (stands_in slots (e ∷ es)) ≡ rests_with limits (before ++ (pid_of e.0, steps_of_held p) ∷ []) (stands_in slots es)
-one_rests limits slots before e p es there settled =
-    ap (λ o. rests_with limits before (in_slot (pid_of e.0) o (stands_in slots es))) there
-    ∙ (λ i. cond (settled i && are_settled limits (stands_in slots es)) (Some (sym (append_assoc before ((pid_of e.0, steps_of_held p) ∷ []) (rests_in (stands_in slots es))) i)) None)
-
-pub one_goes_on : (limits : Limits) (slots : Slab Held) (before : List (Pid × ℕ)) (e : ℕ × ℕ) (p : Held) (es : List (ℕ × ℕ)) → get slots e.1 ≡ Some p → is_settled limits p ≡ false → rests_with limits before (stands_in slots (e ∷ es)) ≡ None
-one_goes_on limits slots before e p es there unsettled =
-    ap (λ o. rests_with limits before (in_slot (pid_of e.0) o (stands_in slots es))) there
-    ∙ (λ i. cond (unsettled i && are_settled limits (stands_in slots es)) (Some (before ++ (pid_of e.0, steps_of_held p) ∷ rests_in (stands_in slots es))) None)
 
 -- ---- one process of those that are kept
 

@@ -91,7 +91,9 @@ loss_goes system j k = record { marks = λ q. by_tests q q.ended (same_cluster q
     moved q None = refl
     moved q (Some b) = refl
 
-    by_tests : (q : Placed) (b c d : Bool) → cond b (record q { synced = false }) (cond c (moved_to (record q { synced = false }) j q.backup) (cond d (record q { backup = None; lost = Some j; synced = false }) (record q { synced = false })))
+    by_tests : (q : Placed) (b c d : Bool)
+        → cond b (record q { synced = false })
+        (cond c (moved_to (record q { synced = false }) j q.backup) (cond d (record q { backup = None; lost = Some j; synced = false }) (record q { synced = false })))
         ≡ record (cond b q (cond c (moved_to q j q.backup) (cond d (record q { backup = None; lost = Some j }) q))) { synced = false }
     by_tests q true c d = refl
     by_tests q false true d = moved q q.backup
@@ -116,11 +118,13 @@ KnowsFound system k None (Some q) = ⊥
 KnowsFound system k (Some p) None = ⊥
 
 -- by a test that does not ask for the mark
-found_known : (system : System) (k : ClusterNo) (test : Placed → Bool) → ((q : Placed) → test (record q { synced = false }) ≡ test q) → (known qs : List Placed) → KnowsEach system k known qs → KnowsFound system k (find test known) (find test qs)
+found_known : (system : System) (k : ClusterNo) (test : Placed → Bool) → ((q : Placed) → test (record q { synced = false }) ≡ test q) → (known qs : List Placed) → KnowsEach system k known qs
+    → KnowsFound system k (find test known) (find test qs)
 found_known system k test blind [] [] knows = tt
 found_known system k test blind [] (q ∷ qs) knows = absurd knows
 found_known system k test blind (p ∷ known) [] knows = absurd knows
-found_known system k test blind (p ∷ known) (q ∷ qs) knows = subst (λ b. KnowsFound system k (cond b (Some p) (find test known)) (find test (q ∷ qs))) (sym (same knows.0)) (by_test (test q) (found_known system k test blind known qs knows.1))
+found_known system k test blind (p ∷ known) (q ∷ qs) knows =
+    subst (λ b. KnowsFound system k (cond b (Some p) (find test known)) (find test (q ∷ qs))) (sym (same knows.0)) (by_test (test q) (found_known system k test blind known qs knows.1))
   where
     same : KnowsPlaced system k p q → test p ≡ test q
     same (inl is) = ap test is
@@ -131,7 +135,8 @@ found_known system k test blind (p ∷ known) (q ∷ qs) knows = subst (λ b. Kn
     by_test false more = more
 
 -- a question that does not ask for the mark has one answer
-pub asked_alike : (system : System) (k : ClusterNo) (ask : Placed → Bool) → ((q : Placed) → ask (record q { synced = false }) ≡ ask q) → (o p : Option Placed) → KnowsFound system k o p → option_map_or ask o false ≡ option_map_or ask p false
+pub asked_alike : (system : System) (k : ClusterNo) (ask : Placed → Bool) → ((q : Placed) → ask (record q { synced = false }) ≡ ask q) → (o p : Option Placed) → KnowsFound system k o p
+    → option_map_or ask o false ≡ option_map_or ask p false
 asked_alike system k ask blind None None knows = refl
 asked_alike system k ask blind (Some p) (Some q) (inl is) = ap ask is
 asked_alike system k ask blind (Some p) (Some q) (inr m) = ap ask m.1 ∙ blind q
@@ -141,7 +146,8 @@ asked_alike system k ask blind (Some p) None knows = absurd knows
 -- so a loss moves the same records here
 pub moves_alike : (system : System) (k lost : ClusterNo) (known places : Places) → KnowsPlaces system k known places → (r : BackRec) → moves_here known lost k r ≡ moves_here places lost k r
 moves_alike system k lost known places knows r =
-    asked_alike system k (is_moved_here lost k) (λ q. refl) (placed_at known r.pid) (placed_at places r.pid) (found_known system k (λ (q : Placed). same_pid q.pid r.pid) (λ q. refl) known.placed places.placed knows.placed)
+    asked_alike system k (is_moved_here lost k) (λ q. refl) (placed_at known r.pid) (placed_at places r.pid)
+        (found_known system k (λ (q : Placed). same_pid q.pid r.pid) (λ q. refl) known.placed places.placed knows.placed)
 
 -- and the same births concern it
 pub concerns_alike : (system : System) (k : ClusterNo) (known places : Places) → KnowsPlaces system k known places → (b : Pid × Pid) → concerns known k b ≡ concerns places k b
@@ -157,14 +163,16 @@ with_child system k child [] (q ∷ qs) knows = absurd knows
 with_child system k child (p ∷ known) [] knows = absurd knows
 with_child system k child (p ∷ known) (q ∷ qs) knows = (knows.0, with_child system k child known qs knows.1)
 
-birth_known : (system : System) (k : ClusterNo) (child : Pid) (known places : Places) (o p : Option Placed) → KnowsPlaces system k known places → KnowsFound system k o p → KnowsPlaces system k (with_birth known child o) (with_birth places child p)
+birth_known : (system : System) (k : ClusterNo) (child : Pid) (known places : Places) (o p : Option Placed) → KnowsPlaces system k known places → KnowsFound system k o p
+    → KnowsPlaces system k (with_birth known child o) (with_birth places child p)
 birth_known system k child known places None None knows found = knows
 birth_known system k child known places None (Some q) knows found = absurd found
 birth_known system k child known places (Some r) None knows found = absurd found
 birth_known system k child known places (Some r) (Some q) knows found = by_found found
   where
     -- both have the child where the parent is
-    born : (home : ClusterNo) (more : Placed) → KnowsPlaces system k (record known { clusters = changed_at home.0 raised_serial (slice_get known.clusters home.0) known.clusters; placed = known.placed ++ more ∷ [] })
+    born : (home : ClusterNo) (more : Placed)
+        → KnowsPlaces system k (record known { clusters = changed_at home.0 raised_serial (slice_get known.clusters home.0) known.clusters; placed = known.placed ++ more ∷ [] })
         (record places { clusters = changed_at home.0 raised_serial (slice_get places.clusters home.0) places.clusters; placed = places.placed ++ more ∷ [] })
     born home more = record {
       clusters = ap (λ cs. changed_at home.0 raised_serial (slice_get cs home.0) cs) knows.clusters;
@@ -177,13 +185,17 @@ birth_known system k child known places (Some r) (Some q) knows found = by_found
     by_found (inr m) = subst (λ x. KnowsPlaces system k (with_birth known child (Some x)) (with_birth places child (Some q))) (sym m.1) (born q.home (child_of q child))
 
 -- what is known before an entry of a kind that is built leads to what is known after it
-pub known_after : (system : System) (k : ClusterNo) (known places : Places) (w : What) → is_built w ≡ true → KnowsPlaces system k known places → KnowsPlaces system k (placed_after known w) (placed_after places w)
+pub known_after : (system : System) (k : ClusterNo) (known places : Places) (w : What) → is_built w ≡ true → KnowsPlaces system k known places
+    → KnowsPlaces system k (placed_after known w) (placed_after places w)
 known_after system k known places (Mail at letter) built knows = knows
 known_after system k known places (Birth parent at child end) built knows =
-    birth_known system k child known places (placed_at known parent) (placed_at places parent) knows (found_known system k (λ (q : Placed). same_pid q.pid parent) (λ q. refl) known.placed places.placed knows.placed)
-known_after system k known places (Exit pid at end) built knows = record { clusters = knows.clusters; pager = knows.pager; placed = goes_each system k (after_exit pid) (exit_goes system k pid) known.placed places.placed knows.placed }
+    birth_known system k child known places (placed_at known parent) (placed_at places parent) knows
+        (found_known system k (λ (q : Placed). same_pid q.pid parent) (λ q. refl) known.placed places.placed knows.placed)
+known_after system k known places (Exit pid at end) built knows =
+    record { clusters = knows.clusters; pager = knows.pager; placed = goes_each system k (after_exit pid) (exit_goes system k pid) known.placed places.placed knows.placed }
 known_after system k known places (Page pid at index bytes) built knows = knows
-known_after system k known places (Sync pid small read took) built knows = record { clusters = knows.clusters; pager = knows.pager; placed = sync_knows system k pid known.placed places.placed knows.placed }
+known_after system k known places (Sync pid small read took) built knows =
+    record { clusters = knows.clusters; pager = knows.pager; placed = sync_knows system k pid known.placed places.placed knows.placed }
 known_after system k known places (Fetch pid index) built knows = knows
 known_after system k known places (PageIs pid index bytes) built knows = knows
 known_after system k known places (Crash lost cause) built knows = record {

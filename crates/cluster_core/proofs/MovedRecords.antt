@@ -2,9 +2,6 @@
 use Rattle.std.proofs.Common.{◌≡◌, ℕ, refl, sym, ◌∙◌, ap, arith, List, [], ◌∷◌, map, Bool, true, false, cond, ◌||◌, eqb, eqb-true, Some, None, is_some}
 use Rattle.std.specs.Prelude.{filter, nat_lt}
 use Rattle.std.specs.List.{list_all, list_any, AllByRecursion}
-use Rattle.std.specs.List.Sorted.{IsStrictlySortedBy}
-use Rattle.std.specs.Ordering.{nat_cmp}
-use Rattle.std.specs.declared.cmp.Ordering.TheVariants.{Less}
 use Rattle.std.proofs.lemmas.Bool.{and_parts}
 use Rattle.std.proofs.lemmas.Bool.Decides.{nat_tests}
 use Rattle.t32_base.specs.declared.process.Pid.{Pid}
@@ -79,18 +76,3 @@ number_there (r ∷ rest) p = by_test (eqb (number_of r) p.0) (number_there rest
     by_test : (b : Bool) → list_any (λ m. eqb m p.0) (map number_of rest) ≡ is_some (record_in rest p) → (b || list_any (λ m. eqb m p.0) (map number_of rest)) ≡ is_some (cond b (Some r) (record_in rest p))
     by_test true more = refl
     by_test false more = more
-
--- the numbers of records by rising pid rise strictly
-less_is : (m n : ℕ) → nat_lt m n ≡ true → nat_cmp m n ≡ Less
-less_is m n less = grind (arith, nat_tests)
-
-all_less : (n : ℕ) (recs : List BackRec) → list_all (λ (s : BackRec). nat_lt n (s.pid).0) recs ≡ true → AllByRecursion (λ m. nat_cmp n m ≡ Less) (map number_of recs)
-all_less n [] above = tt
-all_less n (s ∷ rest) above = let parts = and_parts (nat_lt n (s.pid).0) (list_all (λ (s : BackRec). nat_lt n (s.pid).0) rest) above in (less_is n (s.pid).0 parts.0, all_less n rest parts.1)
-
-pub rise_strictly : (recs : List BackRec) → are_rising recs ≡ true → IsStrictlySortedBy nat_cmp (map number_of recs)
-unfolding IsStrictlySortedBy
-rise_strictly [] order = tt
-rise_strictly (r ∷ rest) order =
-    let parts = and_parts (list_all (λ (s : BackRec). nat_lt (r.pid).0 (s.pid).0) rest) (are_rising rest) order in
-    (all_less (r.pid).0 rest parts.0, rise_strictly rest parts.1)

@@ -86,14 +86,17 @@ is_home places k p = option_map_or (λ h. same_cluster h k) (home_at places p) f
 home_concerns : (places : Places) (k : ClusterNo) (b : Pair) → is_home places k b.1 ≡ true → concerns places k b ≡ true
 home_concerns places k b = by_found (unended_at places b.1)
   where
-    by_found : (o : Option Placed) → option_map_or (λ h. same_cluster h k) (option_map (λ (q : Placed). q.home) o) false ≡ true → option_map_or (λ (q : Placed). same_cluster q.home k || is_cluster q.backup k) o false ≡ true
+    by_found : (o : Option Placed) → option_map_or (λ h. same_cluster h k) (option_map (λ (q : Placed). q.home) o) false ≡ true
+        → option_map_or (λ (q : Placed). same_cluster q.home k || is_cluster q.backup k) o false ≡ true
     by_found None home = absurd (true≢false (sym home))
     by_found (Some q) home = ap (λ x. x || is_cluster q.backup k) home
 
-pub own_first : (c : ClusterView) (log : List Entry) (p : Pid) (h : Held) → is_system c.system ≡ true → IsOpen BuiltMayFollow c.system log → FollowsHeard c.system log c → held_at c p ≡ Some h → first_unsynced c.family p ≡ first_unsynced (unsynced_births c.system log) p
+pub own_first : (c : ClusterView) (log : List Entry) (p : Pid) (h : Held) → is_system c.system ≡ true → IsOpen BuiltMayFollow c.system log → FollowsHeard c.system log c → held_at c p ≡ Some h
+    → first_unsynced c.family p ≡ first_unsynced (unsynced_births c.system log) p
 own_first c log p h valid now f there =
     ap (λ bs. first_unsynced bs p) f.family
-    ∙ first_same (unsynced_births c.system log) (concerns places k) (is_home places k) (births_may_stand c.system log valid stands) (λ b m home. let at_child = child_home b m home in (home_concerns places k b at_child, at_child)) p
+    ∙ first_same (unsynced_births c.system log) (concerns places k) (is_home places k) (births_may_stand c.system log valid stands) (λ b m home. let at_child = child_home b m home in
+        (home_concerns places k b at_child, at_child)) p
     (ap (λ o. option_map_or (λ j. same_cluster j k) (option_map (λ (q : Placed). q.home) o) false) home.found ∙ home.home)
   where
     places : Places

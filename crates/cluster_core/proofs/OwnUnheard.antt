@@ -55,8 +55,9 @@ head_stays c (Rebackup to fresh recs) unlost = absurd (true≢false (sym unlost)
 head_stays c (Done rests) unlost = refl
 head_stays c Stop unlost = refl
 
-module _ (c : ClusterView) (log : List Entry) (e : Entry) (valid : is_system c.system ≡ true) (now : IsOpen BuiltMayFollow c.system log) (next : IsOpen BuiltMayFollow c.system (log ++ e ∷ [])) (away : goes_to e.dests c.number ≡ false) (f : FollowsHeard c.system log c) (tried : c.tried ≡ true) (post : Post)
-    (rest : List Post) (queue : c.queue ≡ post ∷ rest) (whole : entry_of c.system log post ≡ e) where
+module _ (c : ClusterView) (log : List Entry) (e : Entry) (valid : is_system c.system ≡ true) (now : IsOpen BuiltMayFollow c.system log) (next : IsOpen BuiltMayFollow c.system (log ++ e ∷ []))
+    (away : goes_to e.dests c.number ≡ false) (f : FollowsHeard c.system log c) (tried : c.tried ≡ true) (post : Post) (rest : List Post) (queue : c.queue ≡ post ∷ rest)
+    (whole : entry_of c.system log post ≡ e) where
   abbrev k : ClusterNo
   k = c.number
 
@@ -116,7 +117,8 @@ module _ (c : ClusterView) (log : List Entry) (e : Entry) (valid : is_system c.s
 
   goes_on : FollowsBuilt c.system later taken
   goes_on =
-      absorbs (shadow log left) e c.server valid (own_upto c.cursor (length log) c.here (f.log).within f.own) (ap are_rising (none_moved c log e valid now next away f _)) (serves c log e valid now next away f c.server refl) log now next (inr between)
+      absorbs (shadow log left) e c.server valid (own_upto c.cursor (length log) c.here (f.log).within f.own) (ap are_rising (none_moved c log e valid now next away f _))
+          (serves c log e valid now next away f c.server refl) log now next (inr between)
 
   as_left : taken ≡ alike left taken.cursor taken.places taken.family taken.steps
   as_left = λ i. record left {
@@ -167,7 +169,8 @@ module _ (c : ClusterView) (log : List Entry) (e : Entry) (valid : is_system c.s
 
   follows_known : FollowsHeard c.system later (record left { places = knows.places; family = knows.family })
   follows_known = record {
-    lives = ap (λ (p : Places). lives_in p k) (at_later c log e valid now next away f) ∙ ap (λ cs. option_map_or (λ (c : ClusterPlace). c.lives) (slice_get cs k.0) false) (same_clusters c log e valid now next away f) ∙ f.lives;
+    lives = ap (λ (p : Places). lives_in p k) (at_later c log e valid now next away f)
+        ∙ ap (λ cs. option_map_or (λ (c : ClusterPlace). c.lives) (slice_get cs k.0) false) (same_clusters c log e valid now next away f) ∙ f.lives;
     log = record {
       within = omega (arith, (f.log).within, length-append log (e ∷ []));
       none_left =
@@ -180,7 +183,8 @@ module _ (c : ClusterView) (log : List Entry) (e : Entry) (valid : is_system c.s
     queued = queued_back (record left { places = knows.places; family = knows.family }) later taken.cursor taken.places taken.family taken.steps still.queued;
     steps = record {
       counted = λ kept.
-          let before : capped (least_steps (heard_in k log) log k + 1) ≤ c.steps = subst (λ b. capped (least_steps (heard_in k log) log k + cond b 1 0) ≤ c.steps) tried ((f.steps).counted (lost_before log e k kept)) in
+          let before : capped (least_steps (heard_in k log) log k + 1) ≤ c.steps =
+              subst (λ b. capped (least_steps (heard_in k log) log k + cond b 1 0) ≤ c.steps) tried ((f.steps).counted (lost_before log e k kept)) in
           capped_less (least_steps (heard_in k later) later k + 0) (least_steps (heard_in k log) log k + 1) c.steps (omega (arith, more_steps)) before;
     };
     limits = f.limits;
@@ -193,16 +197,20 @@ module _ (c : ClusterView) (log : List Entry) (e : Entry) (valid : is_system c.s
     server = λ some.
         ap (list_any (λ s. same_cluster s k))
         (ap servers_in (at_later c log e valid now next away f)
-        ∙ (λ i. filter (λ j. option_map_or (λ (c : ClusterPlace). not c.was_lost) (slice_get (same_clusters c log e valid now next away f i) j.0) false) ((same_pager c log e valid now next away f i).0 ∷ (same_pager c log e valid now next away f i).1 ∷ [])))
+        ∙ (λ i. filter (λ j. option_map_or (λ (c : ClusterPlace). not c.was_lost) (slice_get (same_clusters c log e valid now next away f i) j.0) false)
+            ((same_pager c log e valid now next away f i).0 ∷ (same_pager c log e valid now next away f i).1 ∷ [])))
         ∙ f.server some;
     disk = f.disk;
     own = f.own;
   }
     where
-      fewer : (parent child : Pid) → list_any (λ (b : Pid × Pid). same_pid b.0 parent && same_pid b.1 child) knows.family ≡ true → list_any (λ (b : Pid × Pid). same_pid b.0 parent && same_pid b.1 child) c.family ≡ true
+      fewer : (parent child : Pid) → list_any (λ (b : Pid × Pid). same_pid b.0 parent && same_pid b.1 child) knows.family ≡ true
+          → list_any (λ (b : Pid × Pid). same_pid b.0 parent && same_pid b.1 child) c.family ≡ true
       fewer parent child = of_it c log e valid now next away f
-          (λ w. list_any (λ (b : Pid × Pid). same_pid b.0 parent && same_pid b.1 child) (after_head_heard c w).family ≡ true → list_any (λ (b : Pid × Pid). same_pid b.0 parent && same_pid b.1 child) c.family ≡ true)
-          (λ at letter any. any) (λ pid at index bytes any. any) (λ pid small read took any. any_less (λ (b : Pid × Pid). same_pid b.0 parent && same_pid b.1 child) (λ (b : Pid × Pid). not (same_pid b.1 pid)) c.family any) (λ pid index any. any)
+          (λ w. list_any (λ (b : Pid × Pid). same_pid b.0 parent && same_pid b.1 child) (after_head_heard c w).family ≡ true
+              → list_any (λ (b : Pid × Pid). same_pid b.0 parent && same_pid b.1 child) c.family ≡ true)
+          (λ at letter any. any) (λ pid at index bytes any. any) (λ pid small read took any. any_less (λ (b : Pid × Pid). same_pid b.0 parent && same_pid b.1 child) (λ (b : Pid
+              × Pid). not (same_pid b.1 pid)) c.family any) (λ pid index any. any)
           (λ pid index bytes any. any)
 
   pub sent_follows : FollowsHeard c.system later (after_sent_heard c c.queue)
@@ -210,7 +218,8 @@ module _ (c : ClusterView) (log : List Entry) (e : Entry) (valid : is_system c.s
       subst (FollowsHeard c.system later)
       (sym (ap (after_sent_heard c) queue ∙ ap (λ w. record (after_head_heard c w) { queue = rest; tried = false }) (sym said) ∙ as_known)) follows_known
 
-pub sent_unheard : (c : ClusterView) (log : List Entry) (e : Entry) → is_system c.system ≡ true → IsOpen BuiltMayFollow c.system log → IsOpen BuiltMayFollow c.system (log ++ e ∷ []) → goes_to e.dests c.number ≡ false → FollowsHeard c.system log c → c.tried ≡ true
+pub sent_unheard : (c : ClusterView) (log : List Entry) (e : Entry) → is_system c.system ≡ true → IsOpen BuiltMayFollow c.system log → IsOpen BuiltMayFollow c.system (log ++ e ∷ [])
+    → goes_to e.dests c.number ≡ false → FollowsHeard c.system log c → c.tried ≡ true
     → option_map (entry_of c.system log) (head_of c.queue) ≡ Some e → FollowsHeard c.system (log ++ e ∷ []) (after_sent_heard c c.queue)
 sent_unheard c log e valid now next away f tried head = by_queue c.queue refl head
   where

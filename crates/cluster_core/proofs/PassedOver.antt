@@ -56,7 +56,8 @@ use Rattle.bus_msg.specs.declared.entry.By.{By}
 -- ---- lists
 
 -- where none of them passes, none of them changes
-pub none_come : (pid : Pid) (index : ℕ) (bytes : List ℕ) (here : List (Pid × Held)) → ((p : Pid) (h : Held) → held_of here p ≡ Some h → same_pid p pid ≡ false) → with_page_come pid index bytes here ≡ here
+pub none_come : (pid : Pid) (index : ℕ) (bytes : List ℕ) (here : List (Pid × Held)) → ((p : Pid) (h : Held) → held_of here p ≡ Some h → same_pid p pid ≡ false)
+    → with_page_come pid index bytes here ≡ here
 none_come pid index bytes [] none = refl
 none_come pid index bytes (e ∷ here) none =
     (λ i. cond (first i) (e.0, page_held index bytes e.1) e ∷ none_come pid index bytes here (λ p h there. later p h there (same_pid e.0 p) refl) i)
@@ -88,8 +89,8 @@ own_upto m n (e ∷ here) order own = (one e.1 own.0, own_upto m n here order ow
 
 -- ---- the law
 
-module _ (c : ClusterView) (log : List Entry) (e : Entry) (valid : is_system c.system ≡ true) (now : IsOpen BuiltMayFollow c.system log) (next : IsOpen BuiltMayFollow c.system (log ++ e ∷ [])) (away : goes_to e.dests c.number ≡ false)
-    (f : FollowsHeard c.system log c) where
+module _ (c : ClusterView) (log : List Entry) (e : Entry) (valid : is_system c.system ≡ true) (now : IsOpen BuiltMayFollow c.system log) (next : IsOpen BuiltMayFollow c.system (log ++ e ∷ []))
+    (away : goes_to e.dests c.number ≡ false) (f : FollowsHeard c.system log c) where
   abbrev k : ClusterNo
   k = c.number
 
@@ -106,7 +107,8 @@ module _ (c : ClusterView) (log : List Entry) (e : Entry) (valid : is_system c.s
   elsewhere = ap (λ dests. goes_to dests k) (sym ((may.stands).placed).1) ∙ away
 
   -- what holds of each kind holds of this one
-  pub of_it : (P : What → Type 0) → ((at : ℕ) (letter : Letter) → P (Mail at letter)) → ((pid : Pid) (at index : ℕ) (bytes : List ℕ) → P (Page pid at index bytes)) → ((pid : Pid) (small : SmallState) (read : List ℕ) (took : Option ℕ) → P (Sync pid small read took))
+  pub of_it : (P : What → Type 0) → ((at : ℕ) (letter : Letter) → P (Mail at letter)) → ((pid : Pid) (at index : ℕ) (bytes : List ℕ) → P (Page pid at index bytes))
+      → ((pid : Pid) (small : SmallState) (read : List ℕ) (took : Option ℕ) → P (Sync pid small read took))
       → ((pid : Pid) (index : ℕ) → P (Fetch pid index)) → ((pid : Pid) (index : ℕ) (bytes : List ℕ) → P (PageIs pid index bytes)) → P (what e)
   of_it P mail page cut fetch come = by_unheard P mail page cut fetch come places k f.lives (what e) may.built elsewhere
 
@@ -136,7 +138,8 @@ module _ (c : ClusterView) (log : List Entry) (e : Entry) (valid : is_system c.s
   at_later = placement-snoc c.system log e
 
   pub same_clusters : (placed_after places (what e)).clusters ≡ places.clusters
-  same_clusters = of_it (λ w. (placed_after places w).clusters ≡ places.clusters) (λ at letter. refl) (λ pid at index bytes. refl) (λ pid small read took. refl) (λ pid index. refl) (λ pid index bytes. refl)
+  same_clusters = of_it (λ w. (placed_after places w).clusters ≡ places.clusters) (λ at letter. refl) (λ pid at index bytes. refl) (λ pid small read took. refl) (λ pid index. refl)
+      (λ pid index bytes. refl)
 
   pub same_pager : (placed_after places (what e)).pager ≡ places.pager
   same_pager = of_it (λ w. (placed_after places w).pager ≡ places.pager) (λ at letter. refl) (λ pid at index bytes. refl) (λ pid small read took. refl) (λ pid index. refl) (λ pid index bytes. refl)
@@ -159,7 +162,8 @@ module _ (c : ClusterView) (log : List Entry) (e : Entry) (valid : is_system c.s
   -- ---- the children that never synchronised
 
   -- an entry that changes no place and none of these births leaves those that concern the cluster
-  pub births_left : {w : What} → what e ≡ w → placed_after places w ≡ places → changes_unsynced w ≡ false → filter (concerns places k) (unsynced_births c.system log) ≡ filter (concerns (placement c.system later) k) (unsynced_births c.system later)
+  pub births_left : {w : What} → what e ≡ w → placed_after places w ≡ places → changes_unsynced w ≡ false
+      → filter (concerns places k) (unsynced_births c.system log) ≡ filter (concerns (placement c.system later) k) (unsynced_births c.system later)
   births_left {w} is same none =
       (λ i. filter (concerns (sym same i) k) (unsynced_births c.system log)) ∙ (λ i. filter (concerns (placed_after places (sym is i)) k) (unsynced_births c.system log))
       ∙ (λ i. filter (concerns (sym at_later i) k) (sym (others_leave c.system log e may.built (ap changes_unsynced is ∙ none)) i))
@@ -168,7 +172,8 @@ module _ (c : ClusterView) (log : List Entry) (e : Entry) (valid : is_system c.s
 
   to_servers : is_some c.server ≡ true → (front : List ClusterNo) → goes_to (to_clusters places (front ++ servers_in places)) k ≡ true
   to_servers some front =
-      named_goes places k (front ++ servers_in places) f.lives (list_any-append (λ j. same_cluster j k) front (servers_in places) ∙ last_of_either (list_any (λ j. same_cluster j k) front) (f.server some))
+      named_goes places k (front ++ servers_in places) f.lives (list_any-append (λ j. same_cluster j k) front (servers_in places)
+          ∙ last_of_either (list_any (λ j. same_cluster j k) front) (f.server some))
     where
       last_of_either : (x : Bool) {y : Bool} → y ≡ true → (x || y) ≡ true
       last_of_either true is = refl
@@ -252,9 +257,11 @@ module _ (c : ClusterView) (log : List Entry) (e : Entry) (valid : is_system c.s
     births_stay : filter (concerns places k) (unsynced_births c.system log) ≡ filter (concerns (placement c.system later) k) (unsynced_births c.system later)
     births_stay =
         of_it (λ w. what e ≡ w → filter (concerns places k) (unsynced_births c.system log) ≡ filter (concerns (placement c.system later) k) (unsynced_births c.system later))
-        (λ at letter is. births_left is refl refl) (λ pid at index bytes is. births_left is refl refl) (λ pid small read took is. cut pid small read took is) (λ pid index is. births_left is refl refl) (λ pid index bytes is. births_left is refl refl) refl
+        (λ at letter is. births_left is refl refl) (λ pid at index bytes is. births_left is refl refl) (λ pid small read took is. cut pid small read took is) (λ pid index is. births_left is refl refl)
+            (λ pid index bytes is. births_left is refl refl) refl
       where
-        cut : (pid : Pid) (small : SmallState) (read : List ℕ) (took : Option ℕ) → what e ≡ Sync pid small read took → filter (concerns places k) (unsynced_births c.system log) ≡ filter (concerns (placement c.system later) k) (unsynced_births c.system later)
+        cut : (pid : Pid) (small : SmallState) (read : List ℕ) (took : Option ℕ) → what e ≡ Sync pid small read took
+            → filter (concerns places k) (unsynced_births c.system log) ≡ filter (concerns (placement c.system later) k) (unsynced_births c.system later)
         cut pid small read took is =
             filter_both (concerns places k) (λ (b : Pid × Pid). not (same_pid b.1 pid)) (concerns (placement c.system later) k) (λ b. by_child b (same_pid b.1 pid) refl) (unsynced_births c.system log)
             ∙ ap (filter (concerns (placement c.system later) k)) (sym (synced_goes c.system log e pid small read took is))
@@ -270,18 +277,22 @@ module _ (c : ClusterView) (log : List Entry) (e : Entry) (valid : is_system c.s
                 by_two false true h = absurd (true≢false (sym h))
                 by_two false false h = refl
 
-            same_place : (b : Bool) (q : Placed) → (same_cluster (cond b (record q { synced = true }) q).home k || is_cluster (cond b (record q { synced = true }) q).backup k) ≡ (same_cluster q.home k || is_cluster q.backup k)
+            same_place : (b : Bool) (q : Placed)
+                → (same_cluster (cond b (record q { synced = true }) q).home k || is_cluster (cond b (record q { synced = true }) q).backup k) ≡ (same_cluster q.home k || is_cluster q.backup k)
             same_place true q = refl
             same_place false q = refl
 
-            by_option : (o : Option Placed) → option_map_or (λ (q : Placed). same_cluster q.home k || is_cluster q.backup k) (option_map (after_sync pid) o) false ≡ option_map_or (λ (q : Placed). same_cluster q.home k || is_cluster q.backup k) o false
+            by_option : (o : Option Placed)
+                → option_map_or (λ (q : Placed). same_cluster q.home k || is_cluster q.backup k) (option_map (after_sync pid) o) false ≡ option_map_or
+                    (λ (q : Placed). same_cluster q.home k || is_cluster q.backup k) o false
             by_option None = refl
             by_option (Some q) = same_place (same_pid q.pid pid) q
 
             stays : (b : Pid × Pid) → concerns (placement c.system later) k b ≡ concerns places k b
             stays b =
                 ap (λ ps. concerns ps k b) (at_later ∙ ap (placed_after places) is)
-                ∙ ap (λ o. option_map_or (λ (q : Placed). same_cluster q.home k || is_cluster q.backup k) o false) (unended_map (after_sync pid) (sync_keeps pid) places (placed_after places (Sync pid small read took)) refl b.1)
+                ∙ ap (λ o. option_map_or (λ (q : Placed). same_cluster q.home k || is_cluster q.backup k) o false)
+                    (unended_map (after_sync pid) (sync_keeps pid) places (placed_after places (Sync pid small read took)) refl b.1)
                 ∙ by_option (unended_at places b.1)
 
             by_child : (b : Pid × Pid) (x : Bool) → same_pid b.1 pid ≡ x → concerns places k b ≡ (not (same_pid b.1 pid) && concerns (placement c.system later) k b)
@@ -296,7 +307,8 @@ module _ (c : ClusterView) (log : List Entry) (e : Entry) (valid : is_system c.s
 
     goes_on : FollowsBuilt c.system later taken
     goes_on =
-        absorbs (shadow log c) e c.server valid (own_upto c.cursor (length log) c.here (f.log).within f.own) (ap are_rising (none_moved _)) (serves c.server refl) log now next (inl (built, foreign, no_loss))
+        absorbs (shadow log c) e c.server valid (own_upto c.cursor (length log) c.here (f.log).within f.own) (ap are_rising (none_moved _)) (serves c.server refl) log now next
+            (inl (built, foreign, no_loss))
 
     here_is : taken.here ≡ c.here
     here_is = (λ i. with_all_waiting (none_moved (records_after (what e) c.records) i) (here_after (what e) c.here)) ∙ here_stays
@@ -338,12 +350,14 @@ module _ (c : ClusterView) (log : List Entry) (e : Entry) (valid : is_system c.s
       forks = f.forks;
       accounts = record { keeps = (still.accounts).keeps; there = (still.accounts).there; calls = (still.accounts).calls };
       server = λ some.
-          ap (list_any (λ s. same_cluster s k)) (ap servers_in at_later ∙ (λ i. filter (λ j. option_map_or (λ (c : ClusterPlace). not c.was_lost) (slice_get (same_clusters i) j.0) false) ((same_pager i).0 ∷ (same_pager i).1 ∷ [])))
+          ap (list_any (λ s. same_cluster s k)) (ap servers_in at_later
+              ∙ (λ i. filter (λ j. option_map_or (λ (c : ClusterPlace). not c.was_lost) (slice_get (same_clusters i) j.0) false) ((same_pager i).0 ∷ (same_pager i).1 ∷ [])))
           ∙ f.server some;
       disk = f.disk;
       own = f.own;
     }
 
-pub passed_over : (c : ClusterView) (log : List Entry) (e : Entry) → is_system c.system ≡ true → IsOpen BuiltMayFollow c.system log → IsOpen BuiltMayFollow c.system (log ++ e ∷ []) → goes_to e.dests c.number ≡ false → is_by_cluster c.number e ≡ false → FollowsHeard c.system log c
+pub passed_over : (c : ClusterView) (log : List Entry) (e : Entry) → is_system c.system ≡ true → IsOpen BuiltMayFollow c.system log → IsOpen BuiltMayFollow c.system (log ++ e ∷ [])
+    → goes_to e.dests c.number ≡ false → is_by_cluster c.number e ≡ false → FollowsHeard c.system log c
     → FollowsHeard c.system (log ++ e ∷ []) c
 passed_over c log e valid now next away foreign f = passed_over_so c log e valid now next away f foreign

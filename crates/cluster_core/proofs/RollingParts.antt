@@ -16,7 +16,7 @@ use Rattle.page_waits.specs.Waiting.{WaitingState}
 use Rattle.cluster_core.specs.Bearing.{forked, newborn}
 use Rattle.cluster_core.specs.Changed.{with_changed}
 use Rattle.cluster_core.specs.ChildrenFirst.{is_running, runs_at}
-use Rattle.cluster_core.specs.ForkingAgain.{begun_with, child_again, going_held, is_rolling, rolls_at, waits_for_fork_at, waits_for_fork, with_begun, with_mail_of, AtFront, BearsAgain, CanBeginAgain, CanBeginWith, CanForkAgainNow, ForksAgain, HasForkedAgain, NoPart, Part, RollsAgain, RollsPart, StandsAtForkAgain}
+use Rattle.cluster_core.specs.ForkingAgain.{begun_with, child_again, going_held, is_rolling, rolls_at, waits_for_fork_at, waits_for_fork, with_begun, with_mail_of, AtFront, BearsAgain, CanBeginAgain, CanBeginWith, CanForkAgainNow, ForksAgain, HasForkedAgain, NoPart, Part, RollsAgain, RollsPart}
 use Rattle.cluster_core.specs.Quantum.{RollsTo}
 use Rattle.cluster_core.specs.Residents.{are_rising, pids_in}
 use Rattle.cluster_core.specs.View.{Held, Runs, Rolls, Waits, held_of}
@@ -231,20 +231,12 @@ again_runs p _ _ _ (Part {m} {old} {mid} before k new part) some stopped = part_
 
 -- ---- the fork
 
--- who rolls forward does not wait
-rolling_unwaiting : (h : Held) → StandsAtForkAgain h → waits_for_fork h ≡ false
-rolling_unwaiting h s = ap waits_for_fork s.is
-
 going_unwaiting : (p : Process) (counts : Counts) (births : List Pid) → waits_for_fork (going_held p counts births) ≡ false
 going_unwaiting p counts births = by_left (nothing_left counts births)
   where
     by_left : (b : Bool) → waits_for_fork (cond b (Runs p) (Rolls p counts births)) ≡ false
     by_left true = refl
     by_left false = refl
-
--- the child that the code takes is the one of the fork
-pub next_is : (p : Pid) (here : List (Pid × Held)) (n : CanForkAgainNow p here) → option_and_then child_again (held_of here p) ≡ Some (n.stands).child
-next_is p here n = ap (option_and_then child_again) n.there ∙ ap child_again (n.stands).is
 
 -- the child of the next fork of what is held can begin again
 abbrev BeginsAt : List (Pid × Held) → Held → Type 0

@@ -1,5 +1,5 @@
 -- The steps that a process makes again in a quantum, as its calls give them, and the rest of the quantum after them.
-use Rattle.std.proofs.Common.{◌≡◌, ℕ, zero, suc, ◌+◌, ◌≤◌, ◌∙◌, refl, sym, ap, subst, arith, List, Bool, true, false, Ok, Err, inl, inr, true≢false}
+use Rattle.std.proofs.Common.{◌≡◌, ℕ, zero, suc, ◌+◌, ◌≤◌, ◌∙◌, refl, sym, ap, subst, arith, List, Bool, true, false, Ok, Err, true≢false}
 use Rattle.std.specs.Prelude.{Result}
 use Rattle.t32_base.specs.declared.process.ClusterNo.{ClusterNo}
 use Rattle.t32_base.specs.declared.process.Pid.{Pid}
@@ -8,7 +8,7 @@ use Rattle.quanta.specs.declared.limits.Limits.{Limits}
 use Rattle.cluster_core.specs.declared.quantum.Quantum.{Quantum}
 use Rattle.cluster_core.specs.declared.quantum.Quantum.TheVariants.{Moved, Sent, Synced, Stuck, Forks}
 use Rattle.cluster_core.specs.ChildrenFirst.{comes_after_at, runs_at}
-use Rattle.cluster_core.specs.ForkingAgain.{rolls_at, CanForkAgainAt, CanForkAgainNow, ForksAgain, NoPart, Part, RollsAgain, RollsPartAt, RollsQuantum, RollsStepsAt}
+use Rattle.cluster_core.specs.ForkingAgain.{rolls_at, CanForkAgainAt, CanForkAgainNow, NoPart, Part, RollsAgain, RollsPartAt, RollsQuantum, RollsStepsAt}
 use Rattle.cluster_core.specs.Residents.{RunsAt, RunsOnAt, are_rising, is_stuck_at, pids_in}
 use Rattle.cluster_core.specs.View.{Held, Rolls}
 use Rattle.cluster_core.proofs.KeepsForking.{forks_now, part_keeps}
@@ -20,16 +20,6 @@ stands_now most p zero old new steps none rolls can =
     let r = rolls_there p old (ap (λ hs. rolls_at hs p) (sym steps.0) ∙ rolls) in
     subst (CanForkAgainNow p) (sym steps.0) (forks_now p old (Rolls r.process r.counts r.births) r.there (steps.1 (Rolls r.process r.counts r.births) r.there refl) can)
 stands_now most p (suc n) old new steps none rolls can = absurd (omega (arith, none))
-
--- steps are a part
-pub steps_part : (most : ℕ) (p : Pid) (made : ℕ) (old new : List (Pid × Held)) → RollsStepsAt most made p old new → (made ≡ 0 → rolls_at new p ≡ false) → RollsPartAt most made p old new
-steps_part most p zero old new steps stopped = (steps.0, ap (λ hs. rolls_at hs p) (sym steps.0) ∙ stopped refl)
-steps_part most p (suc n) old new steps stopped = (steps.0, inl steps.1)
-
--- so is a fork, where no step was made before it
-pub fork_part : (most : ℕ) (p : Pid) (made : ℕ) (old mid new : List (Pid × Held)) → 1 ≤ most → RollsStepsAt most made p old mid → made ≡ 0 → ForksAgain p mid new → RollsPartAt most 1 p old new
-fork_part most p zero old mid new least steps none fork = (least, inr (refl, subst (λ hs. ForksAgain p hs new) steps.0 fork))
-fork_part most p (suc n) old mid new least steps none fork = absurd (omega (arith, none))
 
 -- a part more
 pub again_more : (p : Pid) (most made more : ℕ) (old mid new : List (Pid × Held)) → RollsAgain p made old mid → RollsPartAt most more p mid new → 1 ≤ more → RollsAgain p (made + more) old new
@@ -43,14 +33,6 @@ more_few p most (suc n) old new part = part.0
 pub more_forks : (p : Pid) (most more : ℕ) (old new : List (Pid × Held)) → RollsPartAt most more p old new → 1 ≤ more → CanForkAgainAt old p → CanForkAgainAt new p
 more_forks p most zero old new part some can = absurd (omega (arith, some))
 more_forks p most (suc n) old new part some can = part_keeps p (suc n) old new part.1 can
-
--- no part more
-pub stopped_there : (p : Pid) (most made : ℕ) (old mid new : List (Pid × Held)) → RollsAgain p made old mid → made ≤ 64 → RollsPartAt most 0 p mid new → RollsQuantum p made old new
-stopped_there p most made old mid new again few part = record {
-  again = subst (RollsAgain p made old) (sym part.0) again;
-  few = few;
-  some = λ rolls. absurd (true≢false (sym rolls ∙ ap (λ hs. rolls_at hs p) part.0 ∙ part.1));
-}
 
 -- one that does not roll forward makes no part
 pub none_rolled : (p : Pid) (here : List (Pid × Held)) → rolls_at here p ≡ false → RollsQuantum p 0 here here
@@ -91,6 +73,3 @@ module _ (limits : Limits) (by : ClusterNo) (childless : Bool) (p : Pid) (made :
 
   pub runs_then : 1 ≤ made → rolls_at mid p ≡ false → runs_at mid p ≡ true
   runs_then some stopped = again_runs p made old mid q.again some stopped
-
-pub stuck_none : (limits : Limits) (by : ClusterNo) (childless : Bool) (p : Pid) (made : ℕ) (old new : List (Pid × Held)) (quantum : Quantum) → RunsOnAt limits by childless made p old (Ok quantum) new → quantum ≡ Stuck → made ≡ 0
-stuck_none limits by childless p made old new quantum ran is = (subst (λ q. RunsOnAt limits by childless made p old (Ok q) new) is ran).0

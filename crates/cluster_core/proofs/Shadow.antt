@@ -58,13 +58,15 @@ concerns_here places k parent child home b bears =
     second true y is = is
     second false y is = absurd (true≢false (sym is))
 
-born_here : (places : Places) (k : ClusterNo) (parent child : Pid) (births : List (Pid × Pid)) → HomeHere places child k → list_any (bears_by parent child) births ≡ true → list_any (bears_by parent child) (filter (concerns places k) births) ≡ true
+born_here : (places : Places) (k : ClusterNo) (parent child : Pid) (births : List (Pid × Pid)) → HomeHere places child k → list_any (bears_by parent child) births ≡ true
+    → list_any (bears_by parent child) (filter (concerns places k) births) ≡ true
 born_here places k parent child births home any =
     sym (any_kept (bears_by parent child) (concerns places k) births) ∙ any_both (bears_by parent child) (concerns places k) births (concerns_here places k parent child home) ∙ any
 
 -- ---- there and back
 
-pub shadow_queued : (c : ClusterView) (log : List Entry) → IsQueued c.queue ⊎ Synchronises c.system log c ⊎ BearsChild c.system log c → IsQueued c.queue ⊎ Synchronises c.system log (shadow log c) ⊎ BearsChild c.system log (shadow log c)
+pub shadow_queued : (c : ClusterView) (log : List Entry) → IsQueued c.queue ⊎ Synchronises c.system log c ⊎ BearsChild c.system log c
+    → IsQueued c.queue ⊎ Synchronises c.system log (shadow log c) ⊎ BearsChild c.system log (shadow log c)
 shadow_queued c log (inl alone) = inl alone
 shadow_queued c log (inr (inl y)) = inr (inl (record {
   pid = y.pid;
@@ -106,7 +108,8 @@ abbrev pub alike : ClusterView → ℕ → Places → List (Pid × Pid) → ℕ 
 alike c cursor places family steps = record c { cursor = cursor; places = places; family = family; steps = steps }
 
 pub queued_back : (c : ClusterView) (log : List Entry) (cursor : ℕ) (places : Places) (family : List (Pid × Pid)) (steps : ℕ)
-    → IsQueued c.queue ⊎ Synchronises c.system log (alike c cursor places family steps) ⊎ BearsChild c.system log (alike c cursor places family steps) → IsQueued c.queue ⊎ Synchronises c.system log c ⊎ BearsChild c.system log c
+    → IsQueued c.queue ⊎ Synchronises c.system log (alike c cursor places family steps) ⊎ BearsChild c.system log (alike c cursor places family steps)
+        → IsQueued c.queue ⊎ Synchronises c.system log c ⊎ BearsChild c.system log c
 queued_back c log cursor places family steps (inl alone) = inl alone
 queued_back c log cursor places family steps (inr (inl y)) = inr (inl (record {
   pid = y.pid;
@@ -122,4 +125,5 @@ queued_back c log cursor places family steps (inr (inl y)) = inr (inl (record {
   since = y.since;
   unmarked = y.unmarked;
 }))
-queued_back c log cursor places family steps (inr (inr b)) = inr (inr (record { pid = b.pid; process = b.process; child = b.child; posts = b.posts; there = b.there; stands = b.stands; undue = b.undue; next = b.next }))
+queued_back c log cursor places family steps (inr (inr b)) =
+    inr (inr (record { pid = b.pid; process = b.process; child = b.child; posts = b.posts; there = b.there; stands = b.stands; undue = b.undue; next = b.next }))

@@ -1,4 +1,3 @@
--- How a process that is here stands: a letter that comes to it, and its steps of roll-forward.
 use Rattle.std.proofs.Common.{◌≡◌, ℕ, zero, suc, ◌+◌, ◌≤◌, ◌<◌, false, Option, Some, None, option_map, option_and_then, refl, sym, ap, subst, arith}
 use Rattle.std.proofs.lemmas.Bool.{false≢true}
 use Rattle.std.specs.Prelude.{IsTrue, List, ◌∷◌, [], min, unwrap_or, Result, Ok, Err, OnOk, OnErr}
@@ -9,7 +8,7 @@ use Rattle.t32_base.specs.declared.process.Counts.{Counts}
 use Rattle.t32_base.specs.declared.letter.Letter.{Letter}
 use Rattle.t32_base.specs.declared.streams.NoMemory.{NoMemory}
 use Rattle.proc_state.specs.declared.process.Process.{Process}
-use Rattle.proc_state.specs.State.{ProcState, state_of, delivered, SameRest}
+use Rattle.proc_state.specs.State.{ProcState, state_of, delivered}
 use Rattle.sys_calls.specs.declared.steps.Emission.TheVariants.{Mail as Sent, Exit as Ended}
 use Rattle.sys_calls.specs.Calls.{Next, Silent, Blocked, Forks, Emits, Over}
 use Rattle.sys_calls.specs.Next.{next_step}
@@ -24,15 +23,12 @@ use Rattle.plain_kernel.proofs.Entries.{some_same}
 use Rattle.recovery.specs.Begun.{begun}
 use Rattle.page_waits.specs.Waiting.{WaitingState, CanGoOn, rolling_of, start_of}
 use Rattle.cluster_core.specs.declared.resident.Standing.TheVariants.{Runs as IsRunning, Rolls as IsRolling}
-use Rattle.cluster_core.specs.View.{Rolls, arrived}
+use Rattle.cluster_core.specs.View.{Rolls}
 use Rattle.cluster_core.specs.Quantum.{RollsOn}
 use Rattle.cluster_core.specs.ForkingAgain.{HasRolled, StandsAtForkAgain}
 use Rattle.cluster_core.specs.Resident.{StandsSo, held_standing}
 
 -- ---- a letter
-
-pub arrived_is : (was now : Process) (letter : Letter) → state_of now ≡ delivered (state_of was) letter → SameRest was now → now ≡ arrived was letter
-arrived_is was now letter is rest = λ i. record { small = (is i).small; ram = rest.ram i; mail = record { letters = (is i).mail; next = (is i).next }; read = rest.read i; since = rest.since i }
 
 -- one that rolls forward stands so still
 pub delivered_stands : (old new : RollingState) (letter : Letter) (result : Result (Unit {0}) NoMemory) → StandsSo (Some (IsRolling old)) → OnOk result (state_of new.process ≡ delivered (state_of old.process) letter)

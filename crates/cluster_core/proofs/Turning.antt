@@ -1,4 +1,3 @@
--- What a work of its parts makes of a cluster.
 use Rattle.std.proofs.Common.{◌≡◌, ◌⊎◌, ℕ, ◌<◌, Bool, ◌&&◌, not, refl, sym, ◌∙◌, ap, subst, List, [], ◌∷◌, ◌++◌, map, Option, Some, None, is_none, true, false, eq-eqb, inl, inr}
 use Rattle.std.specs.List.{list_all}
 use Rattle.std.proofs.lemmas.Bool.{and_from, or_left}
@@ -8,11 +7,9 @@ use Rattle.proc_state.specs.State.{state_of}
 use Rattle.sync_point.specs.Batch.{batch, marked_pages, page_post, sync_post, synced}
 use Rattle.sys_calls.specs.declared.steps.Emission.{Emission}
 use Rattle.sys_calls.specs.declared.steps.Emission.TheVariants.{Mail as SentMail, Exit as SentExit}
-use Rattle.bus_msg.specs.declared.entry.What.{What}
 use Rattle.bus_msg.specs.declared.entry.Post.{Post}
 use Rattle.sys_text.specs.Valid.{is_system}
-use Rattle.channel_table.specs.Changes.{is_birth}
-use Rattle.cert_sched.specs.Built.{is_unlost, tells_or_closes}
+use Rattle.cert_sched.specs.Built.{is_unlost}
 use Rattle.cert_sched.specs.Losses.{is_from}
 use Rattle.t32_base.specs.declared.process.ClusterNo.{ClusterNo}
 use Rattle.page_server.specs.Account.{PagerState}
@@ -50,12 +47,7 @@ use Rattle.cluster_core.proofs.Acting.{ActsThere, fork_acts, moved_acts, sent_ac
 use Rattle.cluster_core.proofs.FollowsAgain.{again_follows}
 use Rattle.cluster_core.proofs.OwningAgain.{own_again}
 use Rattle.cluster_core.proofs.RollingParts.{none_again}
-use Rattle.cluster_core.proofs.ByKind.{by_kind}
 use Rattle.cluster_core.proofs.Working.{moved_view, moved_goes_on, moved_work, posted_goes_on, posted_view, posted_work, some_moves, goes_on_rested}
-
--- an entry of a kind that is built is no birth
-pub built_no_birth : (w : What) → tells_or_closes w ≡ true → is_birth w ≡ false
-built_no_birth = by_kind (λ w. is_birth w ≡ false) (λ at letter. refl) (λ pid at end. refl) (λ rests. refl) refl
 
 -- what is posted is the cluster's own, and of a kind that is built
 told_own : (k : ClusterNo) (p : Pid) (at : ℕ) (e : Emission) → (is_from k (post_told k p at e).by && true) ≡ true

@@ -33,8 +33,10 @@ all_hear : (places : Places) (k : ClusterNo) → lives_in places k ≡ true → 
 all_hear places k lives = named_goes places k (all_clusters places) lives (all_named places k lives)
 
 -- what holds of each kind that may pass a cluster by holds of every entry that does
-pub by_unheard : (P : What → Type 0) → ((at : ℕ) (letter : Letter) → P (Mail at letter)) → ((pid : Pid) (at index : ℕ) (bytes : List ℕ) → P (Page pid at index bytes)) → ((pid : Pid) (small : SmallState) (read : List ℕ) (took : Option ℕ) → P (Sync pid small read took))
-    → ((pid : Pid) (index : ℕ) → P (Fetch pid index)) → ((pid : Pid) (index : ℕ) (bytes : List ℕ) → P (PageIs pid index bytes)) → (places : Places) (k : ClusterNo) → lives_in places k ≡ true → (w : What) → is_built w ≡ true → goes_to (route places w) k ≡ false → P w
+pub by_unheard : (P : What → Type 0) → ((at : ℕ) (letter : Letter) → P (Mail at letter)) → ((pid : Pid) (at index : ℕ) (bytes : List ℕ) → P (Page pid at index bytes))
+    → ((pid : Pid) (small : SmallState) (read : List ℕ) (took : Option ℕ) → P (Sync pid small read took))
+    → ((pid : Pid) (index : ℕ) → P (Fetch pid index)) → ((pid : Pid) (index : ℕ) (bytes : List ℕ) → P (PageIs pid index bytes)) → (places : Places) (k : ClusterNo) → lives_in places k ≡ true
+        → (w : What) → is_built w ≡ true → goes_to (route places w) k ≡ false → P w
 by_unheard P mail page cut fetch come places k lives (Mail at letter) built away = mail at letter
 by_unheard P mail page cut fetch come places k lives (Page pid at index bytes) built away = page pid at index bytes
 by_unheard P mail page cut fetch come places k lives (Sync pid small read took) built away = cut pid small read took
@@ -57,13 +59,17 @@ first_of_either false c is = absurd (true≢false (sym is))
 -- a page for a process at home here goes here
 pub page_goes : (places : Places) (k : ClusterNo) (p : Pid) (index : ℕ) (bytes : List ℕ) → lives_in places k ≡ true → HomeHere places p k → goes_to (route places (PageIs p index bytes)) k ≡ true
 page_goes places k p index bytes lives home =
-    let named : list_any (λ j. same_cluster j k) (home_of places p) ≡ true = ap (λ o. list_any (λ j. same_cluster j k) (option_map_or (λ (q : Placed). q.home ∷ []) o [])) home.found ∙ first_of_either (same_cluster (home.placed).home k) false home.home in
-    named_goes places k (home_of places p ++ servers_in places) lives (list_any-append (λ j. same_cluster j k) (home_of places p) (servers_in places) ∙ first_of_either _ (list_any (λ j. same_cluster j k) (servers_in places)) named)
+    let named : list_any (λ j. same_cluster j k) (home_of places p) ≡ true =
+        ap (λ o. list_any (λ j. same_cluster j k) (option_map_or (λ (q : Placed). q.home ∷ []) o [])) home.found ∙ first_of_either (same_cluster (home.placed).home k) false home.home in
+    named_goes places k (home_of places p ++ servers_in places) lives (list_any-append (λ j. same_cluster j k) (home_of places p) (servers_in places)
+        ∙ first_of_either _ (list_any (λ j. same_cluster j k) (servers_in places)) named)
 
 -- a cut of a process whose backup is here goes here
-pub cut_goes : (places : Places) (k : ClusterNo) (p : Pid) (q : Placed) (small : SmallState) (read : List ℕ) (took : Option ℕ) → lives_in places k ≡ true → unended_at places p ≡ Some q → is_cluster q.backup k ≡ true → goes_to (route places (Sync p small read took)) k ≡ true
+pub cut_goes : (places : Places) (k : ClusterNo) (p : Pid) (q : Placed) (small : SmallState) (read : List ℕ) (took : Option ℕ) → lives_in places k ≡ true → unended_at places p ≡ Some q
+    → is_cluster q.backup k ≡ true → goes_to (route places (Sync p small read took)) k ≡ true
 cut_goes places k p q small read took lives found backup =
-    named_goes places k (backup_of places p ++ servers_in places) lives (list_any-append (λ j. same_cluster j k) (backup_of places p) (servers_in places) ∙ first_of_either _ (list_any (λ j. same_cluster j k) (servers_in places)) (by_backup q.backup refl backup))
+    named_goes places k (backup_of places p ++ servers_in places) lives (list_any-append (λ j. same_cluster j k) (backup_of places p) (servers_in places)
+        ∙ first_of_either _ (list_any (λ j. same_cluster j k) (servers_in places)) (by_backup q.backup refl backup))
   where
     by_backup : (o : Option ClusterNo) → q.backup ≡ o → is_cluster o k ≡ true → list_any (λ j. same_cluster j k) (backup_of places p) ≡ true
     by_backup None is named = absurd (true≢false (sym named))
@@ -81,7 +87,8 @@ abbrev pub is_elsewhere : ClusterNo → Placed → Bool
 is_elsewhere k q = not (same_cluster q.home k) && not (is_cluster q.backup k)
 
 -- each process with the pid is so, of which one has not ended
-pub all_elsewhere : (k : ClusterNo) (p : Pid) (q : Placed) (qs : List Placed) → pids_differ qs ≡ true → find (λ (q : Placed). same_pid q.pid p && not q.ended) qs ≡ Some q → is_elsewhere k q ≡ true → list_all (λ (q : Placed). not (same_pid q.pid p) || is_elsewhere k q) qs ≡ true
+pub all_elsewhere : (k : ClusterNo) (p : Pid) (q : Placed) (qs : List Placed) → pids_differ qs ≡ true → find (λ (q : Placed). same_pid q.pid p && not q.ended) qs ≡ Some q → is_elsewhere k q ≡ true
+    → list_all (λ (q : Placed). not (same_pid q.pid p) || is_elsewhere k q) qs ≡ true
 all_elsewhere k p q [] differ found elsewhere = refl
 all_elsewhere k p q (r ∷ qs) differ found elsewhere = by_tests (same_pid r.pid p) (not r.ended) refl refl found (λ apart at. all_elsewhere k p q qs apart at elsewhere)
   where
@@ -97,11 +104,13 @@ all_elsewhere k p q (r ∷ qs) differ found elsewhere = by_tests (same_pid r.pid
     parts = halves (not (list_any (λ (s : Placed). same_pid s.pid r.pid) qs)) (pids_differ qs) differ
 
     -- none of the others has its pid
-    no_other : (ss : List Placed) → same_pid r.pid p ≡ true → list_any (λ (s : Placed). same_pid s.pid r.pid) ss ≡ false → list_all (λ (s : Placed). not (same_pid s.pid p) || is_elsewhere k s) ss ≡ true
+    no_other : (ss : List Placed) → same_pid r.pid p ≡ true → list_any (λ (s : Placed). same_pid s.pid r.pid) ss ≡ false
+        → list_all (λ (s : Placed). not (same_pid s.pid p) || is_elsewhere k s) ss ≡ true
     no_other [] is none = refl
     no_other (s ∷ ss) is none = by_first (same_pid s.pid r.pid) refl none (no_other ss is)
       where
-        by_first : (b : Bool) → same_pid s.pid r.pid ≡ b → (b || list_any (λ (s : Placed). same_pid s.pid r.pid) ss) ≡ false → (list_any (λ (s : Placed). same_pid s.pid r.pid) ss ≡ false → list_all (λ (s : Placed). not (same_pid s.pid p) || is_elsewhere k s) ss ≡ true)
+        by_first : (b : Bool) → same_pid s.pid r.pid ≡ b → (b || list_any (λ (s : Placed). same_pid s.pid r.pid) ss) ≡ false
+            → (list_any (λ (s : Placed). same_pid s.pid r.pid) ss ≡ false → list_all (λ (s : Placed). not (same_pid s.pid p) || is_elsewhere k s) ss ≡ true)
             → ((not (same_pid s.pid p) || is_elsewhere k s) && list_all (λ (s : Placed). not (same_pid s.pid p) || is_elsewhere k s) ss) ≡ true
         by_first true same none more = absurd (true≢false none)
         by_first false apart none more =
@@ -113,7 +122,8 @@ all_elsewhere k p q (r ∷ qs) differ found elsewhere = by_tests (same_pid r.pid
     none_found [] is none = refl
     none_found (s ∷ ss) is none = by_first (same_pid s.pid r.pid) refl none (none_found ss is)
       where
-        by_first : (b : Bool) → same_pid s.pid r.pid ≡ b → (b || list_any (λ (s : Placed). same_pid s.pid r.pid) ss) ≡ false → (list_any (λ (s : Placed). same_pid s.pid r.pid) ss ≡ false → find (λ (q : Placed). same_pid q.pid p && not q.ended) ss ≡ None)
+        by_first : (b : Bool) → same_pid s.pid r.pid ≡ b → (b || list_any (λ (s : Placed). same_pid s.pid r.pid) ss) ≡ false
+            → (list_any (λ (s : Placed). same_pid s.pid r.pid) ss ≡ false → find (λ (q : Placed). same_pid q.pid p && not q.ended) ss ≡ None)
             → cond (same_pid s.pid p && not s.ended) (Some s) (find (λ (q : Placed). same_pid q.pid p && not q.ended) ss) ≡ None
         by_first true same none more = absurd (true≢false none)
         by_first false apart none more =
@@ -133,7 +143,8 @@ all_elsewhere k p q (r ∷ qs) differ found elsewhere = by_tests (same_pid r.pid
 -- ---- the placement
 
 -- what is known stays known where a process synchronises of which the mark may be missed
-sync_one : (system : System) (k : ClusterNo) (p : Pid) (known q : Placed) → (not (same_pid q.pid p) || is_elsewhere k q) ≡ true → KnowsPlaced system k known q → KnowsPlaced system k known (after_sync p q)
+sync_one : (system : System) (k : ClusterNo) (p : Pid) (known q : Placed) → (not (same_pid q.pid p) || is_elsewhere k q) ≡ true → KnowsPlaced system k known q
+    → KnowsPlaced system k known (after_sync p q)
 sync_one system k p known q elsewhere knows = by_pid (same_pid q.pid p) refl elsewhere
   where
     or_true : (b : Bool) → (b || true) ≡ true
@@ -155,7 +166,8 @@ sync_one system k p known q elsewhere knows = by_pid (same_pid q.pid p) refl els
     by_pid true is away = subst (λ b. KnowsPlaced system k known (cond b (record q { synced = true }) q)) (sym is) (by_known away knows)
     by_pid false is away = subst (λ b. KnowsPlaced system k known (cond b (record q { synced = true }) q)) (sym is) knows
 
-pub sync_each : (system : System) (k : ClusterNo) (p : Pid) (known qs : List Placed) → list_all (λ (q : Placed). not (same_pid q.pid p) || is_elsewhere k q) qs ≡ true → KnowsEach system k known qs → KnowsEach system k known (map (after_sync p) qs)
+pub sync_each : (system : System) (k : ClusterNo) (p : Pid) (known qs : List Placed) → list_all (λ (q : Placed). not (same_pid q.pid p) || is_elsewhere k q) qs ≡ true → KnowsEach system k known qs
+    → KnowsEach system k known (map (after_sync p) qs)
 sync_each system k p [] [] elsewhere knows = tt
 sync_each system k p [] (q ∷ qs) elsewhere knows = absurd knows
 sync_each system k p (r ∷ known) [] elsewhere knows = absurd knows

@@ -74,7 +74,8 @@ pub record HasHeard (system : System) (log : List Entry) (c : ClusterView) : Typ
 
 -- its kernel steps are at least one for each entry that went to it or that it sent, and one for a head that was tried
 pub record CountsHeard (log : List Entry) (c : ClusterView) : Type 0 where
-  pub counted : was_lost_in log c.number ≡ false → capped (least_steps (heard_in c.number log) log c.number + (if c.tried then 1 else 0)) ≤ c.steps
+  pub counted : was_lost_in log c.number ≡ false
+      → capped (least_steps (heard_in c.number log) log c.number + (if c.tried then 1 else 0)) ≤ c.steps
 
 -- only one of the page servers that were never lost keeps accounts
 abbrev pub ServesThere : System → List Entry → ClusterView → Type 0
@@ -103,7 +104,8 @@ pub record FollowsHeard (system : System) (entries : List Entry) (c : ClusterVie
 
 -- what an entry makes of these births: one of a child whose parent is at home here, or has its backup here, comes last
 abbrev pub family_heard : Places → ClusterNo → What → List (Pid × Pid) → List (Pid × Pid)
-family_heard before k (Birth parent at child end) births = if concerns before k (child, parent) then births ++ (parent, child) ∷ [] else births
+family_heard before k (Birth parent at child end) births =
+    if concerns before k (child, parent) then births ++ (parent, child) ∷ [] else births
 family_heard before k w births = family_after w births
 
 -- the cluster with the next entry taken in that goes to it
@@ -114,7 +116,8 @@ with_heard c e = record (absorbed c e) { cursor = e.place + 1; family = family_h
 
 -- the cluster knows of a synchronisation that it has sent
 abbrev pub after_head_heard : ClusterView → What → ClusterView
-after_head_heard c (Sync pid small read took) = record c { places = with_each c.places (after_sync pid); family = family_after (Sync pid small read took) c.family }
+after_head_heard c (Sync pid small read took) =
+    record c { places = with_each c.places (after_sync pid); family = family_after (Sync pid small read took) c.family }
 after_head_heard c w = after_head c w
 
 -- the cluster whose head was sent

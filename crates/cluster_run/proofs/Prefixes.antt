@@ -1,9 +1,7 @@
 -- Beginnings of a log.
-use Rattle.std.proofs.Common.{◌≡◌, ℕ, zero, suc, refl, sym, ◌∙◌, ap, subst, List, [], ◌∷◌, ◌++◌, length, take, drop, Bool, false, true, ◌||◌, Some, slice_get, true≢false, ◌≢◌, eqb-true, ◌<◌, arith}
+use Rattle.std.proofs.Common.{◌≡◌, ℕ, zero, suc, refl, ◌∙◌, ap, subst, List, [], ◌∷◌, ◌++◌, length, take, drop, Bool, false, true, ◌||◌, Some, slice_get, true≢false, ◌≢◌, ◌<◌, arith}
 use Rattle.sys_text.specs.declared.system.System.{System}
-use Rattle.t32_base.specs.declared.process.ClusterNo.{ClusterNo}
 use Rattle.bus_msg.specs.declared.entry.Entry.{Entry}
-use Rattle.bus_msg.specs.Places.{same_cluster}
 use Rattle.cert_sched.specs.Rules.{is_over}
 use Rattle.cert_sched.specs.Legal.{IsLegalBy, IsLegalFrom}
 use Rattle.cert_sched.specs.Built.{BuiltMayFollow}
@@ -47,14 +45,6 @@ goes_on_before system log n e legal at =
     let more : IsLegalBy BuiltMayFollow system (take n log ++ e ∷ []) = subst (IsLegalBy BuiltMayFollow system) (take_one log n e at) (legal_prefix BuiltMayFollow system log (suc n) legal) in
     let may = IsLegal-last BuiltMayFollow system (take n log) e more in
     ((may.stands).placed).2
-
--- a cluster that is one is no other
-pub not_same : (i j k : ClusterNo) → same_cluster i k ≡ true → j.0 ≢ k.0 → same_cluster i j ≡ false
-not_same i j k same other = by_test (same_cluster i j) refl
-  where
-    by_test : (b : Bool) → same_cluster i j ≡ b → b ≡ false
-    by_test true is = absurd (other (sym (eqb-true i.0 j.0 is) ∙ eqb-true i.0 k.0 same))
-    by_test false is = refl
 
 -- a front has the same there
 pub get_front : {X : Type 0} (xs ys : List X) (n : ℕ) → n < length xs → slice_get (xs ++ ys) n ≡ slice_get xs n

@@ -165,21 +165,6 @@ module _ (b after : BusView) (cs : List ClusterView) (n : ℕ) (d new : ClusterV
     | inr more ↦ inr (subst (λ k. IsOver after ⊎ Rests b after k (k + 1)) number more)
   ]
 
--- no turn yet
-pub none_given : (b : BusView) (left : Remaining) (from : ℕ) → GetsOn b b left left from from
-none_given b left from = inr (inr (record {
-  system = refl;
-  log = refl;
-  marked = λ n low high. absurd (omega (arith, low, high));
-  answered = λ n low high. absurd (omega (arith, low, high));
-  kept = λ n has. has;
-  awaits = λ none any. none_or any;
-}))
-  where
-    none_or : LivesMarked b from from ⊎ IsAwaiting b → IsAwaiting b
-    none_or (inl one) = let low = one.low in let high = one.high in absurd (omega (arith, low, high))
-    none_or (inr awaiting) = awaiting
-
 -- a cluster that waits for a page, and has answered, leaves the bus as it is
 pub waiting_rests : (b : BusView) (k : ClusterNo) → AwaitsPage b → HasAnswered b k.0 → Rests b b k.0 (k.0 + 1)
 waiting_rests b k waits answered = record {

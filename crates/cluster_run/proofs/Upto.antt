@@ -1,7 +1,6 @@
 -- Up to where a cluster follows a log.
 use Rattle.std.proofs.Common.{◌≡◌, ℕ, zero, suc, ◌+◌, ◌-◌, ◌≤◌, ◌<◌, refl, sym, ◌∙◌, ap, arith, List, [], ◌∷◌, length, take, slice_get, Bool, true, false, cond, not, ◌||◌, Some, None, is_some, true≢false, ◌++◌}
 use Rattle.std.specs.List.{list_any, position_or_len}
-use Rattle.std.proofs.lemmas.List.{take-append-le}
 use Rattle.std.proofs.lemmas.List.Folds.{list_any-append}
 use Rattle.std.proofs.lemmas.Option.{slice_get_within}
 use Rattle.t32_base.specs.declared.process.ClusterNo.{ClusterNo}
@@ -21,7 +20,7 @@ use Rattle.bus_order.proofs.OverLaws.{closed_some}
 use Rattle.script_laws.specs.Off.{IsItsLoss}
 use Rattle.script_laws.proofs.OffLosses.{lost_off, not_off_not_lost, off_is_its_loss}
 use Rattle.cluster_run.specs.Along.{upto}
-use Rattle.cluster_run.proofs.Prefixes.{either, get_front}
+use Rattle.cluster_run.proofs.Prefixes.{either}
 
 -- ---- the first that passes
 
@@ -127,14 +126,6 @@ upto_first k log at e there loses none_before =
 
 pub upto_loss : (k : ClusterNo) (log : List Entry) (at : ℕ) → IsItsLoss log k at → upto k log ≡ at
 upto_loss k log at loss = upto_first k log at loss.entry loss.there loss.loses loss.none_before
-
--- one that was lost in a part of the log follows as far in the whole
-pub upto_part : (k : ClusterNo) (part log rest : List Entry) (at : ℕ) → part ++ rest ≡ log → IsItsLoss part k at → upto k log ≡ upto k part
-upto_part k part log rest at is loss =
-    let within = slice_get_within part at loss.entry loss.there in
-    let there : slice_get log at ≡ Some loss.entry = ap (λ l. slice_get l at) (sym is) ∙ get_front part rest at within ∙ loss.there in
-    let none : was_lost_in (take at log) k ≡ false = ap (λ l. was_lost_in (take at l) k) (sym is) ∙ ap (λ l. was_lost_in l k) (take-append-le at part rest (omega (arith, within))) ∙ loss.none_before in
-    upto_first k log at loss.entry there loss.loses none ∙ sym (upto_loss k part at loss)
 
 -- ---- what the bus says
 

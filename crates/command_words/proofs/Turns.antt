@@ -6,12 +6,11 @@ use Rattle.std.specs.Option.{option_and_then, option_map_or}
 use Rattle.std.specs.Str.{IsUtf8, bytes_eq}
 use Rattle.clap.specs.Lexer.{long_of, short_of}
 use Rattle.clap.specs.Walk.{Held, Outcome, Row, Rule, Step, Waiting, Walk, after_flag, after_step, arg_by_id, arg_by_index, arg_by_long, arg_by_short, has_long, idle, is_pending, long_met, long_or_other, option, plain_word, positional, pushed, settled, settled_rows, subcommand_met, short_or_plain, subcommand_or_other, to_positional, used_by_id, trailing, value, walked, word_met}
-use Rattle.clap.specs.Simple.{Shape, built, new_shape}
+use Rattle.clap.specs.Simple.{Shape, new_shape}
 use Rattle.clap.specs.Kinds.{Kinds, or_else}
 use Rattle.clap.specs.Faults.{bundle_fault, bundle_step_fault, flag_word_fault, flags_fault, long_fault, other_fault, positional_fault, settle_fault, short_fault, step_fault, stray_fault, turn_fault, use_fault, word_fault}
 use Rattle.clap.specs.declared.error.kind.ErrorKind.TheVariants as kind
 use Rattle.command_words.specs.Options.{Text, Given, begins_with_hyphen, with_flag, with_pick, with_plain}
-use Rattle.command_words.specs.Grammar.{app_with}
 use Rattle.command_words.proofs.Booleans.{and_false}
 use Rattle.command_words.proofs.Lexical.{behind_hyphen, first_char, no_end, no_long, no_short}
 use Rattle.command_words.proofs.Rows.{Leads, Shows, flag_rule, flag_used, pick_rule, pick_used, word_used, words_rule}
@@ -30,10 +29,6 @@ shape_with flag picks = record (new_shape (codes "t32")) {
   disable_help_subcommand = true;
   is_built = true;
 }
-
-pub built_is : (flag : Text) (picks : Bool) → built (app_with flag picks) ≡ record { top = shape_with flag picks; subs = [] }
-built_is flag true = refl
-built_is flag false = refl
 
 -- ---- where a parse stands between two words
 

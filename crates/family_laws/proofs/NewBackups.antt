@@ -45,7 +45,8 @@ unsynced_after_standing places to recs p =
 -- a process that has run has synchronised by its new backup
 unsynced_after_fresh : (places : Places) (to : ClusterNo) (r : BackRec) (p : Pid) → is_unsynced (placed_after places (Rebackup to true (r ∷ []))) p ≡ (is_unsynced places p && not (same_pid p r.pid))
 unsynced_after_fresh places to r p =
-    ap never_synced (unended_map (after_rebackup to true (r ∷ [])) (backup_keeps to true (r ∷ [])) places (placed_after places (Rebackup to true (r ∷ []))) refl p) ∙ by_found (unended_at places p) refl
+    ap never_synced (unended_map (after_rebackup to true (r ∷ [])) (backup_keeps to true (r ∷ [])) places (placed_after places (Rebackup to true (r ∷ []))) refl p)
+        ∙ by_found (unended_at places p) refl
   where
     or_true : (b : Bool) → (b || true) ≡ true
     or_true true = refl
@@ -65,10 +66,12 @@ unsynced_after_fresh places to r p =
         by_name q (is_named (r ∷ []) q)
         ∙ ap (λ x. not q.synced && not x) (or_false (same_pid r.pid q.pid) ∙ same_pid-sym r.pid q.pid ∙ ap (λ s. same_pid s r.pid) (unended_pid places p q found))
 
-pub renewed_goes : (system : System) (log : List Entry) (e : Entry) (to : ClusterNo) (r : BackRec) → what e ≡ Rebackup to true (r ∷ []) → unsynced_births system (log ++ e ∷ []) ≡ filter (λ (b : Pair). not (same_pid b.1 r.pid)) (unsynced_births system log)
+pub renewed_goes : (system : System) (log : List Entry) (e : Entry) (to : ClusterNo) (r : BackRec) → what e ≡ Rebackup to true (r ∷ [])
+    → unsynced_births system (log ++ e ∷ []) ≡ filter (λ (b : Pair). not (same_pid b.1 r.pid)) (unsynced_births system log)
 renewed_goes system log e to r is = without_one system log e (Rebackup to true (r ∷ [])) r.pid is refl (unsynced_after_fresh (placement system log) to r)
 
-pub handed_on_stay : (system : System) (log : List Entry) (e : Entry) (to : ClusterNo) (recs : List BackRec) → what e ≡ Rebackup to false recs → unsynced_births system (log ++ e ∷ []) ≡ unsynced_births system log
+pub handed_on_stay : (system : System) (log : List Entry) (e : Entry) (to : ClusterNo) (recs : List BackRec) → what e ≡ Rebackup to false recs
+    → unsynced_births system (log ++ e ∷ []) ≡ unsynced_births system log
 handed_on_stay system log e to recs is = births_stay system log e (Rebackup to false recs) is refl (unsynced_after_standing (placement system log) to recs)
 
 pub returns_stay : (system : System) (log : List Entry) (e : Entry) (k : ClusterNo) → what e ≡ Return k → unsynced_births system (log ++ e ∷ []) ≡ unsynced_births system log

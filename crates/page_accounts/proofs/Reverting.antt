@@ -1,7 +1,6 @@
 -- The processes that a crash moves go back to their last cut, one after another.
-use Rattle.std.proofs.Common.{◌≡◌, ℕ, Bool, true, false, ◌&&◌, ◌||◌, not, cond, eqb, ◌+◌, ◌<◌, List, [], ◌∷◌, ◌++◌, length, take, get_or, refl, sym, ◌∙◌, ap, subst, arith, Some, None, slice_get}
+use Rattle.std.proofs.Common.{◌≡◌, ℕ, Bool, true, false, ◌&&◌, ◌||◌, not, cond, ◌+◌, ◌<◌, List, [], ◌∷◌, ◌++◌, length, take, get_or, refl, sym, ◌∙◌, ap, subst, arith, Some, None, slice_get}
 use Rattle.std.specs.Prelude.{filter}
-use Rattle.std.proofs.lemmas.Bool.Decides.{nat_tests}
 use Rattle.std.proofs.lemmas.List.{take_more}
 use Rattle.std.proofs.lemmas.List.Folds.{list_any-append}
 use Rattle.std.proofs.lemmas.Option.{slice_get-get_or}
@@ -11,7 +10,7 @@ use Rattle.t32_base.specs.declared.process.ClusterNo.{ClusterNo}
 use Rattle.bus_msg.specs.declared.placed.Placed.{Placed}
 use Rattle.bus_msg.specs.Places.{is_moved_by, same_pid}
 use Rattle.cert_sched.specs.Account.{Account, reverted}
-use Rattle.page_server.specs.Account.{PagerState, account, Changes, fetches_without}
+use Rattle.page_server.specs.Account.{PagerState, account}
 use Rattle.page_accounts.specs.Noting.{Reverts, is_moved_among}
 
 kept_all : (fs : List (Pid × ℕ)) → filter (λ (f : Pid × ℕ). true) fs ≡ fs
@@ -56,27 +55,9 @@ reverts_more some others k x y z first after = record {
 
 -- ---- one
 
-turned : (m n : ℕ) → eqb m n ≡ eqb n m
-turned m n = grind (arith, nat_tests)
-
-alone : (a b : Bool) → b ≡ true → a ≡ ((a && b) || false)
-alone true b is = sym (ap (λ c. c || false) is)
-alone false b is = refl
-
 never : (a b : Bool) → b ≡ false → ((a && b) || false) ≡ false
 never true b is = ap (λ c. c || false) is
 never false b is = refl
-
--- the crash moves it
-pub reverts_one : (q : Placed) (k : ClusterNo) (x y : PagerState) → is_moved_by k q ≡ true → Changes x y q.pid reverted → y.fetches ≡ fetches_without q.pid x.fetches → y.counts ≡ x.counts → Reverts (q ∷ []) k x y
-reverts_one q k x y moved accounts fetches counts = record {
-  accounts = λ p. accounts p ∙ ap (λ b. cond b (reverted (account x p)) (account x p)) (is p);
-  fetches = fetches ∙ (λ i. filter (λ (f : Pid × ℕ). not (is f.0 i)) x.fetches);
-  counts = counts;
-}
-  where
-    is : (p : Pid) → eqb p.0 (q.pid).0 ≡ is_moved_among (q ∷ []) k p
-    is p = turned p.0 (q.pid).0 ∙ alone (same_pid q.pid p) (is_moved_by k q) moved
 
 -- the crash does not
 pub reverts_not : (q : Placed) (k : ClusterNo) (x : PagerState) → is_moved_by k q ≡ false → Reverts (q ∷ []) k x x

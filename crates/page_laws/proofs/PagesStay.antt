@@ -148,12 +148,6 @@ counted (Some s) = refl
 pub page_count-kernel : (system : System) (log : List Entry) (k : Kernel) (p : Pid) → plain_after system log ≡ Some k → page_count system log p ≡ option_map_or (λ (n : ℕ). n) (pages_at k p) 0
 page_count-kernel system log k p is = ap (λ o. option_map_or (λ (s : ProcState). (s.small).pages) (option_and_then (λ k. process_at k p) o) 0) is ∙ counted (process_at k p)
 
--- a process that was there at boot has as many pages as there
-pub page_count-boot : (system : System) (log : List Entry) (k : Kernel) (p : Pid) (s : ProcState) → plain_after system log ≡ Some k → process_at (boot system) p ≡ Some s → page_count system log p ≡ (s.small).pages
-page_count-boot system log k p s is first =
-    page_count-kernel system log k p is
-    ∙ ap (λ o. option_map_or (λ (n : ℕ). n) o 0) (log_keeps_all (λ k. pages_at k p ≡ Some (s.small).pages) (step_keeps p (s.small).pages) (fork_keeps p (s.small).pages) (take_keeps p (s.small).pages) system log k (ap pages_in first) is)
-
 -- no process has more than the most of those at boot
 pub page_count-most : (system : System) (log : List Entry) (p : Pid) (most : ℕ) → EachPages (λ n. n ≤ most) (boot system) → page_count system log p ≤ most
 page_count-most system log p most each = by_kernel (plain_after system log) refl

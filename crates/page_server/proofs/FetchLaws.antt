@@ -105,9 +105,6 @@ fits_none None = refl
 fits_none (Some false) = omega arith
 fits_none (Some true) = tt
 
-pub noted_none : (notes : Notes) → Noted notes []
-noted_none notes pid i = fits_none (get page_cmp notes (pid, i))
-
 abbrev Becomes : Notes → Notes → ℕ → ℕ → Option Bool → Type 0
 Becomes old new pid i note = (q : ℕ × ℕ) → get page_cmp new q ≡ cond (is_at (page_cmp (pid, i)) q) note (get page_cmp old q)
 

@@ -150,13 +150,6 @@ rows_there slots m n pid change moves b there q pages found = by_test (same_or_n
         subst (λ (x : Pages). AllThere slots x.place x.table) w.2 (moved w.0 (there pid w.0 w.1))
     by_test (inr other) = there q pages (sym (stayed m n pid _ b q other) ∙ found)
 
-pub gone_there : (slots : Slots) (m n : Processes) (pid : ℕ) → Becomes m n pid None → EachThere slots m → EachThere slots n
-gone_there slots m n pid b there q pages found = by_test (same_or_not q pid)
-  where
-    by_test : ((q ≡ pid) ⊎ (q ≡ pid → ⊥)) → AllThere slots pages.place pages.table
-    by_test (inl e) = absurd (none_not_some pages (sym (became m n pid None b q e) ∙ found))
-    by_test (inr other) = there q pages (sym (stayed m n pid None b q other) ∙ found)
-
 -- ---- a process that came without pages
 
 pub admitted : (slots : Slots) (m n : Processes) → Admits m n → (q : ℕ) → account_in slots (get nat_cmp n q) ≡ account_in slots (get nat_cmp m q)

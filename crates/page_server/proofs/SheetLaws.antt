@@ -71,14 +71,6 @@ row_added row new at n page h e = λ j k. (ap (λ r. in_row r k) is ∙ by_place
     by_place k (inl same) = at_end (row ++ replicate n None) (Some page) k (same ∙ sym long) ∙ sym (written_here (in_row row) at page k same)
     by_place k (inr other) = not_at_end (row ++ replicate n None) (Some page) k (λ x. other (x ∙ long)) ∙ filled row n k ∙ sym (not_written (in_row row) at page k other)
 
--- a page comes in the place of another
-pub row_put : (row : Row) (at : ℕ) (page : List ℕ) → at < length row → in_row (set row at (Some page)) ≡ written (in_row row) at page
-row_put row at page h = λ j k. by_place k (same_or_not k at) j
-  where
-    by_place : (k : ℕ) → ((k ≡ at) ⊎ (k ≡ at → ⊥)) → in_row (set row at (Some page)) k ≡ written (in_row row) at page k
-    by_place k (inl same) = get_or-set_at row at k (Some page) None same h ∙ sym (written_here (in_row row) at page k same)
-    by_place k (inr other) = get_or-set_other row at k (Some page) None other ∙ sym (not_written (in_row row) at page k other)
-
 -- ---- a sheet
 
 empty_row : (rows : Rows) (k : ℕ) → get_or (rows ++ [] ∷ []) k [] ≡ get_or rows k []

@@ -1,5 +1,5 @@
 -- The channels of a system, one at a time.
-use Rattle.std.proofs.Common.{◌≡◌, ℕ, zero, suc, ◌+◌, ◌-◌, ◌<◌, ◌≤◌, true, List, [], ◌∷◌, ◌++◌, length, take, fold, get_or, refl, sym, ap, ◌∙◌, arith, is_some, Some, None, append_assoc, append-nil}
+use Rattle.std.proofs.Common.{◌≡◌, ℕ, zero, suc, ◌+◌, ◌-◌, ◌<◌, ◌≤◌, true, List, [], ◌∷◌, ◌++◌, length, take, get_or, refl, sym, ap, ◌∙◌, arith, is_some, Some, None, append_assoc, append-nil}
 use Rattle.std.specs.Prelude.{slice_get}
 use Rattle.std.specs.List.{count_by}
 use Rattle.std.specs.FinMap.{put}
@@ -7,8 +7,6 @@ use Rattle.std.specs.List.Sorted.{IsStrictlySortedBy}
 use Rattle.std.specs.Ordering.{nat_cmp}
 use Rattle.std.specs.Map.{lookup, set_value}
 use Rattle.std.specs.Option.{option_map_or}
-use Rattle.std.proofs.lemmas.List.{take_more}
-use Rattle.std.proofs.lemmas.List.Sums.{fold-append}
 use Rattle.std.proofs.lemmas.Map.Entries.{sum_by-set_value}
 use Rattle.std.proofs.lemmas.Option.{slice_get-get_or}
 use Rattle.t32_base.specs.declared.process.Pid.{Pid}
@@ -19,7 +17,7 @@ use Rattle.sys_text.specs.declared.system.Root.{Root}
 use Rattle.sys_text.specs.Valid.{is_system}
 use Rattle.sys_text.specs.Boot.{pid_of as pid_in, with_pids}
 use Rattle.sys_text.proofs.Bounds.{ChanBounds, chan_bounds}
-use Rattle.plain_kernel.specs.Kernel.{free_end_at, pid_cmp, root_pid, with_chan}
+use Rattle.plain_kernel.specs.Kernel.{free_end_at, pid_cmp, root_pid}
 use Rattle.plain_kernel.specs.Maps.{at_key, pid_of}
 use Rattle.plain_kernel.specs.Starts.{starts_in, starts_load, state_load, LinksStart}
 use Rattle.plain_kernel.proofs.Entries.{keys, lookup_start, put_seen}
@@ -62,13 +60,6 @@ linked_nowhere old new pid peer far none same = record {
 }
 
 -- ---- one more channel
-
-pub chan_more : (system : System) (start : List (Pid × ProcState)) (n : ℕ) (d : ℕ × ℕ) (old new : List (Pid × ProcState)) → n < length system.chans
-    → old ≡ fold (with_chan system) start (take n system.chans) → new ≡ with_chan system old (get_or system.chans n d)
-    → new ≡ fold (with_chan system) start (take (n + 1) system.chans)
-chan_more system start n d old new within before one =
-    one ∙ ap (λ ps. with_chan system ps (get_or system.chans n d)) before
-    ∙ sym (ap (fold (with_chan system) start) (take_more system.chans n d within) ∙ fold-append (with_chan system) start (take n system.chans) (get_or system.chans n d ∷ []))
 
 pub chan_at : (system : System) (n : ℕ) (d : ℕ × ℕ) → is_system system ≡ true → n < length system.chans → ChanBounds system (get_or system.chans n d)
 chan_at system n d valid within = chan_bounds system n (get_or system.chans n d) valid (slice_get-get_or system.chans n d within)

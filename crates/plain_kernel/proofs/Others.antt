@@ -156,26 +156,6 @@ one_step-small p k j q made apart = let m = step_made p k j made in m.smalls_are
 pub one_step-other : (p : Pid) (k j : Kernel) (q : Pid) → one_step p k ≡ Some j → q.0 ≢ p.0 → steps_at j q ≡ steps_at k q
 one_step-other p k j q made apart = steps_at-same j k q (one_step-small p k j q made apart)
 
--- what a step sends goes to no process
-abbrev pub is_quiet : Next → Bool
-is_quiet (Silent t) = true
-is_quiet Blocked = true
-is_quiet Forks = true
-is_quiet (Emits e t) = is_outward e
-is_quiet Over = true
-
--- then every other process is unchanged
-pub one_step-quiet : (p : Pid) (k j : Kernel) (s : ProcState) (q : Pid) → process_at k p ≡ Some s → is_quiet (next_step s) ≡ true → one_step p k ≡ Some j → q.0 ≢ p.0 → process_at j q ≡ process_at k q
-unfolding one_step
-one_step-quiet p k j s q there quiet made apart = by_next (next_step s) quiet (sym (ap (option_and_then (λ s. after_step k p (next_step s))) there) ∙ made)
-  where
-    by_next : (next : Next) → is_quiet next ≡ true → after_step k p next ≡ Some j → process_at j q ≡ process_at k q
-    by_next (Silent t) out e = ap (λ i. process_at i q) (sym (some_same (with_process k p t) j e)) ∙ process_at-other k p t q apart
-    by_next (Emits what t) out e = ap (λ i. process_at i q) (sym (some_same (emitted (with_process k p t) what) j e)) ∙ process_at-outward (with_process k p t) what q out ∙ process_at-other k p t q apart
-    by_next Blocked out e = cc
-    by_next Forks out e = cc
-    by_next Over out e = cc
-
 -- ---- several steps
 
 -- the kernel before the last of some steps

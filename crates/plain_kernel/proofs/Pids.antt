@@ -18,10 +18,10 @@ use Rattle.sys_calls.specs.declared.steps.Emission.TheVariants.{Mail, Exit}
 use Rattle.sys_calls.specs.Calls.{Next, Silent, Blocked, Forks, Emits, Over}
 use Rattle.sys_calls.specs.Next.{next_step}
 use Rattle.plain_kernel.specs.Kernel.{Kernel, pid_cmp, process_at, with_process, letter_put, letter_to, emitted}
-use Rattle.plain_kernel.specs.Apply.{after_step, one_step, steps}
+use Rattle.plain_kernel.specs.Apply.{after_step, one_step}
 use Rattle.plain_kernel.proofs.Entries.{some_same}
 use Rattle.plain_kernel.proofs.Laws.{pid_cmp_total, process_at-with_process}
-use Rattle.plain_kernel.proofs.Others.{small_at, step_made, steps-keep}
+use Rattle.plain_kernel.proofs.Others.{small_at, step_made}
 
 -- ---- the pids stay
 
@@ -106,10 +106,6 @@ one_step-pids pids p k j has made = by_process (process_at k p) refl made
     by_process : (o : Option ProcState) → process_at k p ≡ o → option_and_then (λ s. after_step k p (next_step s)) o ≡ Some j → HasPids pids j
     by_process None there e = cc
     by_process (Some s) there e = by_next s (next_step s) there e
-
--- so the pids stay
-pub steps-pids : (pids : List Pid) (n : ℕ) (p : Pid) (k j : Kernel) → HasPids pids k → steps n p k ≡ Some j → HasPids pids j
-steps-pids pids n p k j has made = steps-keep (HasPids pids) (one_step-pids pids) n p k j has made
 
 -- ---- each process has the pid under which it stands
 

@@ -127,8 +127,3 @@ unfolding boot
 booted system ps ts p t =
     (λ i. record { processes = p i; ttys = t i })
     ∙ ap (λ (k : Kernel). record k { processes = fold (with_chan system) k.processes system.chans }) (sym (booted_roots system))
-
--- without channels the roots are the kernel at its start
-pub unlinked_boot : (system : System) → system.chans ≡ [] → boot system ≡ boot_roots system
-unfolding boot
-unlinked_boot system none = ap (λ chans. record (boot_roots system) { processes = fold (with_chan system) (boot_roots system).processes chans }) none

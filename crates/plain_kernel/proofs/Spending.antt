@@ -1,6 +1,6 @@
 -- The steps that a process has made and those that it has left, at most, are together never more than it had left at boot.
 use Rattle.std.proofs.Common.{◌≡◌, ℕ, ◌+◌, ◌≤◌, refl, sym, ◌∙◌, ap, subst, arith, List, [], ◌∷◌, ◌++◌, length, Bool, true, false, eqb, eqb-true, eq-eqb, Option, Some, None, true≢false}
-use Rattle.std.specs.Prelude.{fold, option_and_then, option_map}
+use Rattle.std.specs.Prelude.{fold, option_map}
 use Rattle.std.specs.List.{list_all}
 use Rattle.std.specs.Option.{option_map_or}
 use Rattle.std.proofs.lemmas.List.Sums.{count_by-le-length}
@@ -16,16 +16,11 @@ use Rattle.sys_text.proofs.Bounds.{first_of_two, second_of_two, root_fits, root_
 use Rattle.proc_state.specs.State.{ProcState, linked_to}
 use Rattle.proc_state.proofs.Linking.{length-linked}
 use Rattle.sys_calls.specs.Small.{weight}
-use Rattle.sys_calls.specs.Calls.{Next, Silent, Blocked, Forks, Emits, Over}
-use Rattle.sys_calls.specs.Next.{next_step}
-use Rattle.sys_calls.proofs.Counting.{silent_counts, emits_counts}
-use Rattle.sys_calls.proofs.Weighing.{Leaves, emits_leaves, next_leaves}
-use Rattle.plain_kernel.specs.Kernel.{Kernel, boot, boot_roots, empty, emitted, process_at, root_process, with_process, with_root}
-use Rattle.plain_kernel.specs.Apply.{after_step, one_step}
+use Rattle.plain_kernel.specs.Kernel.{Kernel, boot, boot_roots, empty, process_at, root_process, with_process, with_root}
 use Rattle.plain_kernel.proofs.Entries.{some_same}
 use Rattle.plain_kernel.proofs.Laws.{process_at-same}
 use Rattle.plain_kernel.proofs.AtBoot.{boot-steps, chans-keep}
-use Rattle.plain_kernel.proofs.Others.{small_at, small_at-other, small_at-emitted}
+use Rattle.plain_kernel.proofs.Others.{small_at, small_at-other}
 
 -- each process of a kernel, but for its memory and its mailbox, has this under its pid
 abbrev pub EachSmall : (Pid → SmallState → Type 0) → Kernel → Type 0
@@ -50,31 +45,6 @@ found_small k p s there = ap (option_map (λ (s : ProcState). s.small)) there
 -- the steps made and those left, at most, are within the bound of the process
 abbrev pub IsWithin : (Pid → ℕ) → Pid → SmallState → Type 0
 IsWithin bound p small = small.steps + weight small ≤ bound p
-
--- a step keeps each process within
-pub one_step-within : (bound : Pid → ℕ) (p : Pid) (k j : Kernel) → EachSmall (IsWithin bound) k → one_step p k ≡ Some j → EachSmall (IsWithin bound) j
-unfolding one_step
-one_step-within bound p k j within made = by_process (process_at k p) refl made
-  where
-    by_next : (s : ProcState) (next : Next) → process_at k p ≡ Some s → next_step s ≡ next → after_step k p next ≡ Some j → EachSmall (IsWithin bound) j
-    by_next s (Silent t) there is e =
-        let before = within p s.small (found_small k p s there) in
-        let less : weight t.small + 1 ≤ weight s.small = subst (Leaves s) is (next_leaves s) in
-        let one = silent_counts s t is in
-        subst (EachSmall (IsWithin bound)) (some_same (with_process k p t) j e) (put_small (IsWithin bound) k p t within (omega (arith, before, less, one.steps)))
-    by_next s (Emits what t) there is e =
-        let before = within p s.small (found_small k p s there) in
-        let less = emits_leaves s t what is in
-        let one = emits_counts s t what is in
-        subst (EachSmall (IsWithin bound)) (some_same (emitted (with_process k p t) what) j e)
-        (λ q x at. put_small (IsWithin bound) k p t within (omega (arith, before, less, one.steps)) q x (sym (small_at-emitted (with_process k p t) what q) ∙ at))
-    by_next s Blocked there is e = cc
-    by_next s Forks there is e = cc
-    by_next s Over there is e = cc
-
-    by_process : (o : Option ProcState) → process_at k p ≡ o → option_and_then (λ s. after_step k p (next_step s)) o ≡ Some j → EachSmall (IsWithin bound) j
-    by_process None there e = cc
-    by_process (Some s) there e = by_next s (next_step s) there refl e
 
 -- ---- the start
 

@@ -306,11 +306,6 @@ applies_run (Err (Disabled done)) pid most ps qs ts us some runs =
     (not_none most (kernel_of ps ts) (pid_of pid) some ∙ steps_stuck done most (pid_of pid) (kernel_of ps ts) (kernel_of qs us) runs.0 runs.3 runs.2, runs.0, inr (runs.2, runs.3))
 applies_run (Err (NoStepMemory done)) pid most ps qs ts us some runs = (runs.0, runs.2)
 
-pub no_longer : (r : Result (Unit {0}) NotApplied) (pid most : ℕ) (ps qs : List (ℕ × Process)) (ts us : List (ℕ × List ℕ)) → RunsSteps r pid most ps qs ts us → total_load qs ≤ total_load ps
-no_longer (Ok all) pid most ps qs ts us runs = runs.1
-no_longer (Err (Disabled done)) pid most ps qs ts us runs = runs.1
-no_longer (Err (NoStepMemory done)) pid most ps qs ts us runs = runs.1
-
 pub applies_other : (item : Item) (k : Kernel) → apply k item ≡ None → StopsAt item 0 k → Applies item (Err (Disabled 0)) k k
 applies_other item k none stops = (none, no_steps (runs_pid item) k, stops)
 

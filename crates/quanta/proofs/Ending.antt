@@ -1,16 +1,13 @@
 -- What the rest of a quantum answers, where it ends by no emission.
-use Rattle.std.proofs.Common.{◌≡◌, ℕ, zero, suc, ◌+◌, ◌≤◌, ◌∙◌, refl, sym, ap, subst, arith, true, false, not, ◌||◌, Bool, cond, eqb, ne_eqb, Ok, Err}
-use Rattle.std.specs.Prelude.{Result}
+use Rattle.std.proofs.Common.{◌≡◌, ℕ, zero, suc, ◌+◌, ◌≤◌, ◌∙◌, refl, sym, ap, subst, arith, true, false, not, ◌||◌, Bool, cond, eqb, ne_eqb, Ok}
 use Rattle.std.proofs.lemmas.Bool.{both_ways, eq-eqb, not_from_false, or_left, or_right}
-use Rattle.t32_base.specs.declared.streams.NoMemory.{NoMemory}
 use Rattle.proc_state.specs.declared.process.Process.{Process}
 use Rattle.proc_state.specs.State.{state_of}
 use Rattle.sys_calls.specs.Next.{next_step, has_step}
 use Rattle.quanta.specs.declared.limits.Limits.{Limits}
-use Rattle.quanta.specs.declared.quantum.Ran.{Ran}
 use Rattle.quanta.specs.declared.quantum.Ran.TheVariants.{Moved, Stuck}
 use Rattle.quanta.specs.Limited.{is_due}
-use Rattle.quanta.specs.Quantum.{RunsOn, RunsRest, TellsRefusal, goes_no_further}
+use Rattle.quanta.specs.Quantum.{RunsOn, RunsRest, goes_no_further}
 
 -- ---- a quantum that is over
 
@@ -68,15 +65,3 @@ over_due limits before m made old new count silent few stood begins due = moved 
         let unstarted : before ≡ 0 = omega (arith, count, is) in
         absurd (both_ways (is_due limits new) (ap (is_due limits) (stood no_more) ∙ begins unstarted) due)
     some (suc n) is = omega arith
-
--- memory was refused for the next step
-pub refused_then : (limits : Limits) (before m made : ℕ) (old mid new : Process) (r : Result Ran NoMemory) → made ≡ before + m → RunsOn m old mid → made ≤ 64 → (m ≡ 0 → mid ≡ old) → new ≡ mid → TellsRefusal made r
-    → RunsRest limits 64 before old r new
-refused_then limits before m made old mid new (Ok ran) count silent few stood same tells =
-    let some : 1 ≤ before + m = omega (arith, count, tells.0) in
-    let enough : before + m ≤ 64 = omega (arith, count, few) in
-    subst (λ ran. RunsRest limits 64 before old (Ok ran) new) (sym tells.1) (record { steps = m; some = some; few = enough; silent = subst (RunsOn m old) (sym same) silent })
-refused_then limits before m made old mid new (Err fault) count silent few stood same tells =
-    let unstarted : before ≡ 0 = omega (arith, count, tells) in
-    let no_more : m ≡ 0 = omega (arith, count, tells) in
-    (unstarted, same ∙ stood no_more)

@@ -1,5 +1,5 @@
 -- The records of a cluster before the first entry.
-use Rattle.std.proofs.Common.{◌≡◌, ℕ, refl, sym, ◌∙◌, ap, subst, arith, List, [], ◌∷◌, ◌++◌, append-nil, map, Bool, true, false, cond, ◌&&◌, ◌||◌, eqb, eqb-true, Option, Some, None, T}
+use Rattle.std.proofs.Common.{◌≡◌, ℕ, refl, sym, ◌∙◌, ap, arith, List, [], ◌∷◌, ◌++◌, map, Bool, true, false, cond, ◌&&◌, ◌||◌, eqb, eqb-true, Option, Some, None, T}
 use Rattle.std.specs.Prelude.{filter, if◌then◌else◌, nat_lt, option_map}
 use Rattle.std.specs.List.{list_all, list_any}
 use Rattle.std.specs.declared.cmp.Ordering.TheVariants.{Less}
@@ -7,7 +7,6 @@ use Rattle.std.specs.Ordering.{is_eq, nat_cmp}
 use Rattle.std.specs.FinMap.{is_sorted}
 use Rattle.std.specs.FinMap.{find as find_in}
 use Rattle.std.specs.FinMap.Entries.{below_all}
-use Rattle.std.proofs.lemmas.Bool.{and_parts}
 use Rattle.std.proofs.lemmas.Bool.Decides.{nat_tests}
 use Rattle.t32_base.specs.declared.process.Pid.{Pid}
 use Rattle.t32_base.specs.declared.process.ClusterNo.{ClusterNo}
@@ -26,8 +25,8 @@ use Rattle.cert_sched.specs.Schedule.{plain_after}
 use Rattle.cert_sched.specs.Record.{backup_record, has_state, is_root, record_from}
 use Rattle.cert_sched.proofs.BootPids.{boot_numbers, root_pids, state_pids}
 use Rattle.cert_sched.proofs.RisingLaws.{rising-any}
-use Rattle.backup_records.specs.Records.{are_rising, record_in, with_record}
-use Rattle.record_laws.specs.Kept.{KeepsRecords, boot_records_of, has_backup_in, record_at_boot, records_at_boot}
+use Rattle.backup_records.specs.Records.{are_rising, record_in}
+use Rattle.record_laws.specs.Kept.{KeepsRecords, has_backup_in, record_at_boot, records_at_boot}
 
 -- ---- what is found
 
@@ -93,64 +92,6 @@ rising_of t (e ∷ es) ordered = by_test (t e) (rising_of t es (right_true _ _ o
 -- the pids of the records at boot rise
 pub boot_records_rise : (system : System) (k : ClusterNo) → are_rising (records_at_boot system k) ≡ true
 boot_records_rise system k = rising_of (λ (e : Pid × ProcState). has_backup_in system [] k e.0) (boot system).processes (boot-rising system)
-
--- ---- one after another
-
-lower_first : (n m : ℕ) → nat_lt n m ≡ true → (nat_lt m n ≡ false) × (eqb n m ≡ false)
-lower_first n m lower = (grind (arith, nat_tests), grind (arith, nat_tests))
-
--- a record above all others stands last
-pub with_record_last : (r : BackRec) (recs : List BackRec) → list_all (λ (s : BackRec). nat_lt (s.pid).0 (r.pid).0) recs ≡ true → with_record r recs ≡ recs ++ r ∷ []
-with_record_last r [] below = refl
-with_record_last r (s ∷ rest) below =
-    let both = and_parts (nat_lt (s.pid).0 (r.pid).0) (list_all (λ (s : BackRec). nat_lt (s.pid).0 (r.pid).0) rest) below in
-    let apart = lower_first (s.pid).0 (r.pid).0 both.0 in
-    ap (λ b. cond b (r ∷ s ∷ rest) (cond (same_pid s.pid r.pid) (r ∷ rest) (s ∷ with_record r rest))) apart.0
-    ∙ ap (λ b. cond b (r ∷ rest) (s ∷ with_record r rest)) apart.1
-    ∙ ap (λ l. s ∷ l) (with_record_last r rest both.1)
-
-below_later : (x : Pid) (es rest : List (Pid × ProcState)) (e : Pid × ProcState) → T (below_all pid_cmp x (es ++ e ∷ rest)) → nat_lt x.0 (e.0).0 ≡ true
-below_later x [] rest e ordered = less_is x.0 (e.0).0 (is_below _ (left_true _ _ ordered))
-below_later x (y ∷ es) rest e ordered = below_later x es rest e (right_true _ _ ordered)
-
-all_below : (t : Pid × ProcState → Bool) (es rest : List (Pid × ProcState)) (e : Pid × ProcState) → T (is_sorted pid_cmp (es ++ e ∷ rest)) → list_all (λ (r : BackRec). nat_lt (r.pid).0 (e.0).0) (map record_at_boot (filter t es)) ≡ true
-all_below t [] rest e ordered = refl
-all_below t (x ∷ es) rest e ordered = by_test (t x) (all_below t es rest e (right_true _ _ ordered))
-  where
-    below : List (Pid × ProcState) → Bool
-    below es = list_all (λ (r : BackRec). nat_lt (r.pid).0 (e.0).0) (map record_at_boot es)
-
-    by_test : (b : Bool) → below (filter t es) ≡ true → below (cond b (x ∷ filter t es) (filter t es)) ≡ true
-    by_test true more = ap (λ b. b && below (filter t es)) (below_later x.0 es rest e (left_true _ _ ordered)) ∙ more
-    by_test false more = more
-
-one_later : (t : Pid × ProcState → Bool) (es : List (Pid × ProcState)) (e : Pid × ProcState) → map record_at_boot (filter t (es ++ e ∷ [])) ≡ map record_at_boot (filter t es) ++ cond (t e) (record_at_boot e ∷ []) []
-one_later t [] e = by_test (t e)
-  where
-    by_test : (b : Bool) → map record_at_boot (cond b (e ∷ []) []) ≡ cond b (record_at_boot e ∷ []) []
-    by_test true = refl
-    by_test false = refl
-one_later t (x ∷ es) e = by_test (t x) (one_later t es e)
-  where
-    last : List BackRec
-    last = cond (t e) (record_at_boot e ∷ []) []
-
-    by_test : (b : Bool) → map record_at_boot (filter t (es ++ e ∷ [])) ≡ map record_at_boot (filter t es) ++ last
-        → map record_at_boot (cond b (x ∷ filter t (es ++ e ∷ [])) (filter t (es ++ e ∷ []))) ≡ map record_at_boot (cond b (x ∷ filter t es) (filter t es)) ++ last
-    by_test true more = ap (λ l. record_at_boot x ∷ l) more
-    by_test false more = more
-
--- where the processes at boot are taken in order, the record of the next one is added if its backup is there
-pub boot_records_more : (system : System) (k : ClusterNo) (es rest : List (Pid × ProcState)) (e : Pid × ProcState) → (boot system).processes ≡ es ++ e ∷ rest
-    → boot_records_of system k (es ++ e ∷ []) ≡ (if has_backup_in system [] k e.0 then with_record (record_at_boot e) (boot_records_of system k es) else boot_records_of system k es)
-boot_records_more system k es rest e are = one_later has es e ∙ by_test (has e)
-  where
-    has : Pid × ProcState → Bool
-    has x = has_backup_in system [] k x.0
-
-    by_test : (b : Bool) → map record_at_boot (filter has es) ++ cond b (record_at_boot e ∷ []) [] ≡ cond b (with_record (record_at_boot e) (map record_at_boot (filter has es))) (map record_at_boot (filter has es))
-    by_test true = sym (with_record_last (record_at_boot e) (map record_at_boot (filter has es)) (all_below has es rest e (subst (λ l. T (is_sorted pid_cmp l)) are (boot-rising system))))
-    by_test false = append-nil (map record_at_boot (filter has es))
 
 -- ---- a process of the kernel at boot is a root
 

@@ -3,7 +3,6 @@ pub mod Standing
 pub mod Counts
 pub mod Backed
 pub mod BirthRecords
-pub mod Comes
 pub mod KeptLaws
 pub mod LossLaws
 pub mod BuiltLaws

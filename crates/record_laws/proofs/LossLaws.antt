@@ -68,9 +68,6 @@ not_lost (Some b) lost here apart is = ap (λ n. eqb n lost.0) (eqb-true b.0 her
     turned : (m n : ℕ) → eqb n m ≡ false → eqb m n ≡ false
     turned m n h = grind (arith, nat_tests)
 
-abbrev backup_after : ClusterNo → Placed → ClusterNo → Bool
-backup_after lost q here = is_cluster (after_loss lost q).backup here
-
 lost_backup : (lost : ClusterNo) (q : Placed) → q.ended ≡ false → (after_loss lost q).backup ≡ cond (same_cluster q.home lost) (moved_to q lost q.backup).backup (cond (is_cluster q.backup lost) None q.backup)
 lost_backup lost q open_still =
     ap (λ e. (cond e q (cond (same_cluster q.home lost) (moved_to q lost q.backup) (cond (is_cluster q.backup lost) (record q { backup = None; lost = Some lost }) q))).backup) open_still

@@ -169,16 +169,3 @@ module _ (system : System) (log : List Entry) (p : Pid) (now : ProcState) (led :
       by_kind (Born child made) step counts births =
           to old.counts new.births counts refl
           (subst (λ s. RollsBehind system log p s old.counts new.births) (sym step.1) (as_next Forks (child ∷ new.births) step.0 births))
-
--- A silent step leaves what it has to withhold, even one beyond the process in the kernel.
-pub rolls_silent : (system : System) (log : List Entry) (p : Pid) (s t : ProcState) (counts : Counts) (births : List Pid) → RollsAs system log p s counts births → next_step s ≡ Silent t → RollsAs system log p t counts births
-rolls_silent system log p s t counts births rolls is =
-    let r = rolling_of system log p s counts births rolls in
-    rolls_as system log p t counts births (record {
-      start = r.start;
-      started = r.started;
-      rest = r.rest;
-      part = part_on (refilled log p r.start) (since log p) s t [] r.rest r.part (replays_silent s t is);
-      counts_left = r.counts_left;
-      births_left = r.births_left;
-    })

@@ -1,6 +1,5 @@
 -- One line more.
 use Rattle.std.proofs.Common.{◌≡◌, ℕ, zero, suc, ◌+◌, ◌-◌, ◌<◌, cond, List, ◌∷◌, refl, arith}
-use Rattle.std.specs.List.{slice_get}
 use Rattle.refusal_text.specs.Block.{opens_block, header_after}
 
 -- the header before one line more
@@ -8,8 +7,3 @@ pub header_after-line : (header count left : ℕ) (line : List ℕ) (lines : Lis
     header_after header count left (line ∷ lines) ≡ header_after (cond (opens_block line) (count + 1) header) (count + 1) (left - 1) lines
 header_after-line header count zero line lines p = absurd (omega arith)
 header_after-line header count (suc n) line lines p = let e : suc n - 1 ≡ n = omega arith in rw e refl
-
--- behind the first line
-pub slice_get-behind : (x : List ℕ) (xs : List (List ℕ)) (left : ℕ) → 0 < left → slice_get (x ∷ xs) left ≡ slice_get xs (left - 1)
-slice_get-behind x xs zero p = absurd (omega arith)
-slice_get-behind x xs (suc n) p = let e : suc n - 1 ≡ n = omega arith in rw e refl

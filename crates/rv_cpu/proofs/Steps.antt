@@ -4,7 +4,7 @@ use Rattle.t32_base.specs.Registers.{Registers}
 use Rattle.rv_mem.specs.Marks.{Memory}
 use Rattle.rv_insn.specs.declared.Insn.{Insn}
 use Rattle.rv_insn.specs.Table.{decoded}
-use Rattle.rv_cpu.specs.declared.Did.TheVariants.{Stepped, Call, Trap}
+use Rattle.rv_cpu.specs.declared.Did.TheVariants.{Stepped, Call}
 use Rattle.rv_cpu.specs.Exec.{Executed, Steps, Calls, Traps, bytes_after, did_of, exec, exec_decoded, exec_fetched, exec_marks, executed, fetched, marks_after, marks_decoded, marks_fetched, regs_after}
 use Rattle.rv_cpu.specs.Run.{Machine, machine_of, one, ran, stepped}
 
@@ -22,20 +22,11 @@ same_parts {r' = r'} {b = b} {b' = b'} {d = d} p q s =
 pub call_is_no_step : Call ≡ Stepped → ⊥
 call_is_no_step h = cc
 
-pub trap_is_no_step : (code : ℕ) → Trap code ≡ Stepped → ⊥
-trap_is_no_step code h = cc
-
 -- a step leaves what the clauses say
 pub steps_on : (e : Executed) (dirty : List Bool) (regs : Registers) (bytes : List ℕ) → Stepped ≡ did_of e → stepped e dirty ≡ Some (left_by e dirty regs bytes)
 steps_on (Steps r m) dirty regs bytes h = refl
 steps_on Calls dirty regs bytes h = absurd cc
 steps_on (Traps code) dirty regs bytes h = absurd cc
-
--- anything else is none, and leaves the registers, the bytes and the marks
-pub is_none : (e : Executed) (dirty : List Bool) → (Stepped ≡ did_of e → ⊥) → stepped e dirty ≡ None
-is_none (Steps r m) dirty h = absurd (h refl)
-is_none Calls dirty h = refl
-is_none (Traps code) dirty h = refl
 
 pub regs_stay : (e : Executed) (regs : Registers) → (Stepped ≡ did_of e → ⊥) → regs_after e regs ≡ regs
 regs_stay (Steps r m) regs h = absurd (h refl)

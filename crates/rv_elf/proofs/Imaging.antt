@@ -73,21 +73,25 @@ given_parts h x e =
     (p.0, leb-true h.address x q.0, ltb-true x (h.address + h.file_size) q.1)
 
 given_from : (h : Header) (x : ℕ) → is_segment h ≡ true → h.address ≤ x → x < h.address + h.file_size → gives h x ≡ true
-given_from h x segment from upto = and_from (is_segment h) (is_among h.address h.file_size x) segment (and_from (leb h.address x) (ltb x (h.address + h.file_size)) (le-leb h.address x from) (lt-ltb x (h.address + h.file_size) upto))
+given_from h x segment from upto =
+    and_from (is_segment h) (is_among h.address h.file_size x) segment
+    (and_from (leb h.address x) (ltb x (h.address + h.file_size)) (le-leb h.address x from) (lt-ltb x (h.address + h.file_size) upto))
 
 -- an address whose byte the file has is one of the segment
 taken_too : (size memory : ℕ) (h : Header) (x : ℕ) → (is_segment h ≡ true → IsSound size memory h) → gives h x ≡ true → takes x h ≡ true
 taken_too size memory h x sound e =
     let p = given_parts h x e in
     let s = sound p.0 in
-    and_from (is_segment h) (is_among h.address h.memory_size x) p.0 (and_from (leb h.address x) (ltb x (h.address + h.memory_size)) (le-leb h.address x p.1) (lt-ltb x (h.address + h.memory_size) (omega (arith, p.2, s.bytes))))
+    and_from (is_segment h) (is_among h.address h.memory_size x) p.0
+        (and_from (leb h.address x) (ltb x (h.address + h.memory_size)) (le-leb h.address x p.1) (lt-ltb x (h.address + h.memory_size) (omega (arith, p.2, s.bytes))))
 
 -- one of the headers shares an address with another
 shares_at : (h : Header) (hs : List Header) (j : ℕ) (g : Header) → slice_get hs j ≡ Some g → share h g ≡ true → list_any (share h) hs ≡ true
 shares_at h hs j g at e = true_from_ne_false (list_any (share h) hs) (λ none. true≢false (sym e ∙ fails_at (share h) hs j g none at))
 
 -- where no two segments share an address, the byte is that of each segment that has one there
-pub byte_of_segment : (size memory : ℕ) (file : List ℕ) (hs : List Header) (j : ℕ) (h : Header) (x : ℕ) → AreSound size memory hs → overlap hs ≡ false → slice_get hs j ≡ Some h → gives h x ≡ true → byte_at file hs x ≡ get_or file (h.offset + x - h.address) 0
+pub byte_of_segment : (size memory : ℕ) (file : List ℕ) (hs : List Header) (j : ℕ) (h : Header) (x : ℕ) → AreSound size memory hs → overlap hs ≡ false → slice_get hs j ≡ Some h → gives h x ≡ true
+    → byte_at file hs x ≡ get_or file (h.offset + x - h.address) 0
 byte_of_segment size memory file [] j h x sound apart at e = absurd cc
 byte_of_segment size memory file (g ∷ gs) zero h x sound apart at e =
     let same : g ≡ h = cc in
@@ -130,7 +134,8 @@ is_image file pages image e is =
           let y : header.offset + (header.address + i) - header.address ≡ header.offset + i = omega arith in
           at (header.address - 0x10000 + i) (omega (arith, low, inside, s.bytes, s.upto some))
           ∙ ap (byte_at file (headers file)) x
-          ∙ byte_of_segment (length file) (256 * pages) file (headers file) j header (header.address + i) sound (kept Overlap) there (given_from header (header.address + i) segment (omega arith) (omega (arith, inside)))
+          ∙ byte_of_segment (length file) (256 * pages) file (headers file) j header (header.address + i) sound (kept Overlap) there
+              (given_from header (header.address + i) segment (omega arith) (omega (arith, inside)))
           ∙ ap (λ n. get_or file n 0) y;
       zeros = λ k lt none. at k lt ∙ byte_of_none file (headers file) (0x10000 + k) none;
       entry_is = ap (λ (i : Loaded). i.entry) is;

@@ -10,7 +10,9 @@ use Rattle.rv_elf.specs.Rules.{rules}
 -- ---- the rules by their numbers
 
 rule_of : ℕ → Rule
-rule_of n = cond (eqb n 1) NoElf (cond (eqb n 2) Class (cond (eqb n 3) Machine (cond (eqb n 4) Compressed (cond (eqb n 5) Table (cond (eqb n 6) Dynamic (cond (eqb n 7) FileBytes (cond (eqb n 8) Outside (cond (eqb n 9) Overlap Entry))))))))
+rule_of n = cond (eqb n 1) NoElf
+    (cond (eqb n 2) Class
+    (cond (eqb n 3) Machine (cond (eqb n 4) Compressed (cond (eqb n 5) Table (cond (eqb n 6) Dynamic (cond (eqb n 7) FileBytes (cond (eqb n 8) Outside (cond (eqb n 9) Overlap Entry))))))))
 
 rule_of-number : (r : Rule) → rule_of (number_of_rule r) ≡ r
 unfolding rule_of
@@ -65,7 +67,8 @@ passes_in p (x ∷ xs) r e =
       | inr h ↦ passes_in p xs r h.1
     ]
 
-lower_fails_from : (p : Rule → Bool) (k : ℕ) (xs : List Rule) (r lower : Rule) → AreFrom k xs → find p xs ≡ Some r → k ≤ number_of_rule lower → number_of_rule lower < number_of_rule r → p lower ≡ false
+lower_fails_from : (p : Rule → Bool) (k : ℕ) (xs : List Rule) (r lower : Rule) → AreFrom k xs → find p xs ≡ Some r → k ≤ number_of_rule lower → number_of_rule lower < number_of_rule r
+    → p lower ≡ false
 lower_fails_from p k [] r lower are e le lt = absurd cc
 lower_fails_from p k (x ∷ xs) r lower are e le lt =
     elim (found p x xs r e) [

@@ -21,7 +21,8 @@ takes_parts x h e =
     record { segment = p.0; from = leb-true h.address x q.0; upto = ltb-true x (h.address + h.memory_size) q.1 }
 
 takes_from : (x : ℕ) (h : Header) → Takes x h → takes x h ≡ true
-takes_from x h t = and_from (is_segment h) (is_among h.address h.memory_size x) t.segment (and_from (leb h.address x) (ltb x (h.address + h.memory_size)) (le-leb h.address x t.from) (lt-ltb x (h.address + h.memory_size) t.upto))
+takes_from x h t = and_from (is_segment h) (is_among h.address h.memory_size x) t.segment
+    (and_from (leb h.address x) (ltb x (h.address + h.memory_size)) (le-leb h.address x t.from) (lt-ltb x (h.address + h.memory_size) t.upto))
 
 -- ---- an address of both
 
@@ -43,10 +44,12 @@ some zero e = absurd cc
 some (suc n) e = omega arith
 
 -- the greater of the two first addresses
-common_at : (a b : Header) → is_segment a ≡ true → is_segment b ≡ true → 0 < a.memory_size → 0 < b.memory_size → a.address < b.address + b.memory_size → b.address < a.address + a.memory_size → Common a b
+common_at : (a b : Header) → is_segment a ≡ true → is_segment b ≡ true → 0 < a.memory_size → 0 < b.memory_size → a.address < b.address + b.memory_size → b.address < a.address + a.memory_size
+    → Common a b
 common_at a b sa sb some_a some_b low high =
     elim (cases_lt a.address b.address) [
-      | inl before ↦ record { at = b.address; first = record { segment = sa; from = omega (arith, before); upto = high }; second = record { segment = sb; from = omega arith; upto = omega (arith, some_b) } }
+      | inl before ↦ record
+          { at = b.address; first = record { segment = sa; from = omega (arith, before); upto = high }; second = record { segment = sb; from = omega arith; upto = omega (arith, some_b) } }
       | inr behind ↦ record { at = a.address; first = record { segment = sa; from = omega arith; upto = omega (arith, some_a) }; second = record { segment = sb; from = behind; upto = low } }
     ]
 
@@ -75,7 +78,8 @@ pub none_share : (h : Header) (hs : List Header) → ((x : ℕ) → takes x h �
 none_share h [] free = refl
 none_share h (g ∷ gs) free =
     or_from (share h g) (list_any (share h) gs)
-    (false_from_ne_true (share h g) (λ e. let c = common h g e in true≢false (sym (takes_from c.at g c.second) ∙ (or_parts (takes c.at g) (list_any (takes c.at) gs) (free c.at (takes_from c.at h c.first))).0)))
+    (false_from_ne_true (share h g) (λ e. let c = common h g e in
+        true≢false (sym (takes_from c.at g c.second) ∙ (or_parts (takes c.at g) (list_any (takes c.at) gs) (free c.at (takes_from c.at h c.first))).0)))
     (none_share h gs (λ x t. (or_parts (takes x g) (list_any (takes x) gs) (free x t)).1))
 
 -- ---- by the marks
@@ -85,12 +89,14 @@ module _ (h : Header) (taken : List Bool) (behind : List Header) where
   takes_inside : (x : ℕ) → 0x10000 ≤ h.address → takes x h ≡ true → (h.address - 0x10000 ≤ x - 0x10000) × (x - 0x10000 < h.address - 0x10000 + h.memory_size) × (0x10000 + (x - 0x10000) ≡ x)
   takes_inside x low t = let p = takes_parts x h t in (omega (arith, p.from), omega (arith, p.from, p.upto, low), omega (arith, p.from, low))
 
-  pub shares_where_taken : is_segment h ≡ true → 0x10000 ≤ h.address → h.address - 0x10000 + h.memory_size ≤ length taken → Marks taken behind → IsTaken taken (h.address - 0x10000) (h.address - 0x10000 + h.memory_size) → list_any (share h) behind ≡ true
+  pub shares_where_taken : is_segment h ≡ true → 0x10000 ≤ h.address → h.address - 0x10000 + h.memory_size ≤ length taken → Marks taken behind
+      → IsTaken taken (h.address - 0x10000) (h.address - 0x10000 + h.memory_size) → list_any (share h) behind ≡ true
   shares_where_taken segment low fits marks t =
       some_share h (0x10000 + t.place) behind (takes_from (0x10000 + t.place) h (record { segment = segment; from = omega (arith, t.from); upto = omega (arith, t.below, low) }))
       (sym (marks t.place (omega (arith, t.below, fits))) ∙ t.marked)
 
-  pub shares_none_where_free : 0x10000 ≤ h.address → h.address - 0x10000 + h.memory_size ≤ length taken → Marks taken behind → IsFree taken (h.address - 0x10000) (h.address - 0x10000 + h.memory_size) → list_any (share h) behind ≡ false
+  pub shares_none_where_free : 0x10000 ≤ h.address → h.address - 0x10000 + h.memory_size ≤ length taken → Marks taken behind → IsFree taken (h.address - 0x10000) (h.address - 0x10000 + h.memory_size)
+      → list_any (share h) behind ≡ false
   shares_none_where_free low fits marks free =
       none_share h behind (λ x t.
       let i = takes_inside x low t in

@@ -26,13 +26,18 @@ Answers file pages result = AnswersBy file pages (broken file pages) result
 
 -- what is refused is a rule that the file breaks, and no lower one
 abbrev pub HasCause : List ℕ → (pages : ℕ) → ElfRefused → Type 0
-HasCause file pages (refusals.Rule number) = (rule : Rule) × (number ≡ number_of_rule rule) × (breaks file pages rule ≡ true) × ((lower : Rule) → number_of_rule lower < number_of_rule rule → breaks file pages lower ≡ false)
+HasCause file pages (refusals.Rule number) =
+    (rule : Rule) × (number ≡ number_of_rule rule) × (breaks file pages rule ≡ true)
+    × ((lower : Rule) → number_of_rule lower < number_of_rule rule → breaks file pages lower ≡ false)
 HasCause file pages refusals.NoMemory = Unit {0}
 
 -- No rule is broken, each segment has the file's bytes in memory, and every other byte is 0.
 pub record IsImageOf (file : List ℕ) (pages : ℕ) (image : Loaded) : Type 0 where
   pub kept : (rule : Rule) → breaks file pages rule ≡ false
   pub size : length image.bytes ≡ 256 * pages
-  pub segments : (j : ℕ) (header : Header) (i : ℕ) → slice_get (headers file) j ≡ Some header → is_segment header ≡ true → i < header.file_size → get_or image.bytes (header.address - 0x10000 + i) 0 ≡ get_or file (header.offset + i) 0
-  pub zeros : (k : ℕ) → k < 256 * pages → ((j : ℕ) (header : Header) → slice_get (headers file) j ≡ Some header → gives header (0x10000 + k) ≡ false) → get_or image.bytes k 0 ≡ 0
+  pub segments : (j : ℕ) (header : Header) (i : ℕ) → slice_get (headers file) j ≡ Some header → is_segment header ≡ true
+      → i < header.file_size → get_or image.bytes (header.address - 0x10000 + i) 0 ≡ get_or file (header.offset + i) 0
+  pub zeros : (k : ℕ) → k < 256 * pages
+      → ((j : ℕ) (header : Header) → slice_get (headers file) j ≡ Some header → gives header (0x10000 + k) ≡ false)
+      → get_or image.bytes k 0 ≡ 0
   pub entry_is : image.entry ≡ entry file

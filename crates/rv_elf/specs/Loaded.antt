@@ -19,7 +19,8 @@ gives header address = is_segment header && is_among header.address header.file_
 -- the byte at an address: that of the file where a segment has one there, and 0 everywhere else
 abbrev pub byte_at : List ℕ → List Header → ℕ → ℕ
 byte_at file [] address = 0
-byte_at file (header ∷ headers) address = if gives header address then get_or file (header.offset + address - header.address) 0 else byte_at file headers address
+byte_at file (header ∷ headers) address =
+    if gives header address then get_or file (header.offset + address - header.address) 0 else byte_at file headers address
 
 -- a memory of so many bytes, from 0x10000 on
 abbrev pub memory_of : List ℕ → List Header → (size : ℕ) → List ℕ

@@ -36,4 +36,5 @@ pub record IsSound (file_length memory_length : ℕ) (header : Header) : Type 0 
 
 -- each segment of these headers does
 abbrev pub AreSound : (file_length memory_length : ℕ) → List Header → Type 0
-AreSound file_length memory_length headers = (i : ℕ) (header : Header) → slice_get headers i ≡ Some header → is_segment header ≡ true → IsSound file_length memory_length header
+AreSound file_length memory_length headers =
+    (i : ℕ) (header : Header) → slice_get headers i ≡ Some header → is_segment header ≡ true → IsSound file_length memory_length header

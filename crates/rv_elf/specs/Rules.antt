@@ -13,7 +13,8 @@ is_dynamic header = header.kind == 2 || header.kind == 3
 
 -- the bytes of a segment are no more than its memory, and each is in a file of so many bytes
 abbrev pub lies_in_file : (size : ℕ) → Header → Bool
-lies_in_file size header = nat_le header.file_size header.memory_size && (header.file_size == 0 || nat_le (header.offset + header.file_size) size)
+lies_in_file size header =
+    nat_le header.file_size header.memory_size && (header.file_size == 0 || nat_le (header.offset + header.file_size) size)
 
 -- so many bytes from an address on lie in a memory of so many pages
 abbrev pub lies_within : (pages address size : ℕ) → Bool
@@ -25,7 +26,9 @@ lies_in_memory pages header = header.memory_size == 0 || lies_within pages heade
 
 -- some address is one of both segments
 abbrev pub share : Header → Header → Bool
-share a b = is_segment a && is_segment b && not (a.memory_size == 0) && not (b.memory_size == 0) && nat_lt a.address (b.address + b.memory_size) && nat_lt b.address (a.address + a.memory_size)
+share a b =
+    is_segment a && is_segment b && not (a.memory_size == 0) && not (b.memory_size == 0)
+    && nat_lt a.address (b.address + b.memory_size) && nat_lt b.address (a.address + a.memory_size)
 
 -- two of the segments share an address
 abbrev pub overlap : List Header → Bool

@@ -16,7 +16,8 @@ fn take(taken: &mut [bool], first: usize, end: usize) -> bool
     ensures size { length taken.new ≡ length taken.old }
     ensures found { result ≡ false → IsTaken taken.old first end }
     ensures free { result ≡ true → IsFree taken.old first end }
-    ensures marks { result ≡ true → (k : ℕ) → k < length taken.old → get_or taken.new k false ≡ ((nat_le first k && nat_lt k end) || get_or taken.old k false) }
+    ensures marks { result ≡ true → (k : ℕ) → k < length taken.old
+        → get_or taken.new k false ≡ ((nat_le first k && nat_lt k end) || get_or taken.old k false) }
 {
     for k in first..end {
         if taken[k] {
@@ -32,7 +33,8 @@ fn copy(bytes: &mut [u8], to: usize, file: &[u8], from: usize, size: usize)
     requires room { to + size ≤ length bytes.old }
     requires there { from + size ≤ length file.now }
     ensures size { length bytes.new ≡ length bytes.old }
-    ensures put { (k : ℕ) → k < length bytes.old → get_or bytes.new k 0 ≡ (if nat_le to k && nat_lt k (to + size) then get_or file.now (from + k - to) 0 else get_or bytes.old k 0) }
+    ensures put { (k : ℕ) → k < length bytes.old
+        → get_or bytes.new k 0 ≡ (if nat_le to k && nat_lt k (to + size) then get_or file.now (from + k - to) 0 else get_or bytes.old k 0) }
 {
     for i in 0..size {
         bytes[to + i] = file[from + i];
@@ -48,8 +50,13 @@ fn place_segment(file: &[u8], header: Header, bytes: &mut [u8], taken: &mut [boo
     ensures each { length taken.new ≡ length bytes.old }
     ensures found { result ≡ false → IsTaken taken.old (header.address - 0x10000) (header.address - 0x10000 + header.memory_size) }
     ensures free { result ≡ true → IsFree taken.old (header.address - 0x10000) (header.address - 0x10000 + header.memory_size) }
-    ensures marks { result ≡ true → (k : ℕ) → k < length bytes.old → get_or taken.new k false ≡ ((nat_le (header.address - 0x10000) k && nat_lt k (header.address - 0x10000 + header.memory_size)) || get_or taken.old k false) }
-    ensures put { result ≡ true → (k : ℕ) → k < length bytes.old → get_or bytes.new k 0 ≡ (if nat_le (header.address - 0x10000) k && nat_lt k (header.address - 0x10000 + header.file_size) then get_or file.now (header.offset + k - (header.address - 0x10000)) 0 else get_or bytes.old k 0) }
+    ensures marks { result ≡ true → (k : ℕ) → k < length bytes.old
+        → get_or taken.new k false ≡
+        ((nat_le (header.address - 0x10000) k && nat_lt k (header.address - 0x10000 + header.memory_size)) || get_or taken.old k false) }
+    ensures put { result ≡ true → (k : ℕ) → k < length bytes.old
+        → get_or bytes.new k 0 ≡
+        (if nat_le (header.address - 0x10000) k && nat_lt k (header.address - 0x10000 + header.file_size)
+        then get_or file.now (header.offset + k - (header.address - 0x10000)) 0 else get_or bytes.old k 0) }
 {
     let first = (header.address - BASE) as usize;
     if !take(taken, first, first + header.memory_size as usize) {

@@ -5,7 +5,6 @@ pub mod TakeLeaves
 pub mod SyncMade
 pub mod Standing
 pub mod BirthStands
-pub mod SyncedCuts
 pub mod CutEntry
 pub mod CutMarks
 pub mod PagedAccounts

@@ -14,7 +14,7 @@ use Rattle.sys_text.specs.declared.system.System.{System}
 use Rattle.sys_text.specs.Valid.{is_system}
 use Rattle.proc_state.specs.State.{ProcState, can_take}
 use Rattle.sys_calls.specs.declared.steps.Emission.{Emission}
-use Rattle.sys_calls.specs.Calls.{Next, Emits, Forks, Silent}
+use Rattle.sys_calls.specs.Calls.{Emits, Forks, Silent}
 use Rattle.sys_calls.specs.Fork.{child_births, fork_child, fork_parent}
 use Rattle.sys_calls.specs.Next.{next_step}
 use Rattle.sys_calls.proofs.Bearing.{Bears, KeepsBirths, next_bears}
@@ -24,7 +24,6 @@ use Rattle.bus_msg.specs.declared.entry.Entry.{Entry}
 use Rattle.bus_msg.specs.declared.placed.Placed.{Placed}
 use Rattle.bus_msg.specs.Places.{same_pid}
 use Rattle.cert_sched.specs.Schedule.{plain_after, placement, process_after}
-use Rattle.cert_sched.specs.Steps.{page_count}
 use Rattle.cert_sched.specs.Legal.{IsLegalBy, Stands}
 use Rattle.cert_sched.proofs.FreshLaws.{numbered}
 use Rattle.cert_sched.proofs.KernelSums.{sum_of}
@@ -33,7 +32,6 @@ use Rattle.cert_sched.proofs.PidLaws.{placed_pids}
 use Rattle.cert_sched.proofs.RisingLaws.{NoTwo}
 use Rattle.cert_sched.proofs.ThereLaws.{placed_there, plain_there}
 use Rattle.page_laws.proofs.BornSums.{itself}
-use Rattle.page_laws.proofs.StepSizes.{Keeps, next_keeps}
 use Rattle.sync_left.proofs.Forked.{halved}
 use Rattle.sync_left.proofs.Rising.{one_rises}
 use Rattle.sys_calls.specs.Take.{taken}
@@ -160,13 +158,3 @@ pub placed_few : (system : System) (log : List Entry) → is_system system ≡ t
 placed_few system log valid legal =
     let most = placed_family (λ (s : SmallState). 1) (λ s t is. refl) (λ s t e is. refl) (λ s c. refl) (λ s c. refl) (λ s can. refl) (λ system log q. 1) (λ system log q s there. omega arith) system log valid legal in
     omega (arith, most, ones (placement system log).placed)
-
--- and they have no more pages
-pub placed_pages : (system : System) (log : List Entry) → is_system system ≡ true → IsLegalBy Stands system log
-    → sum_by (λ (q : Placed). page_count system log q.pid) (placement system log).placed ≤ sum_of (of_family (λ (s : SmallState). s.pages)) (boot system)
-placed_pages system log valid legal =
-    placed_family (λ (s : SmallState). s.pages) (λ s t is. (size (Silent t) s is).pages) (λ s t e is. (size (Emits e t) s is).pages) (λ s c. refl) (λ s c. refl) (λ s can. (taken_strikes s can).pages) (λ system log q. page_count system log q.pid)
-    (λ system log q s there. let pages : page_count system log q.pid ≡ (s.small).pages = ap (λ o. option_map_or (λ (s : ProcState). (s.small).pages) o 0) there in omega (arith, pages)) system log valid legal
-  where
-    size : (next : Next) (s : ProcState) → next_step s ≡ next → Keeps s next
-    size next s is = subst (Keeps s) is (next_keeps s)

@@ -41,8 +41,10 @@ rebackup_sum : (g : Pid → ℕ) (to : ClusterNo) (fresh : Bool) (recs : List Ba
 rebackup_sum g to fresh recs [] = refl
 rebackup_sum g to fresh recs (q ∷ qs) = by_name (is_named recs q) (rebackup_sum g to fresh recs qs)
   where
-    counted : (r : Placed) (d : Bool) → r.pid ≡ q.pid → sum_by (λ (q : Placed). g q.pid) (filter (λ (q : Placed). not q.ended) (map (after_rebackup to fresh recs) qs)) ≡ sum_by (λ (q : Placed). g q.pid) (filter (λ (q : Placed). not q.ended) qs)
-        → sum_by (λ (q : Placed). g q.pid) (cond (not d) (r ∷ filter (λ (q : Placed). not q.ended) (map (after_rebackup to fresh recs) qs)) (filter (λ (q : Placed). not q.ended) (map (after_rebackup to fresh recs) qs)))
+    counted : (r : Placed) (d : Bool) → r.pid ≡ q.pid
+        → sum_by (λ (q : Placed). g q.pid) (filter (λ (q : Placed). not q.ended) (map (after_rebackup to fresh recs) qs)) ≡ sum_by (λ (q : Placed). g q.pid) (filter (λ (q : Placed). not q.ended) qs)
+        → sum_by (λ (q : Placed). g q.pid)
+            (cond (not d) (r ∷ filter (λ (q : Placed). not q.ended) (map (after_rebackup to fresh recs) qs)) (filter (λ (q : Placed). not q.ended) (map (after_rebackup to fresh recs) qs)))
         ≡ sum_by (λ (q : Placed). g q.pid) (cond (not d) (q ∷ filter (λ (q : Placed). not q.ended) qs) (filter (λ (q : Placed). not q.ended) qs))
     counted r true same more = more
     counted r false same more =
@@ -50,7 +52,8 @@ rebackup_sum g to fresh recs (q ∷ qs) = by_name (is_named recs q) (rebackup_su
         ∙ (λ i. g (same i) + more i)
         ∙ sym (sum_by-cons (λ (q : Placed). g q.pid) q (filter (λ (q : Placed). not q.ended) qs))
 
-    by_name : (s : Bool) → sum_by (λ (q : Placed). g q.pid) (filter (λ (q : Placed). not q.ended) (map (after_rebackup to fresh recs) qs)) ≡ sum_by (λ (q : Placed). g q.pid) (filter (λ (q : Placed). not q.ended) qs)
+    by_name : (s : Bool)
+        → sum_by (λ (q : Placed). g q.pid) (filter (λ (q : Placed). not q.ended) (map (after_rebackup to fresh recs) qs)) ≡ sum_by (λ (q : Placed). g q.pid) (filter (λ (q : Placed). not q.ended) qs)
         → sum_by (λ (q : Placed). g q.pid) (filter (λ (q : Placed). not q.ended) (cond s (record q { backup = Some to; synced = q.synced || fresh }) q ∷ map (after_rebackup to fresh recs) qs))
         ≡ sum_by (λ (q : Placed). g q.pid) (filter (λ (q : Placed). not q.ended) (q ∷ qs))
     by_name true more = counted (record q { backup = Some to; synced = q.synced || fresh }) q.ended refl more
@@ -96,11 +99,14 @@ module _ (system : System) (log : List Entry) (e : Entry) (valid : is_system sys
         by_test true own = cut_most r own
         by_test false apart = stays_most system log e stands no_loss r (no_birth r) (start_stays system log e r apart (no_birth r))
 
-    module _ (places : (g : Pid → ℕ) → sum_by (λ (q : Placed). g q.pid) (unended_in (placement system (log ++ e ∷ []))) ≡ sum_by (λ (q : Placed). g q.pid) (unended_in (placement system log))) (leaves : waits_after (placement system log) (what e) (waiting_fetches system log) ≡ waiting_fetches system log) where
+    module _ (places : (g : Pid → ℕ)
+        → sum_by (λ (q : Placed). g q.pid) (unended_in (placement system (log ++ e ∷ []))) ≡ sum_by (λ (q : Placed). g q.pid) (unended_in (placement system log)))
+            (leaves : waits_after (placement system log) (what e) (waiting_fetches system log) ≡ waiting_fetches system log) where
       syncs : left_of_syncs system (log ++ e ∷ []) + 2 * log_load system (log ++ e ∷ []) ≤ left_of_syncs system log + 2 * log_load system log
       syncs =
           let those = places (left_of_process system (log ++ e ∷ [])) in
-          let all = sum_by-le-each (λ (q : Placed). left_of_process system (log ++ e ∷ []) q.pid) (λ (q : Placed). left_then system log e stands q.pid) (λ q. each q.pid) (unended_in (placement system log)) in
+          let all = sum_by-le-each (λ (q : Placed). left_of_process system (log ++ e ∷ []) q.pid) (λ (q : Placed). left_then system log e stands q.pid) (λ q. each q.pid)
+              (unended_in (placement system log)) in
           let most = then_most system log e stands no_fork valid legal in
           omega (arith, those, all, most)
 
@@ -118,7 +124,8 @@ module _ (system : System) (log : List Entry) (e : Entry) (valid : is_system sys
 
       no_more_to_send : left_to_send system (log ++ e ∷ []) ≤ left_to_send system log
       no_more_to_send =
-          no_more (log_load system log) (log_load system (log ++ e ∷ [])) (left_of_pages system log) (left_of_pages system (log ++ e ∷ [])) (left_of_syncs system log) (left_of_syncs system (log ++ e ∷ []))
+          no_more (log_load system log) (log_load system (log ++ e ∷ [])) (left_of_pages system log) (left_of_pages system (log ++ e ∷ [])) (left_of_syncs system log)
+              (left_of_syncs system (log ++ e ∷ []))
           (load_most system log e stands) pages syncs
 
   renewed : (to : ClusterNo) (fresh : Bool) (recs : List BackRec) → what e ≡ Rebackup to fresh recs → left_to_send system (log ++ e ∷ []) ≤ left_to_send system log
@@ -141,8 +148,10 @@ module _ (system : System) (log : List Entry) (e : Entry) (valid : is_system sys
       places : (g : Pid → ℕ) → sum_by (λ (q : Placed). g q.pid) (unended_in (placement system (log ++ e ∷ []))) ≡ sum_by (λ (q : Placed). g q.pid) (unended_in (placement system log))
       places g = ap (λ (places : Places). sum_by (λ (q : Placed). g q.pid) (unended_in places)) (placement-snoc system log e ∙ ap (placed_after (placement system log)) is)
 
-pub to_send_renewed : (system : System) (log : List Entry) (e : Entry) (to : ClusterNo) (fresh : Bool) (recs : List BackRec) → is_system system ≡ true → IsLegalBy Stands system log → Stands system log e → what e ≡ Rebackup to fresh recs → left_to_send system (log ++ e ∷ []) ≤ left_to_send system log
+pub to_send_renewed : (system : System) (log : List Entry) (e : Entry) (to : ClusterNo) (fresh : Bool) (recs : List BackRec) → is_system system ≡ true → IsLegalBy Stands system log
+    → Stands system log e → what e ≡ Rebackup to fresh recs → left_to_send system (log ++ e ∷ []) ≤ left_to_send system log
 to_send_renewed system log e to fresh recs valid legal stands is = renewed system log e valid legal stands to fresh recs is
 
-pub to_send_returned : (system : System) (log : List Entry) (e : Entry) (k : ClusterNo) → is_system system ≡ true → IsLegalBy Stands system log → Stands system log e → what e ≡ Return k → left_to_send system (log ++ e ∷ []) ≤ left_to_send system log
+pub to_send_returned : (system : System) (log : List Entry) (e : Entry) (k : ClusterNo) → is_system system ≡ true → IsLegalBy Stands system log → Stands system log e → what e ≡ Return k
+    → left_to_send system (log ++ e ∷ []) ≤ left_to_send system log
 to_send_returned system log e k valid legal stands is = came_back system log e valid legal stands k is

@@ -1,30 +1,19 @@
--- Each step of the kernel without failures leaves it fewer, and so does each fork; so each entry that tells of what a process sent does.
 use Rattle.std.proofs.Common.{◌≡◌, ℕ, ◌+◌, ◌≤◌, refl, ap, arith, List, [], ◌∷◌, ◌++◌, Some}
-use Rattle.std.specs.List.{sum_by}
 use Rattle.std.specs.Option.{option_map_or}
-use Rattle.std.specs.FinMap.{find}
 use Rattle.t32_base.specs.declared.process.Pid.{Pid}
 use Rattle.sys_text.specs.declared.system.System.{System}
 use Rattle.proc_state.specs.State.{ProcState}
-use Rattle.sys_calls.specs.Small.{weight, weight_with_children}
 use Rattle.sys_calls.specs.declared.steps.Emission.{Emission}
-use Rattle.plain_kernel.specs.Kernel.{Kernel, boot, pid_cmp, with_process, emitted}
+use Rattle.plain_kernel.specs.Kernel.{Kernel, boot, with_process, emitted}
 use Rattle.plain_kernel.specs.Apply.{one_step}
 use Rattle.plain_kernel.proofs.Pids.{IsRising, one_step-pids, pids_in}
 use Rattle.bus_msg.specs.declared.entry.Entry.{Entry}
 use Rattle.bus_msg.specs.PlacedAfter.{what}
 use Rattle.cert_sched.specs.Schedule.{plain_after}
 use Rattle.cert_sched.specs.Steps.{emission_at}
-use Rattle.cert_sched.proofs.KernelSums.{one_of_sum}
 use Rattle.cert_sched.proofs.LoadLaws.{load_after, load_sent}
 use Rattle.cert_sched.proofs.StepLaws.{Tells, plain_after-sent, sent_from}
 use Rattle.sync_left.specs.Load.{kernel_load, log_load}
-
--- a process has no more left than all
-pub one_of_all : (p : Pid) (s : ProcState) (es : List (Pid × ProcState)) → find pid_cmp p es ≡ Some s → weight s.small ≤ sum_by (λ (e : Pid × ProcState). weight_with_children (e.1).small) es
-one_of_all p s es there =
-    let one : weight_with_children s.small ≤ sum_by (λ (e : Pid × ProcState). weight_with_children (e.1).small) es = one_of_sum weight_with_children p s (record { processes = es; ttys = [] }) there in
-    omega (arith, one)
 
 -- processes rise still after a step
 pub rising_still : (p : Pid) (k j : Kernel) → IsRising k → one_step p k ≡ Some j → IsRising j

@@ -15,15 +15,22 @@ ghost use Rattle.sync_left.specs.Left.{is_from_cluster, left_of_syncs, left_to_s
 /// A law and no code: what is left to send falls.
 pub fn less_to_send()
     // Each entry that a cluster sends, a birth too, leaves less to send, where no page is sent twice at one step count;
-    ensures falls { (system : System) (log : List Entry) (e : Entry) → is_system system ≡ true → IsLegalBy Stands system log → Stands system log e → is_new_page system log (what e) ≡ true → is_from_cluster (what e) ≡ true → left_to_send system (log ++ e ∷ []) < left_to_send system log }
+    ensures falls { (system : System) (log : List Entry) (e : Entry) → is_system system ≡ true → IsLegalBy Stands system log → Stands system log e
+        → is_new_page system log (what e) ≡ true → is_from_cluster (what e) ≡ true
+        → left_to_send system (log ++ e ∷ []) < left_to_send system log }
     // the end and a stop, as letters and exits, leave no more;
-    ensures closes { (system : System) (log : List Entry) (e : Entry) → is_system system ≡ true → IsLegalBy Stands system log → Stands system log e → tells_or_closes (what e) ≡ true → left_to_send system (log ++ e ∷ []) ≤ left_to_send system log }
+    ensures closes { (system : System) (log : List Entry) (e : Entry) → is_system system ≡ true → IsLegalBy Stands system log → Stands system log e
+        → tells_or_closes (what e) ≡ true → left_to_send system (log ++ e ∷ []) ≤ left_to_send system log }
     // a new backup of either form leaves no more, and a return leaves no more.
-    ensures renews { (system : System) (log : List Entry) (e : Entry) (to : ClusterNo) (fresh : Bool) (recs : List BackRec) → is_system system ≡ true → IsLegalBy Stands system log → Stands system log e → what e ≡ Rebackup to fresh recs → left_to_send system (log ++ e ∷ []) ≤ left_to_send system log }
-    ensures returns { (system : System) (log : List Entry) (e : Entry) (k : ClusterNo) → is_system system ≡ true → IsLegalBy Stands system log → Stands system log e → what e ≡ Return k → left_to_send system (log ++ e ∷ []) ≤ left_to_send system log }
+    ensures renews { (system : System) (log : List Entry) (e : Entry) (to : ClusterNo) (fresh : Bool) (recs : List BackRec) → is_system system ≡ true
+        → IsLegalBy Stands system log → Stands system log e → what e ≡ Rebackup to fresh recs
+        → left_to_send system (log ++ e ∷ []) ≤ left_to_send system log }
+    ensures returns { (system : System) (log : List Entry) (e : Entry) (k : ClusterNo) → is_system system ≡ true → IsLegalBy Stands system log
+        → Stands system log e → what e ≡ Return k → left_to_send system (log ++ e ∷ []) ≤ left_to_send system log }
 {}
 
 /// A law and no code: the part of synchronisations, their pages and births has a bound, whatever was lost.
 pub fn syncs_are_bounded()
-    ensures { (system : System) (log : List Entry) → is_system system ≡ true → IsLegalBy Stands system log → left_of_syncs system log ≤ most_syncs system }
+    ensures { (system : System) (log : List Entry) → is_system system ≡ true → IsLegalBy Stands system log
+        → left_of_syncs system log ≤ most_syncs system }
 {}

@@ -36,14 +36,6 @@ was_silent_step WouldFork is = cc
 was_silent_step (Emit e) is = cc
 was_silent_step WasOver is = cc
 
--- as many as there could be
-pub all_made : (n most : ℕ) → n ≤ most → (n < most → ⊥) → n ≡ most
-all_made n most within not = by_test (nat_lt n most) refl
-  where
-    by_test : (b : Bool) → nat_lt n most ≡ b → n ≡ most
-    by_test true is = absurd (not (grind (arith, nat_tests)))
-    by_test false is = grind (arith, nat_tests)
-
 pub some_left : (n most : ℕ) → n ≤ most → (most ≤ n → ⊥) → n < most
 some_left n most within not = by_test (nat_lt n most) refl
   where
@@ -77,9 +69,6 @@ alone old new (Err e) makes shorter touches = tt
 
 pub live_still : (n : ℕ) (small now : SmallState) (regs : Registers) → now ≡ after_instructions n small regs → small.status ≡ Live → now.status ≡ Live
 live_still n small now regs same live = ap (λ (s : SmallState). s.status) same ∙ live
-
-pub left_none : (n most : ℕ) (small now : SmallState) (regs : Registers) → now ≡ after_instructions n small regs → most ≡ small.left → n ≡ most → eqb now.left 0 ≡ true
-left_none n most small now regs same left all = let e : now.left ≡ small.left - n = ap (λ (s : SmallState). s.left) same in grind (arith, nat_tests)
 
 pub left_some : (n most : ℕ) (small now : SmallState) (regs : Registers) → now ≡ after_instructions n small regs → most ≡ small.left → n < most → 0 < now.left
 left_some n most small now regs same left below = let e : now.left ≡ small.left - n = ap (λ (s : SmallState). s.left) same in omega (arith, e, left, below)

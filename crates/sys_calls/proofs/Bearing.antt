@@ -7,7 +7,6 @@ use Rattle.t32_base.specs.declared.process.Pid.{Pid}
 use Rattle.t32_base.specs.declared.process.End.{End}
 use Rattle.t32_base.specs.declared.process.Status.{Status}
 use Rattle.t32_base.specs.declared.process.Status.TheVariants.{Live, Closing, Ended}
-use Rattle.t32_base.specs.declared.letter.Letter.{Letter}
 use Rattle.t32_base.specs.declared.letter.Body.TheVariants.{Said}
 use Rattle.t32_base.specs.declared.letter.Arrived.{Arrived}
 use Rattle.t32_base.specs.declared.letter.To.{To}
@@ -17,7 +16,7 @@ use Rattle.rv_mem.specs.Memory.{is_inside, bytes_at}
 use Rattle.t32_base.specs.Registers.{Registers}
 use Rattle.rv_cpu.specs.Exec.{Executed, Steps, Calls, Traps, exec, reg}
 use Rattle.proc_state.specs.Ends.{free_end, leads_at}
-use Rattle.proc_state.specs.State.{ProcState, delivered, with_small}
+use Rattle.proc_state.specs.State.{ProcState, with_small}
 use Rattle.proc_state.proofs.Linking.{linked_unshut}
 use Rattle.sys_calls.specs.Small.{lowest_linked, spent, weight, weight_with_children}
 use Rattle.sys_calls.specs.declared.steps.Emission.{Emission}
@@ -192,8 +191,3 @@ fork_lightens s child can =
     ((s.small).births - 1 - child_births (s.small).births) (child_births (s.small).births) (halved (s.small).births can.births) (omega (arith, can.some))
     (let same = linked_unshut (s.small).ends child 1 in omega (arith, same)) (count_by-le-length is_unshut ((fork_child s child).small).ends) in
     omega (arith, base, ap stages can.live)
-
--- ---- a letter that arrives
-
-pub letters_keep_weight : (s : ProcState) (letter : Letter) → weight_with_children (delivered s letter).small ≡ weight_with_children s.small
-letters_keep_weight s letter = refl

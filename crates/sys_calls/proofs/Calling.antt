@@ -1,4 +1,3 @@
--- An instruction that is made is a silent step; one that is a trap or a system call changed nothing, and is the next step.
 use Rattle.std.proofs.lemmas.Bool.Decides.{nat_tests}
 use Rattle.std.proofs.Common.{◌≡◌, ◌<◌, ℕ, arith, eqb, Bool, false, List, Result, refl, sym, ap, ◌∙◌, subst}
 use Rattle.rv_cpu.specs.declared.Did.{Did}
@@ -15,20 +14,7 @@ use Rattle.t32_base.specs.declared.streams.NoMemory.{NoMemory}
 use Rattle.sys_calls.specs.declared.steps.Step.{Step}
 use Rattle.sys_calls.specs.Steps.{Makes, Marks, Shorter, Took, Touches, taken_by}
 use Rattle.sys_calls.specs.Small.{spent, with_regs}
-use Rattle.sys_calls.specs.Calls.{Silent}
-use Rattle.sys_calls.specs.Next.{after_exec, letter_executed, letter_live, live_step, marks_executed, marks_live}
-
--- ---- an instruction that is made
-
-stepped : (x : Executed) (p : ProcState) → Stepped ≡ did_of x
-    → after_exec x (with_small p (spent p.small)) ≡ Silent (record p { small = with_regs (spent p.small) (regs_after x (p.small).regs); memory = bytes_after x p.memory })
-stepped (Steps regs bytes) p e = refl
-stepped Calls p e = cc
-stepped (Traps code) p e = cc
-
-pub live_stepped : (p : ProcState) → Stepped ≡ did_of (exec (p.small).regs p.memory)
-    → live_step false p ≡ Silent (record p { small = with_regs (spent p.small) (regs_after (exec (p.small).regs p.memory) (p.small).regs); memory = bytes_after (exec (p.small).regs p.memory) p.memory })
-live_stepped p is = stepped (exec (p.small).regs p.memory) p is
+use Rattle.sys_calls.specs.Next.{after_exec, letter_live, live_step, marks_executed, marks_live}
 
 -- ---- one that is none
 
@@ -49,9 +35,6 @@ traps (Traps other) code e = ap Traps (sym (ap trap_of e))
 
 pub live_as : (p : ProcState) (x : Executed) → exec (p.small).regs p.memory ≡ x → live_step false p ≡ after_exec x (with_small p (spent p.small))
 live_as p x is = ap (λ y. after_exec y (with_small p (spent p.small))) is
-
-pub letter_as : (p : ProcState) (x : Executed) → exec (p.small).regs p.memory ≡ x → letter_live false p ≡ letter_executed x p
-letter_as p x is = ap (λ y. letter_executed y p) is
 
 no_step : (x : Executed) (did : Did) → Stops x did → Stepped ≡ did_of x → ⊥
 no_step x did stops e = stops.1 (stops.0 ∙ sym e)

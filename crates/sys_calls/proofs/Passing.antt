@@ -19,7 +19,7 @@ use Rattle.t32_base.specs.Small.{SmallState}
 use Rattle.sys_calls.specs.Next.{letter_by, letter_live, letter_taken, live_step, marks_by, marks_live, next_step, silently, step_by, step_marks}
 use Rattle.sys_calls.specs.Passing.{IsAtCall, Passes, PassesCall, Went}
 use Rattle.sys_calls.specs.Small.{after_instructions, spent, weight}
-use Rattle.sys_calls.specs.Steps.{is_silent, was_silent, Makes, RunsOn, Shorter, Touches, step_of_read, StaysUntaken}
+use Rattle.sys_calls.specs.Steps.{was_silent, Makes, RunsOn, Shorter, Touches, step_of_read, StaysUntaken}
 use Rattle.sys_calls.proofs.Ahead.{alone, left_some, live_still, more, none_made, not_none, one_more, ran_on, some_left, was_silent_step}
 use Rattle.sys_calls.proofs.Untaken.{untaken_by_last, untaken_more, untaken_none, untaken_ran}
 use Rattle.sys_calls.proofs.Calling.{calls, live_as}
@@ -53,15 +53,6 @@ then_went (Ok step) old mid new silent none went then =
     let last = one_more all.steps (state_of old) (state_of all.before) (state_of new) all.silent all.makes in
     record { steps = suc all.steps; silent = last; untaken = untaken_by_last all.steps (state_of old) (state_of new) all.untaken last (λ before. none); lighter = omega (arith, all.lighter, all.shorter.0) }
 then_went (Err e) old mid new silent none went then = cc
-
--- a silent step leaves fewer
-pub then_lighter : (r : Result Step NoMemory) (mid new : Process) → was_silent r ≡ true → IfOk r (λ step. RunsOn step mid new) → weight new.small + 1 ≤ weight mid.small
-then_lighter (Ok step) mid new silent then = let ran = subst (λ s. RunsOn s mid new) (was_silent_step step silent) then in omega (arith, ran.lighter, ran.shorter.0)
-then_lighter (Err e) mid new silent then = cc
-
-pub then_heard : (r : Result Step NoMemory) → was_silent r ≡ false → IfOk r (λ step. is_silent step ≡ false)
-then_heard (Ok step) not = not
-then_heard (Err e) not = tt
 
 -- ---- a system call
 

@@ -12,7 +12,7 @@ use Rattle.t32_base.specs.declared.letter.To.{To}
 use Rattle.t32_base.specs.declared.letter.To.TheVariants.{Proc, Tty}
 use Rattle.rv_mem.specs.Memory.{is_inside}
 use Rattle.t32_base.specs.Registers.{Registers}
-use Rattle.rv_cpu.specs.Exec.{Executed, Steps, Calls, Traps, exec, exec_marks, reg}
+use Rattle.rv_cpu.specs.Exec.{Executed, Steps, Calls, Traps, exec, reg}
 use Rattle.proc_state.specs.Ends.{free_end, leads_at}
 use Rattle.proc_state.specs.Mail.{without_first}
 use Rattle.proc_state.specs.State.{ProcState, delivered, with_small}
@@ -22,8 +22,8 @@ use Rattle.sys_calls.specs.declared.reading.Reading.{Reading}
 use Rattle.sys_calls.specs.declared.reading.Reading.TheVariants.{Refused, AtEnd, Wants}
 use Rattle.sys_calls.specs.declared.reading.Wanted.{Wanted}
 use Rattle.sys_calls.specs.declared.reading.Wanted.TheVariants.{On, AnyLinked}
-use Rattle.sys_calls.specs.Calls.{Next, Silent, Blocked, Forks, Emits, Over, Call, ExitCall, Write, Read, ReadAny, ForkCall, GetPid, Handler, Kill, SigReturn, Close, Unknown, called, call_of, close_to, first_wanted, is_wanted, letter_read, read_any_checked, read_call, read_checked, read_found, write_to, arg, letter_called, marks_called, marks_found, marks_read, wanted_letter, handled_at, is_aligned, is_signal_number, signalled, sigreturn_call}
-use Rattle.sys_calls.specs.Next.{letter_by, letter_executed, letter_live, letter_taken, marks_by, marks_executed, marks_live, step_marks, Marked, silent_step, silently_marked, next_step, step_by, live_step, after_exec, closing_step, is_blocked, silently, silent_of, emission_of, last_emission}
+use Rattle.sys_calls.specs.Calls.{Next, Silent, Blocked, Forks, Emits, Over, Call, ExitCall, Write, Read, ReadAny, ForkCall, GetPid, Handler, Kill, SigReturn, Close, Unknown, called, call_of, close_to, first_wanted, is_wanted, letter_read, read_any_checked, read_call, read_checked, read_found, write_to, arg, handled_at, is_aligned, is_signal_number, signalled, sigreturn_call}
+use Rattle.sys_calls.specs.Next.{next_step, step_by, live_step, after_exec, closing_step, is_blocked, silently, silent_of, emission_of, last_emission}
 
 -- a step with the process after it changed
 abbrev pub with_after : (ProcState → ProcState) → Next → Next
@@ -133,86 +133,6 @@ status-delivered l Live p = live-delivered l (eqb (p.small).left 0) p
 pub next_step-delivered : (p : ProcState) (l : Letter) → is_blocked (next_step p) ≡ false → next_step (delivered p l) ≡ with_after (λ t. delivered t l) (next_step p)
 next_step-delivered p l = status-delivered l (p.small).status p
 
--- ---- the letter that it takes, and its marks
-
-wanted-delivered : (l : Letter) (p : ProcState) (wanted : Wanted) (ptr room : ℕ) (o : Option Arrived) → first_wanted p wanted ≡ o → is_blocked (read_found p wanted ptr room o) ≡ false
-    → first_wanted (delivered p l) wanted ≡ o
-wanted-delivered l p wanted ptr room None is h = cc
-wanted-delivered l p wanted ptr room (Some a) is h =
-    find-append (is_wanted (p.small).ends wanted) p.mail (arrival p l) ∙ ap (λ o. option_or o (find (is_wanted (p.small).ends wanted) (arrival p l))) is
-
-letter-read : (l : Letter) (p : ProcState) (reading : Reading) → is_blocked (read_call (with_small p (spent p.small)) reading) ≡ false → wanted_letter (delivered p l) reading ≡ wanted_letter p reading
-letter-read l p (Refused error) h = refl
-letter-read l p AtEnd h = refl
-letter-read l p (Wants wanted ptr room) h = wanted-delivered l (with_small p (spent p.small)) wanted ptr room (first_wanted p wanted) refl h
-
-marks-read : (l : Letter) (p : ProcState) (dirty : List Bool) (reading : Reading) → is_blocked (read_call (with_small p (spent p.small)) reading) ≡ false → marks_read (delivered p l) dirty reading ≡ marks_read p dirty reading
-marks-read l p dirty (Refused error) h = refl
-marks-read l p dirty AtEnd h = refl
-marks-read l p dirty (Wants wanted ptr room) h = ap (λ o. marks_found ptr room o dirty) (wanted-delivered l (with_small p (spent p.small)) wanted ptr room (first_wanted p wanted) refl h)
-
-letter-called : (l : Letter) (c : Call) (p : ProcState) → is_blocked (called c (with_small p (spent p.small))) ≡ false → letter_called c (delivered p l) ≡ letter_called c p
-letter-called l ExitCall p h = refl
-letter-called l Write p h = refl
-letter-called l Read p h = letter-read l p (read_checked p) h
-letter-called l ReadAny p h = letter-read l p (read_any_checked p) h
-letter-called l ForkCall p h = refl
-letter-called l GetPid p h = refl
-letter-called l Handler p h = refl
-letter-called l Kill p h = refl
-letter-called l SigReturn p h = refl
-letter-called l Close p h = refl
-letter-called l Unknown p h = refl
-
-marks-called : (l : Letter) (c : Call) (p : ProcState) (dirty : List Bool) → is_blocked (called c (with_small p (spent p.small))) ≡ false → marks_called c (delivered p l) dirty ≡ marks_called c p dirty
-marks-called l ExitCall p dirty h = refl
-marks-called l Write p dirty h = refl
-marks-called l Read p dirty h = marks-read l p dirty (read_checked p) h
-marks-called l ReadAny p dirty h = marks-read l p dirty (read_any_checked p) h
-marks-called l ForkCall p dirty h = refl
-marks-called l GetPid p dirty h = refl
-marks-called l Handler p dirty h = refl
-marks-called l Kill p dirty h = refl
-marks-called l SigReturn p dirty h = refl
-marks-called l Close p dirty h = refl
-marks-called l Unknown p dirty h = refl
-
-letter-executed : (l : Letter) (x : Executed) (p : ProcState) → is_blocked (after_exec x (with_small p (spent p.small))) ≡ false → letter_executed x (delivered p l) ≡ letter_executed x p
-letter-executed l (Steps regs bytes) p h = refl
-letter-executed l Calls p h = letter-called l (call_of (reg (p.small).regs 17)) p h
-letter-executed l (Traps code) p h = refl
-
-marks-executed : (l : Letter) (x : Executed) (p : ProcState) (dirty : List Bool) → is_blocked (after_exec x (with_small p (spent p.small))) ≡ false → marks_executed x (delivered p l) dirty ≡ marks_executed x p dirty
-marks-executed l (Steps regs bytes) p dirty h = refl
-marks-executed l Calls p dirty h = marks-called l (call_of (reg (p.small).regs 17)) p dirty h
-marks-executed l (Traps code) p dirty h = refl
-
-letter-live : (l : Letter) (b : Bool) (p : ProcState) → is_blocked (live_step b p) ≡ false → letter_live b (delivered p l) ≡ letter_live b p
-letter-live l true p h = refl
-letter-live l false p h = letter-executed l (exec (p.small).regs p.memory) p h
-
-marks-live : (l : Letter) (b : Bool) (p : ProcState) (dirty : List Bool) → is_blocked (live_step b p) ≡ false → marks_live b (delivered p l) dirty ≡ marks_live b p dirty
-marks-live l true p dirty h = refl
-marks-live l false p dirty h = marks-executed l (exec (p.small).regs p.memory) p (exec_marks (p.small).regs p.memory dirty) h
-
-letter-status : (l : Letter) (s : Status) (p : ProcState) → is_blocked (step_by s p) ≡ false → letter_by s (delivered p l) ≡ letter_by s p
-letter-status l (Ended end) p h = refl
-letter-status l (Closing end) p h = refl
-letter-status l Live p h = letter-live l (eqb (p.small).left 0) p h
-
-marks-status : (l : Letter) (s : Status) (p : ProcState) (dirty : List Bool) → is_blocked (step_by s p) ≡ false → marks_by s (delivered p l) dirty ≡ marks_by s p dirty
-marks-status l (Ended end) p dirty h = refl
-marks-status l (Closing end) p dirty h = refl
-marks-status l Live p dirty h = marks-live l (eqb (p.small).left 0) p dirty h
-
--- a step of a process that does not wait takes the same letter
-pub letter_taken-delivered : (p : ProcState) (l : Letter) → is_blocked (next_step p) ≡ false → letter_taken (delivered p l) ≡ letter_taken p
-letter_taken-delivered p l h = letter-status l (p.small).status p h
-
--- and leaves the same marks
-pub step_marks-delivered : (p : ProcState) (l : Letter) (dirty : List Bool) → is_blocked (next_step p) ≡ false → step_marks (delivered p l) dirty ≡ step_marks p dirty
-step_marks-delivered p l dirty h = marks-status l (p.small).status p dirty h
-
 -- ---- silent steps
 
 some_same : {X : Type 0} → (x y : X) → Some x ≡ Some y → x ≡ y
@@ -256,31 +176,6 @@ last_emission-delivered (suc n) s x t l e = by_case (silently n s) refl e
     by_case None is f = cc
     by_case (Some q) is f = ap (option_and_then (λ r. emission_of (next_step r))) (silently-delivered n s q l is) ∙ emits_delivered q l (next_step q) x t refl f
 
-marked_delivered : (p q : Marked) (l : Letter) (next : Next) → next_step p.state ≡ next
-    → option_map (λ (t : ProcState). let r : Marked = record { state = t; marks = step_marks p.state p.marks } in r) (silent_of next) ≡ Some q
-    → silent_step (record p { state = delivered p.state l }) ≡ Some (record q { state = delivered q.state l })
-marked_delivered p q l (Silent s) is e =
-    let same : record { state = s; marks = step_marks p.state p.marks } ≡ q = some_same (record { state = s; marks = step_marks p.state p.marks }) q e in
-    ap (λ o. option_map (λ (t : ProcState). let r : Marked = record { state = t; marks = step_marks (delivered p.state l) p.marks } in r) o) (silent_delivered p.state l (Silent s) s is refl)
-    ∙ ap (λ m. Some (record { state = delivered s l; marks = m })) (step_marks-delivered p.state l p.marks (ap is_blocked is))
-    ∙ ap (λ (r : Marked). Some (record r { state = delivered r.state l })) same
-marked_delivered p q l Blocked is e = cc
-marked_delivered p q l Forks is e = cc
-marked_delivered p q l (Emits x s) is e = cc
-marked_delivered p q l Over is e = cc
-
--- n silent steps with the marks after them
-pub silently_marked-delivered : (n : ℕ) (p q : Marked) (l : Letter) → silently_marked n p ≡ Some q → silently_marked n (record p { state = delivered p.state l }) ≡ Some (record q { state = delivered q.state l })
-unfolding silently_marked
-silently_marked-delivered zero p q l e = ap (λ (r : Marked). Some (record r { state = delivered r.state l })) (some_same p q e)
-silently_marked-delivered (suc n) p q l e = by_case (silently_marked n p) refl e (λ r is. silently_marked-delivered n p r l is)
-  where
-    by_case : (o : Option Marked) → silently_marked n p ≡ o → option_and_then silent_step o ≡ Some q
-        → ((r : Marked) → silently_marked n p ≡ Some r → silently_marked n (record p { state = delivered p.state l }) ≡ Some (record r { state = delivered r.state l }))
-        → option_and_then silent_step (silently_marked n (record p { state = delivered p.state l })) ≡ Some (record q { state = delivered q.state l })
-    by_case None is f before = cc
-    by_case (Some r) is f before = ap (option_and_then silent_step) (before r is) ∙ marked_delivered r q l (next_step r.state) refl f
-
 -- ---- several letters
 
 -- letters arrive, one after another
@@ -291,8 +186,3 @@ all_delivered p (l ∷ letters) = all_delivered (delivered p l) letters
 pub silently-all_delivered : (n : ℕ) (s t : ProcState) (letters : List Letter) → silently n s ≡ Some t → silently n (all_delivered s letters) ≡ Some (all_delivered t letters)
 silently-all_delivered n s t [] e = e
 silently-all_delivered n s t (l ∷ letters) e = silently-all_delivered n (delivered s l) (delivered t l) letters (silently-delivered n s t l e)
-
-pub last_emission-all_delivered : (n : ℕ) (s : ProcState) (x : Emission) (t : ProcState) (letters : List Letter) → last_emission n s ≡ Some (x, t)
-    → last_emission n (all_delivered s letters) ≡ Some (x, all_delivered t letters)
-last_emission-all_delivered n s x t [] e = e
-last_emission-all_delivered n s x t (l ∷ letters) e = last_emission-all_delivered n (delivered s l) x (delivered t l) letters (last_emission-delivered n s x t l e)

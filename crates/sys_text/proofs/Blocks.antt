@@ -1,4 +1,3 @@
--- The lines of an assembler block, and its end.
 use Rattle.std.proofs.Common.{◌≡◌, ℕ, zero, suc, ◌+◌, ◌*◌, ◌<◌, ◌≤◌, ◌^◌, Bool, true, false, cond, eqb, List, [], ◌∷◌, ◌++◌, length, take, drop, Option, Some, None, Result, Ok, Err, refl, sym, ap, ◌∙◌, arith, append_assoc, append-nil}
 use Rattle.std.specs.List.{onto_first}
 use Rattle.std.specs.Prelude.{codes}
@@ -25,10 +24,6 @@ use Rattle.sys_text.specs.Reading.{Answer, Place, Step, Refuses, InBlock, close_
 use Rattle.sys_text.specs.Answers.{IsRefusal, RefusesStep, RefusesBlock, IsCounted}
 
 -- ---- how many lines
-
-length-onto : (b : ℕ) (lines : List (List ℕ)) → length (onto_first b lines) ≤ suc (length lines)
-length-onto b [] = omega arith
-length-onto b (line ∷ lines) = omega arith
 
 -- each line has a byte, or ends with one
 pub length-lines : (text : List ℕ) → length (lines_of text) ≤ length text

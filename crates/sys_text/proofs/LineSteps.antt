@@ -1,4 +1,3 @@
--- What a line that is read leads to.
 use Rattle.std.proofs.Common.{◌≡◌, ℕ, ◌≤◌, Bool, true, false, not, ◌&&◌, ◌||◌, leb, nat_lt, List, ◌∷◌, length, Option, Some, None, Ok, refl, sym, ap, ◌∙◌, arith}
 use Rattle.std.specs.Prelude.{is_some}
 use Rattle.std.proofs.lemmas.Bool.Decides.{nat_tests}
@@ -7,14 +6,13 @@ use Rattle.sys_text.specs.declared.stage.Keyword.{Keyword}
 use Rattle.sys_text.specs.declared.stage.Keyword.TheVariants.{Words}
 use Rattle.sys_text.specs.declared.stage.Keyword.TheVariants as keywords
 use Rattle.sys_text.specs.declared.refusal.Rule.{Rule}
-use Rattle.sys_text.specs.declared.refusal.Rule.TheVariants.{ForeignByte, Misplaced}
 use Rattle.sys_text.specs.declared.refusal.SystemRefused.{SystemRefused}
 use Rattle.sys_text.specs.declared.refusal.SystemRefused.TheVariants as refusals
 use Rattle.sys_text.specs.declared.state.State.{State}
 use Rattle.sys_text.specs.Valid.{is_within}
 use Rattle.sys_text.specs.Line.{Line, line_of}
 use Rattle.sys_text.specs.Line as lines
-use Rattle.sys_text.specs.Rules.{may_stand, keyword_in, begins_comment, is_skipped, broken_by, lowest_of, add_line, add, HasRoom}
+use Rattle.sys_text.specs.Rules.{may_stand, keyword_in, begins_comment, broken_by, lowest_of, add_line, add, HasRoom}
 use Rattle.sys_text.specs.Numbers.{Fits}
 use Rattle.sys_text.specs.Fronts.{Starts}
 use Rattle.sys_text.specs.Reading.{is_asm, kept, kept_line, step_outside}
@@ -25,15 +23,6 @@ use Rattle.sys_text.proofs.Spelling.{keyword_said, said_keyword}
 use Rattle.sys_text.proofs.Standing.{rank, in_image, stands, stands_at}
 
 -- ---- the front of a line
-
-pub foreign : (state : State) (line : List ℕ) → are_printable line ≡ false → broken_by state line ≡ Some ForeignByte
-foreign state line e = rw e refl
-
-pub skipped : (state : State) (line : List ℕ) → are_printable line ≡ true → is_skipped (fields_of line) ≡ true → (broken_by state line ≡ None) × (kept state (fields_of line) ≡ (state, false))
-skipped state line printable skip = (rw (printable, skip) refl, rw skip refl)
-
-pub misplaced : (state : State) (line first : List ℕ) (fields : List (List ℕ)) → are_printable line ≡ true → fields_of line ≡ first ∷ fields → begins_comment first ≡ false → keyword_in state.stage first ≡ None → broken_by state line ≡ Some Misplaced
-misplaced state line first fields printable cut comment key = rw (printable, cut, comment, key) refl
 
 pub starts : (state : State) (line : List ℕ) (keyword : Keyword) (first : List ℕ) (fields : List (List ℕ)) → are_printable line ≡ true → fields_of line ≡ first ∷ fields → begins_comment first ≡ false → keyword_in state.stage first ≡ Some keyword → Starts state line keyword fields
 starts state line keyword first fields printable cut comment key = record { stands = stands state.stage _ keyword key; broken = rw (printable, cut, comment, key) refl; kept = rw (cut, comment, key) refl }

@@ -61,9 +61,6 @@ root_text images root t0 t1 t2 t3 e1 e2 e3 =
     in_parts : (t a b m i n : List ℕ) → ((t ++ (codes "root" ++ 32 ∷ (a ++ 32 ∷ (b ++ 32 ∷ [])))) ++ (m ++ 32 ∷ i)) ++ n ≡ t ++ (codes "root" ++ 32 ∷ (a ++ 32 ∷ (b ++ 32 ∷ (m ++ 32 ∷ (i ++ n)))))
     in_parts t a b m i n = simp append_assoc
 
-pub image_text : (head : List (List ℕ)) (ls : List (List (List ℕ))) (t0 t1 t2 t3 : List ℕ) → t1 ≡ t0 ++ line_text head → t2 ≡ t1 ++ lines_text ls → t3 ≡ t2 ++ line_text (codes "end" ∷ []) → t3 ≡ t0 ++ lines_text (head ∷ (ls ++ (codes "end" ∷ []) ∷ []))
-image_text head ls t0 t1 t2 t3 e1 e2 e3 = rw (e3, e2, e1, flat_map-append line_text ls ((codes "end" ∷ []) ∷ [])) (simp append_assoc)
-
 four_parts : (a b c d : List (List (List ℕ))) (t0 t1 t2 t3 t4 : List ℕ) → t0 ≡ [] → t1 ≡ t0 ++ lines_text a → t2 ≡ t1 ++ lines_text b → t3 ≡ t2 ++ lines_text c → t4 ≡ t3 ++ lines_text d → t4 ≡ lines_text (a ++ (b ++ (c ++ d)))
 four_parts a b c d t0 t1 t2 t3 t4 e0 e1 e2 e3 e4 =
     rw (e4, e3, e2, e1, e0, flat_map-append line_text a (b ++ (c ++ d)), flat_map-append line_text b (c ++ d), flat_map-append line_text c d) (simp append_assoc)

@@ -9,7 +9,7 @@ use Rattle.std.proofs.lemmas.List.Folds.{list_all-append}
 use Rattle.text_parts.specs.Lines.{fields_of}
 use Rattle.text_parts.specs.Numbers.{word_of}
 use Rattle.sys_text.specs.declared.stage.Keyword.TheVariants.{Words}
-use Rattle.sys_text.specs.declared.refusal.Rule.TheVariants.{FieldCount, FieldKind, Room}
+use Rattle.sys_text.specs.declared.refusal.Rule.TheVariants.{FieldCount, Room}
 use Rattle.sys_text.specs.declared.refusal.SystemRefused.{SystemRefused}
 use Rattle.sys_text.specs.declared.system.Image.{Image}
 use Rattle.sys_text.specs.declared.state.State.{State}
@@ -28,9 +28,6 @@ pub record SoFar (old new rest : List ℕ) (all : List (List ℕ)) : Type 0 wher
   pub cut : front ++ fields_of rest ≡ all
   pub are : list_all (is_word_field) front ≡ true
   pub words : new ≡ old ++ words_in front
-
-pub so_far_none : (old text : List ℕ) → SoFar old old text (fields_of text)
-so_far_none old text = record { front = []; cut = refl; are = refl; words = sym (append-nil old) }
 
 one_field : (field : List ℕ) (w : ℕ) → word_of field ≡ Some w → words_in (field ∷ []) ≡ w ∷ []
 one_field field w e = rw e refl
@@ -53,14 +50,6 @@ so_far_more old new next rest after all field w s cut_is e next_is = record {
 
 some_fields : (front more : List (List ℕ)) (field : List ℕ) → nat_le 1 (length (front ++ field ∷ more)) ≡ true
 some_fields front more field = le-leb 1 (length (front ++ field ∷ more)) (omega (arith, length-append front (field ∷ more)))
-
-no_kind : (front more : List (List ℕ)) (field : List ℕ) → word_of field ≡ None → list_all (is_word_field) front ≡ true → list_all (is_word_field) (front ++ field ∷ more) ≡ false
-no_kind front more field e are = list_all-append (is_word_field) front (field ∷ more) ∙ rw (are, e) refl
-
-pub bad_word : (old new rest after : List ℕ) (all : List (List ℕ)) (field : List ℕ) (words pages : ℕ) → SoFar old new rest all → fields_of rest ≡ field ∷ fields_of after → word_of field ≡ None → lowest_of_words words pages all ≡ Some FieldKind
-bad_word old new rest after all field words pages s cut_is e =
-    let whole : s.front ++ field ∷ fields_of after ≡ all = ap (λ (t : List (List ℕ)). s.front ++ t) (sym cut_is) ∙ s.cut in
-    rw (← whole) (rw (some_fields s.front (fields_of after) field, no_kind s.front (fields_of after) field e s.are) refl)
 
 -- ---- all fields are words
 

@@ -1,7 +1,7 @@
 -- The cause of each status.
 use Rattle.std.proofs.Common.{◌≡◌, ℕ, ◌≤◌, ◌<◌, Bool, true, false, List, ◌⊎◌, inl, inr, length, refl, sym, ap, ◌∙◌, subst, arith, Option, Some, None, length-append}
 use Rattle.std.specs.Prelude.{is_some}
-use Rattle.std.specs.Io.KnownBytes.{Consumes, Appends, Keeps}
+use Rattle.std.specs.Io.KnownBytes.{Consumes, Appends}
 use Rattle.t32_base.specs.Streams.{Rose}
 use Rattle.command_words.specs.declared.command.Command.{Command}
 use Rattle.cluster_run.specs.declared.life.Ran.{Ran}
@@ -240,10 +240,6 @@ answered_found words (Some command) status old new ended before after ran is ans
     answered words status old new ended before after ran (λ none. cc) (λ none. cc)
     (λ unread. answers_left command status old new ended before after ran answers (ap reads_input is ∙ unread))
     (λ other w. let same : command ≡ other = cc in subst (λ (c : Command). Answers c status old new ended before after ran) same answers)
-
--- and from want of memory before anything was read
-pub answered_6 : (words : List (List ℕ)) (old : In) (ended : Bool) (before after : Out) → Keeps before.holds after.holds → Answered words 6 old old ended before after None
-answered_6 words old ended before after kept = answered words 6 old old ended before after None (λ none. inr (refl, kept)) (λ none. refl) (λ unread. refl) (λ c w. OutOfMemory (λ unread. refl) refl kept refl)
 
 -- two names for one command
 pub answers_same : (command other : Command) (status : ℕ) (old new : In) (ended : Bool) (before after : Out) (ran : Option Ran) → command ≡ other

@@ -18,7 +18,7 @@ use Rattle.targon_cli.specs.Built.{makes_run, needs_threads, reads_input}
 use Rattle.targon_cli.specs.Explained.{Explains, ExplainsLoad}
 use Rattle.t32_base.specs.declared.streams.NoMemory.{NoMemory}
 use Rattle.targon_cli.specs.declared.reply.Reply.{Reply}
-use Rattle.targon_cli.specs.Reply.{Makes, usage_line, MakesPlain, MakesCheck, MakesAsm, MakesRun, MakesByScript, MakesLoad, PrintsByScript, has_clusters_of, load_text, run_text, TellsOfRun, RunsBy, FollowsSection, Follows, Applied, Refused}
+use Rattle.targon_cli.specs.Reply.{Makes, MakesPlain, MakesCheck, MakesAsm, MakesRun, MakesByScript, MakesLoad, PrintsByScript, has_clusters_of, load_text, run_text, TellsOfRun, RunsBy, FollowsSection, Follows, Applied, Refused}
 use Rattle.targon_cli.specs.Sections.{system_part, section_part, items_of_lines}
 
 -- ---- the status
@@ -186,9 +186,3 @@ pub loads_explain : (command : Command) (size : ℕ) (script : List ScriptWord) 
     → IfOk made (λ (r : Reply × Option Ran). Explains command bytes (r.0).status (r.0).why)
 loads_explain command size script bytes (Ok r) same m = load_explains command size false script bytes (r.0).status (r.0).why same m
 loads_explain command size script bytes (Err e) same m = tt
-
--- a workload that lacks a cluster of the script is usage
-pub lacks_makes : (size : ℕ) (system : System) (script : List ScriptWord) (made : Result Reply NoMemory) → has_clusters_of script system ≡ false → IfOk made (λ (r : Reply). (r.status ≡ 1) × (r.text ≡ usage_line))
-    → IfOk made (λ (r : Reply). MakesLoad true size system script r.status r.text None)
-lacks_makes size system script (Ok reply) lacks m = (rw lacks m, refl)
-lacks_makes size system script (Err e) lacks m = tt

@@ -1,5 +1,5 @@
 -- What is told of a run.
-use Rattle.std.proofs.Common.{◌≡◌, ◌∙◌, sym, refl, ap, subst, ℕ, true, List, Some, None, Global}
+use Rattle.std.proofs.Common.{◌≡◌, ◌∙◌, sym, ap, subst, ℕ, true, List, Some, Global}
 use Rattle.std.specs.Prelude.{Ok, Err}
 use Rattle.std.specs.Arc.{arc_value}
 use Rattle.std.specs.declared.sync.Arc.{Arc}
@@ -19,15 +19,12 @@ use Rattle.report_text.specs.Good.{IsGoodBuilt, EndsAs}
 use Rattle.cluster_run.specs.declared.life.Ran.{Ran}
 use Rattle.cluster_run.specs.Completed.{IsCompleted}
 use Rattle.targon_cli.specs.declared.reply.Reply.{Reply}
-use Rattle.targon_cli.specs.declared.runs.Read.TheVariants.{System as AsSystem, Refused as AsRefused}
+use Rattle.targon_cli.specs.declared.runs.Read.TheVariants.{System as AsSystem}
 use Rattle.targon_cli.specs.Reply.{IsRead, IsTextOf, MakesRun, TellsOf}
 
 -- a run that came to its end has a log that did
 pub ends_finished : (system : System) (r : Run) → r.ended ≡ Finished → EndsAs system r.log r.ended → is_finished r.log ≡ true
 ends_finished system r e h = subst (λ (k : Ended). EndsAs system r.log k) e h
-
-pub completed_finished : (system : System) (script : List ScriptWord) (ran : Ran) → IsCompleted system script ran → is_finished (ran.run).log ≡ true
-completed_finished system script ran completed = ends_finished system ran.run completed.ended (completed.good).ended
 
 -- nothing can move in the kernel of a good run that is finished
 still : (system : System) (script : List ScriptWord) (r : Run) (kernel : Kernel) → IsGoodBuilt system script r → r.ended ≡ Finished → plain_run system r.items ≡ Some kernel → is_still kernel ≡ true
@@ -55,8 +52,3 @@ pub ran_makes : (reading : Answer) (script : List ScriptWord) (shared : Arc Syst
 ran_makes (Ok system) script shared print reply ran is completed done told =
     rw is.2 (done, tells system script print reply.text ran (subst (λ (s : System). IsCompleted s script ran) is.0 completed) (subst (λ (s : System). IsTextOf s print ran.run reply.text) is.0 told))
 ran_makes (Err refused) script shared print reply ran is completed done told = absurd is
-
--- a reply where there is no such system is what the text makes
-pub refusal_makes : (reading : Answer) (script : List ScriptWord) (reply : Reply) (print : Kernel → Run → List ℕ) → IsRead reading script (AsRefused reply) → MakesRun reading script print reply.status reply.text None
-refusal_makes (Ok system) script reply print is = rw is.0 (is.1, is.2, refl)
-refusal_makes (Err refused) script reply print is = (is.0, is.1, refl)

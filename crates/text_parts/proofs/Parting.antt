@@ -2,7 +2,7 @@
 use Rattle.std.proofs.Common.{◌≡◌, ℕ, zero, suc, ◌+◌, ◌-◌, ◌<◌, Bool, true, false, List, [], ◌∷◌, ◌++◌, length, take, drop, refl, sym, ap, ◌∙◌, arith, append_assoc}
 use Rattle.std.specs.List.{onto_first}
 use Rattle.std.proofs.lemmas.List.{append-nil, length-append, length-drop}
-use Rattle.std.proofs.Math.Seq.{take-append_seam, drop-append_seam}
+use Rattle.std.proofs.Math.Seq.{take-append_seam}
 use Rattle.std.proofs.lemmas.Bool.{eqb-true}
 use Rattle.text_parts.specs.Lines.{is_newline, lines_of, before, from}
 use Rattle.text_parts.proofs.Splitting.{before-yes, before-no, from-yes, from-no, from-head, lines_of-cut}
@@ -34,9 +34,6 @@ pub record IsParted (text : List ℕ) (n : ℕ) (rest : List ℕ) : Type 0 where
   pub lines : lines_of front ≡ take n (lines_of text)
   pub left : lines_of rest ≡ drop n (lines_of text)
   pub ended : 0 < length rest → (more : List ℕ) → lines_of (front ++ more) ≡ lines_of front ++ lines_of more
-
-pub part_none : (text : List ℕ) → IsParted text 0 text
-part_none text = record { front = []; whole = refl; lines = refl; left = refl; ended = λ some more. refl }
 
 -- one line more
 taken : (ls : List (List ℕ)) (n : ℕ) (x : List ℕ) (xs : List (List ℕ)) → drop n ls ≡ x ∷ xs → take (suc n) ls ≡ take n ls ++ x ∷ []
@@ -102,11 +99,5 @@ left_nonempty text (x ∷ xs) n lt p = omega arith
 front_len : (front rest : List ℕ) → take (length (front ++ rest) - length rest) (front ++ rest) ≡ front
 front_len front rest = rw (length-append front rest) (let e : length front + length rest - length rest ≡ length front = omega arith in rw e (take-append_seam front rest))
 
-rest_len : (front rest : List ℕ) → drop (length (front ++ rest) - length rest) (front ++ rest) ≡ rest
-rest_len front rest = rw (length-append front rest) (let e : length front + length rest - length rest ≡ length front = omega arith in rw e (drop-append_seam front rest))
-
 pub front_is : (text rest : List ℕ) (n : ℕ) → IsParted text n rest → lines_of (take (length text - length rest) text) ≡ take n (lines_of text)
 front_is text rest n p = ap (λ (t : List ℕ). lines_of (take (length t - length rest) t)) (sym p.whole) ∙ ap lines_of (front_len p.front rest) ∙ p.lines
-
-pub rest_is : (text rest : List ℕ) (n : ℕ) → IsParted text n rest → lines_of (drop (length text - length rest) text) ≡ drop n (lines_of text)
-rest_is text rest n p = ap (λ (t : List ℕ). lines_of (drop (length t - length rest) t)) (sym p.whole) ∙ ap lines_of (rest_len p.front rest) ∙ p.left

@@ -1,8 +1,8 @@
 -- The first line of a text and the first field of a line.
-use Rattle.std.proofs.Common.{◌≡◌, ℕ, zero, suc, ◌+◌, ◌-◌, ◌<◌, ◌≤◌, Bool, true, false, cond, not, List, [], ◌∷◌, ◌++◌, reverse, length, get_or, take, drop, refl, sym, ap, ◌∙◌, arith, append_assoc}
+use Rattle.std.proofs.Common.{◌≡◌, ℕ, zero, suc, ◌+◌, ◌-◌, ◌<◌, ◌≤◌, Bool, true, false, cond, not, List, [], ◌∷◌, ◌++◌, length, get_or, take, drop, refl, sym, ap, ◌∙◌, arith}
 use Rattle.std.specs.List.{slice_split, onto_first, filter}
-use Rattle.std.proofs.lemmas.List.{drop_more, drop_all, take_more, take_all, take_rest, append-nil, length-take, length-drop, reverse-append, reverse-reverse}
-use Rattle.text_parts.specs.Lines.{is_newline, is_space, is_empty, lines_of, fields_of, before, from, trim_start, trim_end}
+use Rattle.std.proofs.lemmas.List.{take_rest, length-take, length-drop}
+use Rattle.text_parts.specs.Lines.{is_newline, is_space, is_empty, lines_of, fields_of, before, from, trim_start}
 
 -- ---- before and from
 
@@ -30,34 +30,6 @@ length-from p (x ∷ xs) =
 pub record Scanned (p : ℕ → Bool) (xs : List ℕ) (i : ℕ) : Type 0 where
   pub front : take i xs ++ before p (drop i xs) ≡ before p xs
   pub rest : from p (drop i xs) ≡ from p xs
-
-pub scan_none : (p : ℕ → Bool) (xs : List ℕ) → Scanned p xs 0
-scan_none p xs = record { front = refl; rest = refl }
-
-pub scan_more : (p : ℕ → Bool) (xs : List ℕ) (i x : ℕ) → i < length xs → x ≡ get_or xs i 0 → p x ≡ false → Scanned p xs i → Scanned p xs (i + 1)
-scan_more p xs i x lt is fails s =
-    let d : drop i xs ≡ x ∷ drop (i + 1) xs = rw is (drop_more xs i 0 lt) in
-    record {
-      front = ap (λ (t : List ℕ). t ++ before p (drop (i + 1) xs)) (take_more xs i 0 lt ∙ ap (λ (y : ℕ). take i xs ++ y ∷ []) (sym is))
-          ∙ append_assoc (take i xs) (x ∷ []) (before p (drop (i + 1) xs))
-          ∙ ap (λ (t : List ℕ). take i xs ++ t) (sym (before-no p x (drop (i + 1) xs) fails) ∙ ap (before p) (sym d))
-          ∙ s.front;
-      rest = sym (from-no p x (drop (i + 1) xs) fails) ∙ ap (from p) (sym d) ∙ s.rest;
-    }
-
-pub scan_hit : (p : ℕ → Bool) (xs : List ℕ) (i x : ℕ) → i < length xs → x ≡ get_or xs i 0 → p x ≡ true → Scanned p xs i → (take i xs ≡ before p xs) × (drop i xs ≡ from p xs)
-scan_hit p xs i x lt is passes s =
-    let d : drop i xs ≡ x ∷ drop (i + 1) xs = rw is (drop_more xs i 0 lt) in (
-      sym (append-nil (take i xs)) ∙ ap (λ (t : List ℕ). take i xs ++ t) (sym (ap (before p) d ∙ before-yes p x (drop (i + 1) xs) passes)) ∙ s.front,
-      d ∙ sym (from-yes p x (drop (i + 1) xs) passes) ∙ ap (from p) (sym d) ∙ s.rest,
-    )
-
-pub scan_all : (p : ℕ → Bool) (xs : List ℕ) (i : ℕ) → length xs ≤ i → Scanned p xs i → (xs ≡ before p xs) × ([] ≡ from p xs)
-scan_all p xs i le s =
-    let d : drop i xs ≡ [] = drop_all i xs le in (
-      sym (append-nil xs) ∙ ap (λ (t : List ℕ). t ++ []) (sym (take_all i xs le)) ∙ ap (λ (t : List ℕ). take i xs ++ before p t) (sym d) ∙ s.front,
-      sym (ap (from p) d) ∙ s.rest,
-    )
 
 -- a cut at the first byte that passes, where a search found it
 not_true : (b : Bool) → (b ≡ true → ⊥) → b ≡ false
@@ -218,24 +190,3 @@ no_field line (x ∷ xs) e h = absurd (omega arith)
 
 pub cut_field : (line text field rest : List ℕ) → HasField line text → field ≡ before is_space text → rest ≡ from is_space text → (fields_of line ≡ field ∷ fields_of rest) × (length rest < length line)
 cut_field line text field rest has f r = (rw (f, r) has.fields, rw r has.shorter)
-
--- ---- the end of a text
-
-pub trim_end-space : (xs : List ℕ) (x : ℕ) → is_space x ≡ true → trim_end (xs ++ x ∷ []) ≡ trim_end xs
-trim_end-space xs x e = ap (λ (t : List ℕ). reverse (trim_start t)) (reverse-append xs (x ∷ [])) ∙ ap reverse (trim_start-space x (reverse xs) e)
-
-trim_end-reversed : (xs ys : List ℕ) (y : ℕ) → reverse xs ≡ y ∷ ys → is_space y ≡ false → trim_end xs ≡ xs
-trim_end-reversed xs ys y e h = ap (λ (t : List ℕ). reverse (trim_start t)) e ∙ ap reverse (trim_start-other y ys h) ∙ ap reverse (sym e) ∙ reverse-reverse xs
-
-pub trim_end-other : (xs : List ℕ) (x : ℕ) → is_space x ≡ false → trim_end (xs ++ x ∷ []) ≡ xs ++ x ∷ []
-trim_end-other xs x e = trim_end-reversed (xs ++ x ∷ []) (reverse xs) x (reverse-append xs (x ∷ [])) e
-
-pub trim_end-last : (xs : List ℕ) (x : ℕ) → is_space x ≡ false → 0 < length xs → x ≡ get_or xs (length xs - 1) 0 → trim_end xs ≡ xs
-trim_end-last xs x e some is =
-    let t : take (length xs - 1) xs ++ x ∷ [] ≡ xs = ap (λ (y : ℕ). take (length xs - 1) xs ++ y ∷ []) is ∙ sym (take_more xs (length xs - 1) 0 (omega arith)) ∙ take_all (length xs - 1 + 1) xs (omega arith) in
-    ap trim_end (sym t) ∙ trim_end-other (take (length xs - 1) xs) x e ∙ t
-
-pub trim_end-shorter : (xs : List ℕ) → 0 < length xs → get_or xs (length xs - 1) 0 ≡ 32 → trim_end (take (length xs - 1) xs) ≡ trim_end xs
-trim_end-shorter xs some is =
-    let t : take (length xs - 1) xs ++ 32 ∷ [] ≡ xs = ap (λ (y : ℕ). take (length xs - 1) xs ++ y ∷ []) (sym is) ∙ sym (take_more xs (length xs - 1) 0 (omega arith)) ∙ take_all (length xs - 1 + 1) xs (omega arith) in
-    sym (trim_end-space (take (length xs - 1) xs) 32 refl) ∙ ap trim_end t

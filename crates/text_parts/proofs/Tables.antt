@@ -1,10 +1,9 @@
 -- A search through a table from its first row on.
-use Rattle.std.proofs.Common.{◌≡◌, ℕ, ◌+◌, ◌<◌, ◌≤◌, Bool, true, false, eqb, ltb, List, [], ◌∷◌, length, get_or, drop, Option, Some, None, refl, sym, ap, ◌∙◌, arith}
+use Rattle.std.proofs.Common.{◌≡◌, ℕ, ◌+◌, ◌<◌, ◌≤◌, Bool, true, false, ltb, List, [], ◌∷◌, length, get_or, drop, Option, Some, None, refl, sym, ap, ◌∙◌}
 use Rattle.std.specs.Str.{bytes_eq}
 use Rattle.std.specs.List.{list_all}
 use Rattle.std.specs.Prelude.{IfSome, ◌&&◌}
-use Rattle.std.specs.Cmp.Lexicographic.{bytes_decides}
-use Rattle.std.proofs.lemmas.Bool.{and_parts, ltb-true, eq-eqb, ne_eqb}
+use Rattle.std.proofs.lemmas.Bool.{and_parts, ltb-true}
 use Rattle.std.proofs.lemmas.List.{drop_more, drop_all}
 use Rattle.text_parts.specs.Table.{lookup, rows_of}
 use denote.Ref.{Bor}
@@ -58,31 +57,3 @@ below_from_test limit (Some v) h = ltb-true v limit h
 pub record AreSameBefore (first second : List ℕ) (i : ℕ) : Type 0 where
   pub as_long : length first ≡ length second
   pub same : bytes_eq (drop i first) (drop i second) ≡ bytes_eq first second
-
-at_byte : (bytes : List ℕ) (i : ℕ) → i < length bytes → drop i bytes ≡ get_or bytes i 0 ∷ drop (i + 1) bytes
-at_byte bytes i lt = drop_more bytes i 0 lt
-
-cut_both : (first second : List ℕ) (i : ℕ) → i < length first → AreSameBefore first second i → bytes_eq first second ≡ (eqb (get_or first i 0) (get_or second i 0) && bytes_eq (drop (i + 1) first) (drop (i + 1) second))
-cut_both first second i lt s =
-    let other : i < length second = omega (arith, s.as_long, lt) in
-    sym s.same ∙ ap (λ (t : List ℕ). bytes_eq t (drop i second)) (at_byte first i lt) ∙ ap (λ (t : List ℕ). bytes_eq (get_or first i 0 ∷ drop (i + 1) first) t) (at_byte second i other)
-
-pub same_so_far : (first second : List ℕ) (i : ℕ) → i < length first → get_or first i 0 ≡ get_or second i 0 → AreSameBefore first second i → AreSameBefore first second (i + 1)
-same_so_far first second i lt e s = record {
-  as_long = s.as_long;
-  same = sym (cut_both first second i lt s ∙ rw (eq-eqb (get_or first i 0) (get_or second i 0) e) refl);
-}
-
-pub differ_here : (first second : List ℕ) (i : ℕ) → i < length first → (get_or first i 0 ≡ get_or second i 0 → ⊥) → AreSameBefore first second i → false ≡ bytes_eq first second
-differ_here first second i lt e s = sym (cut_both first second i lt s ∙ rw (ne_eqb (get_or first i 0) (get_or second i 0) e) refl)
-
-pub same_to_end : (first second : List ℕ) (i : ℕ) → length first ≤ i → AreSameBefore first second i → true ≡ bytes_eq first second
-same_to_end first second i le s =
-    ap (λ (t : List ℕ). bytes_eq t []) (sym (drop_all i first le)) ∙ ap (bytes_eq (drop i first)) (sym (drop_all i second (omega (arith, s.as_long, le)))) ∙ s.same
-
-pub differ_in_length : (first second : List ℕ) → (length first ≡ length second → ⊥) → false ≡ bytes_eq first second
-differ_in_length first second e = by_test (bytes_eq first second) refl
-  where
-    by_test : (b : Bool) → bytes_eq first second ≡ b → false ≡ bytes_eq first second
-    by_test false same = sym same
-    by_test true same = absurd (e (ap length ((bytes_decides first second).0 same)))

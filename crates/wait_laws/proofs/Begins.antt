@@ -19,12 +19,11 @@ use Rattle.cert_sched.specs.Account.{account_after, page_in}
 use Rattle.cert_sched.specs.Deeds.{is_cut}
 use Rattle.cert_sched.specs.Moved.{any_since_moved, moved_with_state, is_fetch, is_page_is}
 use Rattle.cert_sched.specs.Record.{backup_record, has_state}
-use Rattle.cert_sched.specs.Built.{BuiltMayFollow}
 use Rattle.cert_sched.specs.Legal.{IsLegalBy, Stands}
 use Rattle.cert_sched.specs.Simulation.{IsUnended}
 use Rattle.cert_sched.proofs.LogLaws.{IsLegal-before, IsLegal-last}
 use Rattle.cert_sched.proofs.ThereLaws.{unended_there}
-use Rattle.record_laws.proofs.Standing.{built_stands, itself}
+use Rattle.record_laws.proofs.Standing.{itself}
 use Rattle.page_laws.specs.Next.{moves_next}
 use Rattle.page_laws.proofs.OneEntry.{any_since-snoc, moved_with_state-snoc}
 use Rattle.page_waits.specs.Waiting.{page_count as pages_of}
@@ -77,8 +76,3 @@ begins_so system log e p kept valid legal unended stated moves is = record {
 
     none_since : (test : What → Bool) → any_since_moved system (log ++ e ∷ []) p test ≡ false
     none_since test = any_since-snoc system log e p test ∙ ap (λ b. cond b false (any_since_moved system log p test || test (what e))) moves
-
--- in a log of the entries that are built so far
-pub begins : (system : System) (log : List Entry) (e : Entry) (p : Pid) (kept : BackRec) → is_system system ≡ true → IsLegalBy BuiltMayFollow system (log ++ e ∷ []) → IsUnended system log p → has_state system log p ≡ true
-    → moves_next system log e p ≡ true → backup_record system log p ≡ Some kept → WaitsAs system (log ++ e ∷ []) p none_queued (first_wait kept)
-begins system log e p kept valid legal = begins_so system log e p kept valid (built_stands system (log ++ e ∷ []) legal)
