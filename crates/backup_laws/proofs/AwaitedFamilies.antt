@@ -119,7 +119,7 @@ module _ (system : System) (log : List Entry) (e : Entry) (stands : Stands syste
   old_mode b m p placed there =
       ap (λ places. mode_at places p) (placement-snoc system log e)
       ∙ mode_stays (what e) here p (no_birth_of system log e stands before.all (what e) stands.kind stands.by_right p placed)
-          (ap (λ places. is_some (unended_at places p)) (sym (placement-snoc system log e)) ∙ there)
+      (ap (λ places. is_some (unended_at places p)) (sym (placement-snoc system log e)) ∙ there)
 
   old_modes : (b : Pair) → Member b (births_of log) → is_unsynced after b.1 ≡ true → Together after b → mode_at after b.0 ≡ mode_at after b.1
   old_modes b m h t =
@@ -186,7 +186,7 @@ module _ (system : System) (log : List Entry) (e : Entry) (stands : Stands syste
   by_kind (Birth parent at child end) is b (inr (inl same)) h t =
       let right = born_rightly here (e.post).by parent child (subst (λ w. is_by_right here (e.post).by w ≡ true) is stands.by_right) (subst (KindHolds system log e) is stands.kind).child_is in
       subst (λ (c : Pair). (mode_at after c.0 ≡ mode_at after c.1)
-          × WaitsWith system (log ++ e ∷ []) c) (sym same) (new_modes parent at child end is right, inl (new_waits parent at child end is right))
+      × WaitsWith system (log ++ e ∷ []) c) (sym same) (new_modes parent at child end is right, inl (new_waits parent at child end is right))
   by_kind (Birth parent at child end) is b (inr (inr none)) h t = absurd none
   by_kind (Mail at letter) is b (inr m) h t = absurd m
   by_kind (Exit q at end) is b (inr m) h t = absurd m

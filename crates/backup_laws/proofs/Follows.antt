@@ -51,7 +51,7 @@ module _ (system : System) (log : List Entry) (e : Entry) (p : Pid) where
       ∙ ap (λ b. not (is_full was.mode && b) || (awaited_in system log p || (names p (what e) || is_alone p after))) (or_no_more (was_moved system log p))
       ∙ three (not (is_full was.mode && was_moved system log p)) (awaited_in system log p) (names p (what e) || is_alone p after)
       ∙ ap (λ b. b || (names p (what e) || is_alone p after)) (sym (awaited_is system log p
-          ∙ ap (λ b. not (b && was_moved system log p) || awaited_in system log p) (full_is (placement system log) p was before)))
+      ∙ ap (λ b. not (b && was_moved system log p) || awaited_in system log p) (full_is (placement system log) p was before)))
     where
       three : (a b c : Bool) → (a || (b || c)) ≡ ((a || b) || c)
       three true b c = refl

@@ -119,7 +119,7 @@ module _ (system : System) (log : List Entry) (e : Entry) (stands : Stands syste
   waited_before : moves_next system log e p ≡ false → WaitedBefore
   waited_before stays =
       let parts = either (not (is_full_at (placement system (log ++ e ∷ [])) p && was_moved system (log ++ e ∷ []) p)) (awaited_in system (log ++ e ∷ []) p) (sym (awaited_is system (log ++ e ∷ []) p)
-          ∙ waits) in
+      ∙ waits) in
       let last = either (awaited_in system log p) (names p (what e) || is_alone p (placement system (log ++ e ∷ []))) (sym (awaited-on system log e p stays) ∙ parts.1) in
       let moved : was_moved system log p ≡ true = or_false (was_moved system log p) (sym (ap (λ b. was_moved system log p || b) stays) ∙ sym (was_moved-snoc system log e p) ∙ now.moved) in
       record {
@@ -144,7 +144,7 @@ module _ (system : System) (log : List Entry) (e : Entry) (stands : Stands syste
           let b = waited_before stays in
           let full : is_full_at here p ≡ true =
           ap (λ o. option_map_or (λ (q : Placed). is_full q.mode) o false) there ∙ ap is_full (sym (same r) ∙ ap (λ (x : Placed). x.mode) one)
-              ∙ sym (ap (λ o. option_map_or (λ (q : Placed). is_full q.mode) o false) found) ∙ now.full in
+          ∙ sym (ap (λ o. option_map_or (λ (q : Placed). is_full q.mode) o false) found) ∙ now.full in
           ap (λ (x : Placed). x.backup) (sym one) ∙ keeps r there b.unnamed (all.none p r there (b.waited full))
 
   places_are : (w : What) → what e ≡ w → unended_at (placement system (log ++ e ∷ [])) p ≡ unended_at (placed_after here w) p
@@ -187,7 +187,7 @@ module _ (system : System) (log : List Entry) (e : Entry) (stands : Stands syste
           let right = born_rightly here (e.post).by parent child (subst (λ w. is_by_right here (e.post).by w ≡ true) is stands.by_right) (subst (KindHolds system log e) is stands.kind).child_is in
           let new = child_new here parent child (all.numbered) right in
           let never : was_moved system (log ++ e ∷ []) child ≡ false =
-              was_moved-snoc system log e child ∙ (λ i. never_moved Stands system log child all.legal new i || ap (λ w. option_map_or (is_moved child here) (cluster_lost w) false) is i) in
+          was_moved-snoc system log e child ∙ (λ i. never_moved Stands system log child all.legal new i || ap (λ w. option_map_or (is_moved child here) (cluster_lost w) false) is i) in
           let one : child ≡ p = λ i. record { 0 = eqb-true child.0 p.0 same i } in
           absurd (true≢false (sym now.moved ∙ sym (ap (was_moved system (log ++ e ∷ [])) one) ∙ never))
   by_kind (Exit r at end) is found = by_pid (same_pid p r) refl
@@ -198,7 +198,7 @@ module _ (system : System) (log : List Entry) (e : Entry) (stands : Stands syste
   by_kind (Page r at index bytes) is found = by_same (Page r at index bytes) is refl refl found
   by_kind (Sync r small read took) is found =
       by_change (after_sync r) (places_are (Sync r small read took) is
-          ∙ unended_map (after_sync r) (sync_keeps r) here (placed_after here (Sync r small read took)) refl p) found (none_lost (Sync r small read took) is refl) (sync_mode r)
+      ∙ unended_map (after_sync r) (sync_keeps r) here (placed_after here (Sync r small read took)) refl p) found (none_lost (Sync r small read took) is refl) (sync_mode r)
       (λ s there unnamed had. kept (same_pid s.pid r) s ∙ had)
     where
       kept : (b : Bool) (s : Placed) → (cond b (record s { synced = true }) s).backup ≡ s.backup
@@ -210,7 +210,7 @@ module _ (system : System) (log : List Entry) (e : Entry) (stands : Stands syste
   by_kind (Return k) is found = by_same (Return k) is refl refl found
   by_kind (Rebackup to fresh recs) is found =
       by_change (after_rebackup to fresh recs) (places_are (Rebackup to fresh recs) is
-          ∙ unended_map (after_rebackup to fresh recs) (backup_keeps to fresh recs) here (placed_after here (Rebackup to fresh recs)) refl p) found
+      ∙ unended_map (after_rebackup to fresh recs) (backup_keeps to fresh recs) here (placed_after here (Rebackup to fresh recs)) refl p) found
       (none_lost (Rebackup to fresh recs) is refl) (backup_mode to fresh recs)
       (λ s there unnamed had.
       let name : is_named recs s ≡ false = ap (λ x. list_any (λ (r : BackRec). same_pid r.pid x) recs) (unended_pid here p s there) ∙ sym (ap (names p) is) ∙ unnamed in
@@ -233,7 +233,7 @@ numbered_first system valid = numbered_at_boot system valid
 all_unbacked : (system : System) (log : List Entry) → is_system system ≡ true → IsLegalBy Stands system log → All system log
 all_unbacked system log valid legal =
     legal_induction Stands system (All system)
-        (record { numbered = numbered_first system valid; legal = none_legal system; none = λ p q found waits. absurd (true≢false (sym (waiting_says system [] p waits).moved ∙ none_moved system p)) })
+    (record { numbered = numbered_first system valid; legal = none_legal system; none = λ p q found waits. absurd (true≢false (sym (waiting_says system [] p waits).moved ∙ none_moved system p)) })
     (λ log e before stands. record {
       numbered = numbered_more system log e stands before.numbered;
       legal = IsLegal-snoc Stands system log e before.legal stands;
@@ -276,4 +276,4 @@ waiting_owed system log p valid legal unended waits = by_placed (unended_at (pla
         (λ i. is_some (cond (unended_open_at (placement system log) p q there i || is_some (none i)) None (backup_by_mode (placement system log) q q.mode)))
         ∙ by_mode q q.mode (sym (ap (λ o. option_map_or (λ (q : Placed). is_full q.mode) o false) there) ∙ w.full)
         (sym (ap (λ o. option_map_or (λ (q : Placed). list_all (λ k. same_cluster k q.home || not (lives_in (placement system log) k)) (all_clusters (placement system log))) o false) there)
-            ∙ w.others)
+        ∙ w.others)

@@ -147,7 +147,7 @@ module _ (system : System) (log : List Entry) (e : Entry) (stands : Stands syste
       by_pid true same =
           let pid : child ≡ p = λ i. record { 0 = eqb-true child.0 p.0 same i } in
           let to : child_of born.at child ≡ q =
-              ap (λ (o : Option Placed). unwrap_or o q) (sym (found_child system log e stands all.families parent at child end is born) ∙ ap (unended_at after) pid ∙ found) in
+          ap (λ (o : Option Placed). unwrap_or o q) (sym (found_child system log e stands all.families parent at child end is born) ∙ ap (unended_at after) pid ∙ found) in
           longer here after lives born.at q (ap (λ (x : Placed). x.backup) (sym to)) (all.backed parent born.at born.found)
       by_pid false other = longer here after lives q q refl (all.backed p q (sym (found_born system log e stands all.families parent at child end is born p other) ∙ found))
 
@@ -174,7 +174,7 @@ module _ (system : System) (log : List Entry) (e : Entry) (stands : Stands syste
   backed_by (Sync r small read took) is kind right =
       after_is (Sync r small read took) is
       (by_map here (placed_after here (Sync r small read took)) (after_sync r) (sync_keeps r) refl
-          (λ p q found. longer here here (λ b lives. lives) q (after_sync r q) (sync_home r q).1 (all.backed p q found)))
+      (λ p q found. longer here here (λ b lives. lives) q (after_sync r q) (sync_home r q).1 (all.backed p q found)))
   backed_by (Fetch q index) is kind right = after_is (Fetch q index) is all.backed
   backed_by (PageIs q index bytes) is kind right = after_is (PageIs q index bytes) is all.backed
   backed_by (Crash k cause) is kind right =
@@ -184,7 +184,7 @@ module _ (system : System) (log : List Entry) (e : Entry) (stands : Stands syste
   backed_by (Return k) is kind right =
       after_is (Return k) is
       (λ p q found. longer here (placed_after here (Return k)) (λ b lives. kept_at (λ (c : ClusterPlace). c.lives) returned_cluster (λ c h. refl) here.clusters k.0 b.0 lives) q q refl
-          (all.backed p q found))
+      (all.backed p q found))
   backed_by (Rebackup to fresh recs) is kind right =
       after_is (Rebackup to fresh recs) is
       (by_map here (placed_after here (Rebackup to fresh recs)) (after_rebackup to fresh recs) (backup_keeps to fresh recs) refl

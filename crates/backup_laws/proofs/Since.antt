@@ -66,7 +66,7 @@ module _ (system : System) (log : List Entry) (e : Entry) (p : Pid) where
 
       by_test : (b : Bool)
           → list_any (is_alone p) (map (λ (t : Told). t.places) (cond b [] (since ++ next_told system log e ∷ [])) ++ after ∷ []) ≡ cond b (is_alone p after)
-              (list_any (is_alone p) (map (λ (t : Told). t.places) since ++ placement system log ∷ []) || is_alone p after)
+          (list_any (is_alone p) (map (λ (t : Told). t.places) since ++ placement system log ∷ []) || is_alone p after)
       by_test true = or_nothing (is_alone p after)
       by_test false =
           list_any-last (is_alone p) (map (λ (t : Told). t.places) (since ++ next_told system log e ∷ [])) after

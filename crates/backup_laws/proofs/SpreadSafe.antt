@@ -257,7 +257,7 @@ module _ (lost : ClusterNo → Bool) where
         by_pid true same =
             let pid : child ≡ p = λ i. record { 0 = eqb-true child.0 p.0 same i } in
             let to : child_of born.at child ≡ q =
-                ap (λ (o : Option Placed). unwrap_or o q) (sym (found_child system log e stands all.families parent at child end is born) ∙ ap (unended_at after) pid ∙ found) in
+            ap (λ (o : Option Placed). unwrap_or o q) (sym (found_child system log e stands all.families parent at child end is born) ∙ ap (unended_at after) pid ∙ found) in
             longer here after lives born.at q (ap (λ (x : Placed). x.home) (sym to)) (ap (λ (x : Placed). x.backup) (sym to)) (all.safe parent born.at born.found)
         by_pid false other = longer here after lives q q refl refl (all.safe p q (sym (found_born system log e stands all.families parent at child end is born p other) ∙ found))
 
@@ -270,7 +270,7 @@ module _ (lost : ClusterNo → Bool) where
     safe_by (Sync r small read took) is kind right word =
         after_is (Sync r small read took) is
         (by_map here (placed_after here (Sync r small read took)) (after_sync r) (sync_keeps r) refl
-            (λ p q found. longer here here (λ b safe lives. lives) q (after_sync r q) (sync_home r q).0 (sync_home r q).1 (all.safe p q found)))
+        (λ p q found. longer here here (λ b safe lives. lives) q (after_sync r q) (sync_home r q).0 (sync_home r q).1 (all.safe p q found)))
     safe_by (Fetch q index) is kind right word = after_is (Fetch q index) is all.safe
     safe_by (PageIs q index bytes) is kind right word = after_is (PageIs q index bytes) is all.safe
     safe_by (Crash k cause) is kind right word =
@@ -279,7 +279,7 @@ module _ (lost : ClusterNo → Bool) where
     safe_by (Return k) is kind right word =
         after_is (Return k) is
         (λ p q found. longer here (placed_after here (Return k)) (λ b safe lives. kept_at (λ (c : ClusterPlace). c.lives) returned_cluster (λ c h. refl) here.clusters k.0 b.0 lives) q q refl refl
-            (all.safe p q found))
+        (all.safe p q found))
     safe_by (Rebackup to fresh recs) is kind right word =
         after_is (Rebackup to fresh recs) is
         (by_map here (placed_after here (Rebackup to fresh recs)) (after_rebackup to fresh recs) (backup_keeps to fresh recs) refl
@@ -346,7 +346,7 @@ module _ (lost : ClusterNo → Bool) where
         families = families_at_boot system valid;
         safe =
             roots_safe system bounds.clusters (places_at_boot system) (λ b within. boot_at (λ (c : ClusterPlace). c.lives) system (map placed_root (roots_of system)) b.0 (λ n. refl) within) []
-                system.roots
+            system.roots
             (root_tests system.clusters (length system.images) system.roots (tests system valid).roots).each spread;
         pager = refl;
         first = λ safe. boot_at (λ (c : ClusterPlace). not c.was_lost) system (map placed_root (roots_of system)) ((system.pager).0).0 (λ n. refl) bounds.first;
@@ -365,7 +365,7 @@ module _ (lost : ClusterNo → Bool) where
       here true is = gone q is
       here false is =
           found q.pid q (ap (λ b. cond b (Some q) (find (λ (r : Placed). same_pid r.pid q.pid && not r.ended) qs))
-              (and_from (same_pid q.pid q.pid) (not q.ended) (eq-eqb (q.pid).0 (q.pid).0 refl) (ap not is)))
+          (and_from (same_pid q.pid q.pid) (not q.ended) (eq-eqb (q.pid).0 (q.pid).0 refl) (ap not is)))
 
       later : (p : Pid) (r : Placed) → find (λ (q : Placed). same_pid q.pid p && not q.ended) qs ≡ Some r → t r ≡ true
       later p r there = found p r (by_test (same_pid q.pid p && not q.ended) refl)
@@ -433,7 +433,7 @@ spread_covered system script log k valid spread legal losses by_word =
     let all = legal_induction Stands system (λ log. AllLostBy script log → AllIn lost system log) (λ none. all_at_boot lost system valid parts.0 parts.1)
     (λ log e before stands more.
     let both = and_parts (list_all (λ (e : Entry). option_map_or lost (cluster_lost (what e)) true) log) (list_all (λ (e : Entry). option_map_or lost (cluster_lost (what e)) true) (e ∷ []))
-        (sym (list_all-append (λ (e : Entry). option_map_or lost (cluster_lost (what e)) true) log (e ∷ [])) ∙ more) in
+    (sym (list_all-append (λ (e : Entry). option_map_or lost (cluster_lost (what e)) true) log (e ∷ [])) ∙ more) in
     all_more lost system log e stands (before both.0) (and_parts (option_map_or lost (cluster_lost (what e)) true) true both.1).0)
     log legal losses in
     covered lost system log k all parts.0 by_word

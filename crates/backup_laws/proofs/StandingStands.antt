@@ -72,10 +72,10 @@ module _ (system : System) (log : List Entry) (e : Entry) (may : MayFollow syste
       by_child false other = refl
       by_child true same =
           let right = born_rightly here (e.post).by parent child (subst (λ w. is_by_right here (e.post).by w ≡ true) is (may.stands).by_right)
-              (subst (KindHolds system log e) is (may.stands).kind).child_is in
+          (subst (KindHolds system log e) is (may.stands).kind).child_is in
           let new = child_new here parent child (all.numbered) right in
           let never : was_moved system (log ++ e ∷ []) child ≡ false =
-              was_moved-snoc system log e child ∙ (λ i. never_moved MayFollow system log child all.legal new i || ap (λ w. option_map_or (is_moved child here) (cluster_lost w) false) is i) in
+          was_moved-snoc system log e child ∙ (λ i. never_moved MayFollow system log child all.legal new i || ap (λ w. option_map_or (is_moved child here) (cluster_lost w) false) is i) in
           let one : child ≡ p = λ i. record { 0 = eqb-true child.0 p.0 same i } in
           absurd (true≢false (sym (waiting_says system (log ++ e ∷ []) p waits).moved ∙ sym (ap (was_moved system (log ++ e ∷ [])) one) ∙ never))
   not_born (Mail at letter) is = refl

@@ -225,7 +225,7 @@ module _ (c : ClusterView) (log : List Entry) (e : Entry) (server : Option Pager
   server_stays : is_some server ≡ true → list_any (λ s. same_cluster s k) (servers_in (placement c.system later)) ≡ true
   server_stays some =
       ap (λ pair. list_any (λ s. same_cluster s k) (filter (never_lost (placement c.system later)) (pair.0 ∷ pair.1 ∷ []))) (ap (λ (p : Places). p.pager) at_later
-          ∙ same_pager (what e) places may.built)
+      ∙ same_pager (what e) places may.built)
       ∙ any_alike (λ s. same_cluster s k) (never_lost (placement c.system later)) (never_lost places) ((places.pager).0 ∷ (places.pager).1 ∷ []) one
       ∙ f.server (served_before c.server server serves some)
     where
@@ -246,7 +246,7 @@ module _ (c : ClusterView) (log : List Entry) (e : Entry) (server : Option Pager
       → c.family ≡ filter (concerns (placement c.system later) k) (unsynced_births c.system later)
   alike_here w is none same =
       f.family ∙ filters_same (concerns places k) (concerns (placed_after places w) k) (unsynced_births c.system log) same
-          ∙ (λ i. filter (concerns (placed_after places (sym is i)) k) (unsynced_births c.system log))
+      ∙ (λ i. filter (concerns (placed_after places (sym is i)) k) (unsynced_births c.system log))
       ∙ (λ i. filter (concerns (sym at_later i) k) (sym (others_leave c.system log e may.built (ap changes_unsynced is ∙ none)) i))
 
   there : (w : What) → what e ≡ w → placement c.system later ≡ placed_after places w
@@ -297,7 +297,7 @@ module _ (c : ClusterView) (log : List Entry) (e : Entry) (server : Option Pager
       by_kept (concerns c.places k (child, parent))
       ∙ (λ i. f.family i ++ cond (sym asked i) ((parent, child) ∷ []) [])
       ∙ ap (λ bs. bs ++ cond (concerns (placement c.system later) k (parent, child)) ((parent, child) ∷ []) [])
-          (filter_alike (concerns places k) (concerns (placement c.system later) k) (unsynced_births c.system log) (λ b m. sym (before b m)))
+      (filter_alike (concerns places k) (concerns (placement c.system later) k) (unsynced_births c.system log) (λ b m. sym (before b m)))
       ∙ sym (filter-append (concerns (placement c.system later) k) (unsynced_births c.system log) ((parent, child) ∷ []))
       ∙ ap (filter (concerns (placement c.system later) k)) (sym (birth_last c.system log e parent at child end valid stands may.stands is))
     where
@@ -331,7 +331,7 @@ module _ (c : ClusterView) (log : List Entry) (e : Entry) (server : Option Pager
           apart : (x : Bool) → same_pid child b.1 ≡ x → same_pid child b.1 ≡ false
           apart true same =
               absurd (true≢false (sym (passes_any (stands_in child) (unsynced_births c.system log) b m (second (same_pid child b.0) (same_pid child b.1) same))
-                  ∙ stands_in_none c.system log e parent at child end valid stands may.stands is))
+              ∙ stands_in_none c.system log e parent at child end valid stands may.stands is))
           apart false same = same
 
       asked : concerns (placement c.system later) k (parent, child) ≡ concerns c.places k (child, parent)
@@ -346,13 +346,13 @@ module _ (c : ClusterView) (log : List Entry) (e : Entry) (server : Option Pager
       ap (filter (λ (b : Pid × Pid). not (same_pid b.1 pid))) f.family
       ∙ without_child (concerns places k) (concerns (placement c.system later) k) pid (unsynced_births c.system log)
       (λ b apart. ap (λ ps. concerns ps k b) (there (Exit pid at end) is)
-          ∙ ap (λ o. option_map_or of_here o false) (unended_exit pid b.1 places.placed (λ same. true≢false (sym (eq-eqb (b.1).0 pid.0 same) ∙ apart))))
+      ∙ ap (λ o. option_map_or of_here o false) (unended_exit pid b.1 places.placed (λ same. true≢false (sym (eq-eqb (b.1).0 pid.0 same) ∙ apart))))
       ∙ ap (filter (concerns (placement c.system later) k)) (sym (ended_goes c.system log e pid at end is))
   family_kept (Page pid at index bytes) is kind other = alike_here (Page pid at index bytes) is refl (λ b. refl)
   family_kept (Sync pid small read took) is kind other =
       ap (filter (λ (b : Pid × Pid). not (same_pid b.1 pid))) f.family
       ∙ without_child (concerns places k) (concerns (placement c.system later) k) pid (unsynced_births c.system log) (λ b apart. ap (λ ps. concerns ps k b) (there (Sync pid small read took) is)
-          ∙ sync_keeps_concerns places k pid small read took b)
+      ∙ sync_keeps_concerns places k pid small read took b)
       ∙ ap (filter (concerns (placement c.system later) k)) (sym (synced_goes c.system log e pid small read took is))
   family_kept (Fetch pid index) is kind other = alike_here (Fetch pid index) is refl (λ b. refl)
   family_kept (PageIs pid index bytes) is kind other = alike_here (PageIs pid index bytes) is refl (λ b. refl)
@@ -368,7 +368,7 @@ module _ (c : ClusterView) (log : List Entry) (e : Entry) (server : Option Pager
   more_steps =
       let one = with_last (λ (e : Entry). goes_to e.dests k) log e comes in
       let sent : count_by (is_by_cluster k) later ≡ count_by (is_by_cluster k) log =
-          count_by-snoc (is_by_cluster k) log e ∙ ap (λ b. count_by (is_by_cluster k) log + cond b 1 0) foreign ∙ add-zero _ in
+      count_by-snoc (is_by_cluster k) log e ∙ ap (λ b. count_by (is_by_cluster k) log + cond b 1 0) foreign ∙ add-zero _ in
       omega (arith, one, sent)
 
   pub heard_follows : FollowsHeard c.system later heard
@@ -408,6 +408,6 @@ module _ (c : ClusterView) (log : List Entry) (e : Entry) (server : Option Pager
 pub taken_in_heard : (c : ClusterView) (log : List Entry) (e : Entry) (server : Option PagerState) → is_system c.system ≡ true → IsOpen BuiltMayFollow c.system log
     → IsOpen BuiltMayFollow c.system (log ++ e ∷ []) → goes_to e.dests c.number ≡ true → is_by_cluster c.number e ≡ false
     → is_crash_of c.number (what e) ≡ false → are_rising (moved_by c.places c.number (what e) (records_after (what e) c.records)) ≡ true → Serves (placement c.system log) e c.server server
-        → FollowsHeard c.system log c
+    → FollowsHeard c.system log c
     → FollowsHeard c.system (log ++ e ∷ []) (with_server server (with_heard c e))
 taken_in_heard c log e server valid now next comes foreign spared order serves f = heard_follows c log e server valid now next comes foreign spared order serves f

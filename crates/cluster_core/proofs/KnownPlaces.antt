@@ -147,7 +147,7 @@ asked_alike system k ask blind (Some p) None knows = absurd knows
 pub moves_alike : (system : System) (k lost : ClusterNo) (known places : Places) → KnowsPlaces system k known places → (r : BackRec) → moves_here known lost k r ≡ moves_here places lost k r
 moves_alike system k lost known places knows r =
     asked_alike system k (is_moved_here lost k) (λ q. refl) (placed_at known r.pid) (placed_at places r.pid)
-        (found_known system k (λ (q : Placed). same_pid q.pid r.pid) (λ q. refl) known.placed places.placed knows.placed)
+    (found_known system k (λ (q : Placed). same_pid q.pid r.pid) (λ q. refl) known.placed places.placed knows.placed)
 
 -- and the same births concern it
 pub concerns_alike : (system : System) (k : ClusterNo) (known places : Places) → KnowsPlaces system k known places → (b : Pid × Pid) → concerns known k b ≡ concerns places k b
@@ -190,7 +190,7 @@ pub known_after : (system : System) (k : ClusterNo) (known places : Places) (w :
 known_after system k known places (Mail at letter) built knows = knows
 known_after system k known places (Birth parent at child end) built knows =
     birth_known system k child known places (placed_at known parent) (placed_at places parent) knows
-        (found_known system k (λ (q : Placed). same_pid q.pid parent) (λ q. refl) known.placed places.placed knows.placed)
+    (found_known system k (λ (q : Placed). same_pid q.pid parent) (λ q. refl) known.placed places.placed knows.placed)
 known_after system k known places (Exit pid at end) built knows =
     record { clusters = knows.clusters; pager = knows.pager; placed = goes_each system k (after_exit pid) (exit_goes system k pid) known.placed places.placed knows.placed }
 known_after system k known places (Page pid at index bytes) built knows = knows

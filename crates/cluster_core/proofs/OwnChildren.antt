@@ -96,7 +96,7 @@ pub own_first : (c : ClusterView) (log : List Entry) (p : Pid) (h : Held) → is
 own_first c log p h valid now f there =
     ap (λ bs. first_unsynced bs p) f.family
     ∙ first_same (unsynced_births c.system log) (concerns places k) (is_home places k) (births_may_stand c.system log valid stands) (λ b m home. let at_child = child_home b m home in
-        (home_concerns places k b at_child, at_child)) p
+    (home_concerns places k b at_child, at_child)) p
     (ap (λ o. option_map_or (λ j. same_cluster j k) (option_map (λ (q : Placed). q.home) o) false) home.found ∙ home.home)
   where
     places : Places

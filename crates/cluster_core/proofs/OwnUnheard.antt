@@ -118,7 +118,7 @@ module _ (c : ClusterView) (log : List Entry) (e : Entry) (valid : is_system c.s
   goes_on : FollowsBuilt c.system later taken
   goes_on =
       absorbs (shadow log left) e c.server valid (own_upto c.cursor (length log) c.here (f.log).within f.own) (ap are_rising (none_moved c log e valid now next away f _))
-          (serves c log e valid now next away f c.server refl) log now next (inr between)
+      (serves c log e valid now next away f c.server refl) log now next (inr between)
 
   as_left : taken ≡ alike left taken.cursor taken.places taken.family taken.steps
   as_left = λ i. record left {
@@ -184,7 +184,7 @@ module _ (c : ClusterView) (log : List Entry) (e : Entry) (valid : is_system c.s
     steps = record {
       counted = λ kept.
           let before : capped (least_steps (heard_in k log) log k + 1) ≤ c.steps =
-              subst (λ b. capped (least_steps (heard_in k log) log k + cond b 1 0) ≤ c.steps) tried ((f.steps).counted (lost_before log e k kept)) in
+          subst (λ b. capped (least_steps (heard_in k log) log k + cond b 1 0) ≤ c.steps) tried ((f.steps).counted (lost_before log e k kept)) in
           capped_less (least_steps (heard_in k later) later k + 0) (least_steps (heard_in k log) log k + 1) c.steps (omega (arith, more_steps)) before;
     };
     limits = f.limits;
@@ -198,7 +198,7 @@ module _ (c : ClusterView) (log : List Entry) (e : Entry) (valid : is_system c.s
         ap (list_any (λ s. same_cluster s k))
         (ap servers_in (at_later c log e valid now next away f)
         ∙ (λ i. filter (λ j. option_map_or (λ (c : ClusterPlace). not c.was_lost) (slice_get (same_clusters c log e valid now next away f i) j.0) false)
-            ((same_pager c log e valid now next away f i).0 ∷ (same_pager c log e valid now next away f i).1 ∷ [])))
+        ((same_pager c log e valid now next away f i).0 ∷ (same_pager c log e valid now next away f i).1 ∷ [])))
         ∙ f.server some;
     disk = f.disk;
     own = f.own;
@@ -208,9 +208,9 @@ module _ (c : ClusterView) (log : List Entry) (e : Entry) (valid : is_system c.s
           → list_any (λ (b : Pid × Pid). same_pid b.0 parent && same_pid b.1 child) c.family ≡ true
       fewer parent child = of_it c log e valid now next away f
           (λ w. list_any (λ (b : Pid × Pid). same_pid b.0 parent && same_pid b.1 child) (after_head_heard c w).family ≡ true
-              → list_any (λ (b : Pid × Pid). same_pid b.0 parent && same_pid b.1 child) c.family ≡ true)
+          → list_any (λ (b : Pid × Pid). same_pid b.0 parent && same_pid b.1 child) c.family ≡ true)
           (λ at letter any. any) (λ pid at index bytes any. any) (λ pid small read took any. any_less (λ (b : Pid × Pid). same_pid b.0 parent && same_pid b.1 child) (λ (b : Pid
-              × Pid). not (same_pid b.1 pid)) c.family any) (λ pid index any. any)
+          × Pid). not (same_pid b.1 pid)) c.family any) (λ pid index any. any)
           (λ pid index bytes any. any)
 
   pub sent_follows : FollowsHeard c.system later (after_sent_heard c c.queue)

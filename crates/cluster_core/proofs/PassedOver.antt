@@ -173,7 +173,7 @@ module _ (c : ClusterView) (log : List Entry) (e : Entry) (valid : is_system c.s
   to_servers : is_some c.server ≡ true → (front : List ClusterNo) → goes_to (to_clusters places (front ++ servers_in places)) k ≡ true
   to_servers some front =
       named_goes places k (front ++ servers_in places) f.lives (list_any-append (λ j. same_cluster j k) front (servers_in places)
-          ∙ last_of_either (list_any (λ j. same_cluster j k) front) (f.server some))
+      ∙ last_of_either (list_any (λ j. same_cluster j k) front) (f.server some))
     where
       last_of_either : (x : Bool) {y : Bool} → y ≡ true → (x || y) ≡ true
       last_of_either true is = refl
@@ -258,7 +258,7 @@ module _ (c : ClusterView) (log : List Entry) (e : Entry) (valid : is_system c.s
     births_stay =
         of_it (λ w. what e ≡ w → filter (concerns places k) (unsynced_births c.system log) ≡ filter (concerns (placement c.system later) k) (unsynced_births c.system later))
         (λ at letter is. births_left is refl refl) (λ pid at index bytes is. births_left is refl refl) (λ pid small read took is. cut pid small read took is) (λ pid index is. births_left is refl refl)
-            (λ pid index bytes is. births_left is refl refl) refl
+        (λ pid index bytes is. births_left is refl refl) refl
       where
         cut : (pid : Pid) (small : SmallState) (read : List ℕ) (took : Option ℕ) → what e ≡ Sync pid small read took
             → filter (concerns places k) (unsynced_births c.system log) ≡ filter (concerns (placement c.system later) k) (unsynced_births c.system later)
@@ -284,7 +284,7 @@ module _ (c : ClusterView) (log : List Entry) (e : Entry) (valid : is_system c.s
 
             by_option : (o : Option Placed)
                 → option_map_or (λ (q : Placed). same_cluster q.home k || is_cluster q.backup k) (option_map (after_sync pid) o) false ≡ option_map_or
-                    (λ (q : Placed). same_cluster q.home k || is_cluster q.backup k) o false
+                (λ (q : Placed). same_cluster q.home k || is_cluster q.backup k) o false
             by_option None = refl
             by_option (Some q) = same_place (same_pid q.pid pid) q
 
@@ -292,7 +292,7 @@ module _ (c : ClusterView) (log : List Entry) (e : Entry) (valid : is_system c.s
             stays b =
                 ap (λ ps. concerns ps k b) (at_later ∙ ap (placed_after places) is)
                 ∙ ap (λ o. option_map_or (λ (q : Placed). same_cluster q.home k || is_cluster q.backup k) o false)
-                    (unended_map (after_sync pid) (sync_keeps pid) places (placed_after places (Sync pid small read took)) refl b.1)
+                (unended_map (after_sync pid) (sync_keeps pid) places (placed_after places (Sync pid small read took)) refl b.1)
                 ∙ by_option (unended_at places b.1)
 
             by_child : (b : Pid × Pid) (x : Bool) → same_pid b.1 pid ≡ x → concerns places k b ≡ (not (same_pid b.1 pid) && concerns (placement c.system later) k b)
@@ -308,7 +308,7 @@ module _ (c : ClusterView) (log : List Entry) (e : Entry) (valid : is_system c.s
     goes_on : FollowsBuilt c.system later taken
     goes_on =
         absorbs (shadow log c) e c.server valid (own_upto c.cursor (length log) c.here (f.log).within f.own) (ap are_rising (none_moved _)) (serves c.server refl) log now next
-            (inl (built, foreign, no_loss))
+        (inl (built, foreign, no_loss))
 
     here_is : taken.here ≡ c.here
     here_is = (λ i. with_all_waiting (none_moved (records_after (what e) c.records) i) (here_after (what e) c.here)) ∙ here_stays
@@ -351,7 +351,7 @@ module _ (c : ClusterView) (log : List Entry) (e : Entry) (valid : is_system c.s
       accounts = record { keeps = (still.accounts).keeps; there = (still.accounts).there; calls = (still.accounts).calls };
       server = λ some.
           ap (list_any (λ s. same_cluster s k)) (ap servers_in at_later
-              ∙ (λ i. filter (λ j. option_map_or (λ (c : ClusterPlace). not c.was_lost) (slice_get (same_clusters i) j.0) false) ((same_pager i).0 ∷ (same_pager i).1 ∷ [])))
+          ∙ (λ i. filter (λ j. option_map_or (λ (c : ClusterPlace). not c.was_lost) (slice_get (same_clusters i) j.0) false) ((same_pager i).0 ∷ (same_pager i).1 ∷ [])))
           ∙ f.server some;
       disk = f.disk;
       own = f.own;

@@ -109,7 +109,7 @@ alike c cursor places family steps = record c { cursor = cursor; places = places
 
 pub queued_back : (c : ClusterView) (log : List Entry) (cursor : ℕ) (places : Places) (family : List (Pid × Pid)) (steps : ℕ)
     → IsQueued c.queue ⊎ Synchronises c.system log (alike c cursor places family steps) ⊎ BearsChild c.system log (alike c cursor places family steps)
-        → IsQueued c.queue ⊎ Synchronises c.system log c ⊎ BearsChild c.system log c
+    → IsQueued c.queue ⊎ Synchronises c.system log c ⊎ BearsChild c.system log c
 queued_back c log cursor places family steps (inl alone) = inl alone
 queued_back c log cursor places family steps (inr (inl y)) = inr (inl (record {
   pid = y.pid;

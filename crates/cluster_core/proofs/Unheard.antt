@@ -36,7 +36,7 @@ all_hear places k lives = named_goes places k (all_clusters places) lives (all_n
 pub by_unheard : (P : What → Type 0) → ((at : ℕ) (letter : Letter) → P (Mail at letter)) → ((pid : Pid) (at index : ℕ) (bytes : List ℕ) → P (Page pid at index bytes))
     → ((pid : Pid) (small : SmallState) (read : List ℕ) (took : Option ℕ) → P (Sync pid small read took))
     → ((pid : Pid) (index : ℕ) → P (Fetch pid index)) → ((pid : Pid) (index : ℕ) (bytes : List ℕ) → P (PageIs pid index bytes)) → (places : Places) (k : ClusterNo) → lives_in places k ≡ true
-        → (w : What) → is_built w ≡ true → goes_to (route places w) k ≡ false → P w
+    → (w : What) → is_built w ≡ true → goes_to (route places w) k ≡ false → P w
 by_unheard P mail page cut fetch come places k lives (Mail at letter) built away = mail at letter
 by_unheard P mail page cut fetch come places k lives (Page pid at index bytes) built away = page pid at index bytes
 by_unheard P mail page cut fetch come places k lives (Sync pid small read took) built away = cut pid small read took
@@ -60,16 +60,16 @@ first_of_either false c is = absurd (true≢false (sym is))
 pub page_goes : (places : Places) (k : ClusterNo) (p : Pid) (index : ℕ) (bytes : List ℕ) → lives_in places k ≡ true → HomeHere places p k → goes_to (route places (PageIs p index bytes)) k ≡ true
 page_goes places k p index bytes lives home =
     let named : list_any (λ j. same_cluster j k) (home_of places p) ≡ true =
-        ap (λ o. list_any (λ j. same_cluster j k) (option_map_or (λ (q : Placed). q.home ∷ []) o [])) home.found ∙ first_of_either (same_cluster (home.placed).home k) false home.home in
+    ap (λ o. list_any (λ j. same_cluster j k) (option_map_or (λ (q : Placed). q.home ∷ []) o [])) home.found ∙ first_of_either (same_cluster (home.placed).home k) false home.home in
     named_goes places k (home_of places p ++ servers_in places) lives (list_any-append (λ j. same_cluster j k) (home_of places p) (servers_in places)
-        ∙ first_of_either _ (list_any (λ j. same_cluster j k) (servers_in places)) named)
+    ∙ first_of_either _ (list_any (λ j. same_cluster j k) (servers_in places)) named)
 
 -- a cut of a process whose backup is here goes here
 pub cut_goes : (places : Places) (k : ClusterNo) (p : Pid) (q : Placed) (small : SmallState) (read : List ℕ) (took : Option ℕ) → lives_in places k ≡ true → unended_at places p ≡ Some q
     → is_cluster q.backup k ≡ true → goes_to (route places (Sync p small read took)) k ≡ true
 cut_goes places k p q small read took lives found backup =
     named_goes places k (backup_of places p ++ servers_in places) lives (list_any-append (λ j. same_cluster j k) (backup_of places p) (servers_in places)
-        ∙ first_of_either _ (list_any (λ j. same_cluster j k) (servers_in places)) (by_backup q.backup refl backup))
+    ∙ first_of_either _ (list_any (λ j. same_cluster j k) (servers_in places)) (by_backup q.backup refl backup))
   where
     by_backup : (o : Option ClusterNo) → q.backup ≡ o → is_cluster o k ≡ true → list_any (λ j. same_cluster j k) (backup_of places p) ≡ true
     by_backup None is named = absurd (true≢false (sym named))

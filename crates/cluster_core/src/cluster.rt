@@ -243,7 +243,9 @@ impl<D: PageDisk + Drop> Cluster<D> {
     /// last, cyclically. Where it has read `syncreads` letters or made `syncsteps` steps since its last synchronisation it synchronises: its
     /// changed pages are queued, and then its state. Else it runs, up to something that it sends or until it is due, or up to its fork,
     /// whose birth is queued. Where it is due or is to end, and has a child that never synchronised, that child synchronises in its place, its own
-    /// children first; while that child rolls forward, the process is passed over. Where none can move, the cluster waits if a process here waits for its pages, and rests if none does.
+    /// children first; while that child rolls forward, the process is passed over. The cluster rests exactly where no process here can move
+    /// or waits for its pages; else it answers that it waits where one waits for pages and none has its turn. Which process has its turn,
+    /// and that one has where one can move, no clause says.
     /// A call of its disk that fails leaves a cluster that has failed, in which there is no process. After want of memory nothing
     /// is said of the cluster but that it can be dropped.
     pub fn work(&mut self) -> Result<Worked, Hurt>

@@ -48,7 +48,7 @@ abbrev pub what_text : ToldWhat → List ℕ
 what_text (Mail from at letter) = codes "mail " ++ (decimal from ++ (codes " at " ++ (decimal at ++ (codes " " ++ letter_text letter))))
 what_text (Birth parent at child end) =
     codes "birth " ++ (decimal parent ++
-        (codes " at " ++ (decimal at ++ (codes " child " ++ (decimal child ++ (codes " end " ++ decimal end))))))
+    (codes " at " ++ (decimal at ++ (codes " child " ++ (decimal child ++ (codes " end " ++ decimal end))))))
 what_text (Exit pid at end) = codes "exit " ++ (decimal pid ++ (codes " at " ++ (decimal at ++ (codes " " ++ end_text end))))
 what_text (Page pid at index) = codes "page " ++ (decimal pid ++ (codes " at " ++ (decimal at ++ spaced index)))
 what_text (Sync pid at took) = codes "sync " ++ (decimal pid ++ (codes " at " ++ (decimal at ++ took_text took)))

@@ -46,7 +46,7 @@ unsynced_after_standing places to recs p =
 unsynced_after_fresh : (places : Places) (to : ClusterNo) (r : BackRec) (p : Pid) → is_unsynced (placed_after places (Rebackup to true (r ∷ []))) p ≡ (is_unsynced places p && not (same_pid p r.pid))
 unsynced_after_fresh places to r p =
     ap never_synced (unended_map (after_rebackup to true (r ∷ [])) (backup_keeps to true (r ∷ [])) places (placed_after places (Rebackup to true (r ∷ []))) refl p)
-        ∙ by_found (unended_at places p) refl
+    ∙ by_found (unended_at places p) refl
   where
     or_true : (b : Bool) → (b || true) ≡ true
     or_true true = refl

@@ -1,5 +1,5 @@
-//! Tests of the program as a whole: which words it takes, what it tells of its input and its output, which run it hands out, and
-//! that the clusters of a run run beside each other.
+//! Tests of the program as a whole: which words it takes, what it tells of its input and its output, which run it hands out,
+//! that the clusters of a run run beside each other, and that a run ends where a thread cannot be started.
 #![tactic(auto)]
 
 #[cfg(test)]
@@ -8,3 +8,5 @@ mod beside;
 mod handed;
 #[cfg(test)]
 mod program;
+#[cfg(test)]
+mod unstarted;

@@ -83,7 +83,7 @@ taken_too size memory h x sound e =
     let p = given_parts h x e in
     let s = sound p.0 in
     and_from (is_segment h) (is_among h.address h.memory_size x) p.0
-        (and_from (leb h.address x) (ltb x (h.address + h.memory_size)) (le-leb h.address x p.1) (lt-ltb x (h.address + h.memory_size) (omega (arith, p.2, s.bytes))))
+    (and_from (leb h.address x) (ltb x (h.address + h.memory_size)) (le-leb h.address x p.1) (lt-ltb x (h.address + h.memory_size) (omega (arith, p.2, s.bytes))))
 
 -- one of the headers shares an address with another
 shares_at : (h : Header) (hs : List Header) (j : ℕ) (g : Header) → slice_get hs j ≡ Some g → share h g ≡ true → list_any (share h) hs ≡ true
@@ -135,7 +135,7 @@ is_image file pages image e is =
           at (header.address - 0x10000 + i) (omega (arith, low, inside, s.bytes, s.upto some))
           ∙ ap (byte_at file (headers file)) x
           ∙ byte_of_segment (length file) (256 * pages) file (headers file) j header (header.address + i) sound (kept Overlap) there
-              (given_from header (header.address + i) segment (omega arith) (omega (arith, inside)))
+          (given_from header (header.address + i) segment (omega arith) (omega (arith, inside)))
           ∙ ap (λ n. get_or file n 0) y;
       zeros = λ k lt none. at k lt ∙ byte_of_none file (headers file) (0x10000 + k) none;
       entry_is = ap (λ (i : Loaded). i.entry) is;

@@ -79,7 +79,7 @@ none_share h [] free = refl
 none_share h (g ∷ gs) free =
     or_from (share h g) (list_any (share h) gs)
     (false_from_ne_true (share h g) (λ e. let c = common h g e in
-        true≢false (sym (takes_from c.at g c.second) ∙ (or_parts (takes c.at g) (list_any (takes c.at) gs) (free c.at (takes_from c.at h c.first))).0)))
+    true≢false (sym (takes_from c.at g c.second) ∙ (or_parts (takes c.at g) (list_any (takes c.at) gs) (free c.at (takes_from c.at h c.first))).0)))
     (none_share h gs (λ x t. (or_parts (takes x g) (list_any (takes x) gs) (free x t)).1))
 
 -- ---- by the marks

@@ -44,7 +44,7 @@ rebackup_sum g to fresh recs (q ∷ qs) = by_name (is_named recs q) (rebackup_su
     counted : (r : Placed) (d : Bool) → r.pid ≡ q.pid
         → sum_by (λ (q : Placed). g q.pid) (filter (λ (q : Placed). not q.ended) (map (after_rebackup to fresh recs) qs)) ≡ sum_by (λ (q : Placed). g q.pid) (filter (λ (q : Placed). not q.ended) qs)
         → sum_by (λ (q : Placed). g q.pid)
-            (cond (not d) (r ∷ filter (λ (q : Placed). not q.ended) (map (after_rebackup to fresh recs) qs)) (filter (λ (q : Placed). not q.ended) (map (after_rebackup to fresh recs) qs)))
+        (cond (not d) (r ∷ filter (λ (q : Placed). not q.ended) (map (after_rebackup to fresh recs) qs)) (filter (λ (q : Placed). not q.ended) (map (after_rebackup to fresh recs) qs)))
         ≡ sum_by (λ (q : Placed). g q.pid) (cond (not d) (q ∷ filter (λ (q : Placed). not q.ended) qs) (filter (λ (q : Placed). not q.ended) qs))
     counted r true same more = more
     counted r false same more =
@@ -101,12 +101,12 @@ module _ (system : System) (log : List Entry) (e : Entry) (valid : is_system sys
 
     module _ (places : (g : Pid → ℕ)
         → sum_by (λ (q : Placed). g q.pid) (unended_in (placement system (log ++ e ∷ []))) ≡ sum_by (λ (q : Placed). g q.pid) (unended_in (placement system log)))
-            (leaves : waits_after (placement system log) (what e) (waiting_fetches system log) ≡ waiting_fetches system log) where
+        (leaves : waits_after (placement system log) (what e) (waiting_fetches system log) ≡ waiting_fetches system log) where
       syncs : left_of_syncs system (log ++ e ∷ []) + 2 * log_load system (log ++ e ∷ []) ≤ left_of_syncs system log + 2 * log_load system log
       syncs =
           let those = places (left_of_process system (log ++ e ∷ [])) in
           let all = sum_by-le-each (λ (q : Placed). left_of_process system (log ++ e ∷ []) q.pid) (λ (q : Placed). left_then system log e stands q.pid) (λ q. each q.pid)
-              (unended_in (placement system log)) in
+          (unended_in (placement system log)) in
           let most = then_most system log e stands no_fork valid legal in
           omega (arith, those, all, most)
 
@@ -125,7 +125,7 @@ module _ (system : System) (log : List Entry) (e : Entry) (valid : is_system sys
       no_more_to_send : left_to_send system (log ++ e ∷ []) ≤ left_to_send system log
       no_more_to_send =
           no_more (log_load system log) (log_load system (log ++ e ∷ [])) (left_of_pages system log) (left_of_pages system (log ++ e ∷ [])) (left_of_syncs system log)
-              (left_of_syncs system (log ++ e ∷ []))
+          (left_of_syncs system (log ++ e ∷ []))
           (load_most system log e stands) pages syncs
 
   renewed : (to : ClusterNo) (fresh : Bool) (recs : List BackRec) → what e ≡ Rebackup to fresh recs → left_to_send system (log ++ e ∷ []) ≤ left_to_send system log

@@ -10,7 +10,7 @@ use Rattle.rv_elf.proofs.loading.load_segments.Goals as goal
 pub returns-in-Some : goal.returns-in-Some
 returns-in-Some c =
     let found : find (breaks c.args.file.now c.args.pages) header_rules ≡ Some c.in-Some.rule =
-        ap (λ (hs : List Header). find (break_as (length c.args.file.now) c.args.pages hs) header_rules) (sym c.requires.all) ∙ sym c.broken_by_headers.ensures ∙ c.in-Some.is in
+    ap (λ (hs : List Header). find (break_as (length c.args.file.now) c.args.pages hs) header_rules) (sym c.requires.all) ∙ sym c.broken_by_headers.ensures ∙ c.in-Some.is in
     let both = found_in_front (breaks c.args.file.now c.args.pages) header_rules (Overlap ∷ Entry ∷ []) c.in-Some.rule found in
     refuses_same c.refused.result (Some c.in-Some.rule) (find (breaks c.args.file.now c.args.pages) late_rules) (sym both) c.refused.ensures
 

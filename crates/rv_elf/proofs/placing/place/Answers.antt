@@ -17,4 +17,4 @@ returns-clause-shared c = λ behind marks.
     let some : 0 < c.args.header.memory_size = omega (arith, c.if-header-eq0.false) in
     let low = sound.from some in
     shares_by_marks c.args.header c.args.taken.now behind c.place_segment.result segment low (omega (arith, low, sound.upto some, c.requires.each)) marks c.place_segment.ensures.found
-        c.place_segment.ensures.free
+    c.place_segment.ensures.free
