@@ -30,7 +30,7 @@ use Rattle.cert_sched.proofs.UnplacedLaws.{never_moved}
 use Rattle.cert_sched.proofs.FreshLaws.{BornRightly, born_rightly, child_new}
 use Rattle.cert_sched.proofs.FamilyLaws.{Pair, Member, none_of, among, In, not_in, Families, Together, families_at_boot, families_more, births_more, child_joins, found_born, found_child, fresh_named, standing_named}
 use Rattle.cert_sched.proofs.ChildLaws.{member_either, no_birth_of, one_passes, unsynced_by}
-use Rattle.page_laws.specs.Next.{moves_next}
+use Rattle.log_laws.specs.pages.Next.{moves_next}
 use Rattle.backup_laws.proofs.Since.{awaited_in, awaited_is, awaited-moved, awaited-on, full_mode, is_full_at, mode_at, was_moved-snoc}
 use Rattle.backup_laws.proofs.Modes.{mode_stays, moved_is}
 

@@ -10,7 +10,7 @@ use Rattle.bus_msg.specs.PlacedAfter.{what}
 use Rattle.cert_sched.specs.Schedule.{placement}
 use Rattle.cert_sched.specs.Moved.{names, was_moved}
 use Rattle.cert_sched.specs.Rules.{has_awaited_backup, is_alone, is_full}
-use Rattle.page_laws.specs.Next.{moves_next}
+use Rattle.log_laws.specs.pages.Next.{moves_next}
 use Rattle.backup_laws.proofs.Since.{awaited_in, awaited_is, awaited-moved, awaited-on, is_full_at, was_moved-snoc}
 
 full_is : (places : Places) (p : Pid) (q : Placed) → unended_at places p ≡ Some q → is_full_at places p ≡ is_full q.mode

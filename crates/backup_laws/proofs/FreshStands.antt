@@ -25,8 +25,8 @@ use Rattle.cert_sched.proofs.StepLaws.{silent_applies, silent_from, process_afte
 use Rattle.cert_sched.proofs.RollLaws.{all_roll, rolls_next}
 use Rattle.cert_sched.proofs.OpenLaws.{unended_open}
 use Rattle.cert_sched.proofs.BuiltCuts.{by_home_there}
-use Rattle.record_laws.proofs.Standing.{itself}
-use Rattle.sync_laws.specs.Sending.{MaySend}
+use Rattle.log_laws.proofs.records.Standing.{itself}
+use Rattle.checkpoint_laws.specs.posts.Sending.{MaySend}
 use Rattle.backup_mode.specs.Posts.{fresh_post, renewed_record}
 use Rattle.backup_laws.specs.Posts.{MayRenew}
 

@@ -34,8 +34,8 @@ use Rattle.cert_sched.proofs.FamilyLaws.{exit_there, exit_elsewhere}
 use Rattle.cert_sched.proofs.UnendedLaws.{unended_map, unended_open_at, unended_pid, sync_keeps, loss_keeps, backup_keeps}
 use Rattle.cert_sched.proofs.UnplacedLaws.{never_moved}
 use Rattle.cert_sched.specs.Rules.{is_by_right}
-use Rattle.page_laws.specs.Next.{moves_next}
-use Rattle.page_laws.proofs.OneEntry.{list_any-last}
+use Rattle.log_laws.specs.pages.Next.{moves_next}
+use Rattle.log_laws.proofs.pages.OneEntry.{list_any-last}
 use Rattle.backup_laws.proofs.Since.{awaited_in, awaited_is, awaited-on, is_full_at, was_moved-snoc}
 use Rattle.backup_laws.proofs.Modes.{backup_mode, loss_mode, moved_is, sync_mode}
 

@@ -25,9 +25,9 @@ use Rattle.cert_sched.proofs.LogLaws.{IsLegal-before, IsLegal-last}
 use Rattle.cert_sched.proofs.CameLaws.{same_of}
 use Rattle.cert_sched.proofs.FamilyLaws.{Pair, Member, among, all_family, Families, families, or_left, fresh_named, standing_named, one_record}
 use Rattle.backup_records.specs.Records.{record_after}
-use Rattle.record_laws.specs.Kept.{is_renewed}
-use Rattle.record_laws.proofs.OneRecord.{record_follows}
-use Rattle.record_laws.proofs.Standing.{itself}
+use Rattle.log_laws.specs.records.Kept.{is_renewed}
+use Rattle.log_laws.proofs.records.OneRecord.{record_follows}
+use Rattle.log_laws.proofs.records.Standing.{itself}
 use Rattle.backup_laws.specs.Renewed.{Unbacked}
 
 or_true : (b : Bool) → (b || true) ≡ true

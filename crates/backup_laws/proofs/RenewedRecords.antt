@@ -20,7 +20,7 @@ use Rattle.cert_sched.proofs.LogLaws.{placement-snoc}
 use Rattle.cert_sched.proofs.UnendedLaws.{unended_map, unended_pid, backup_keeps}
 use Rattle.backup_records.specs.Records.{record_in, with_record}
 use Rattle.backup_records.proofs.BirthLaws.{record_put, record_put-other}
-use Rattle.record_laws.specs.Kept.{KeepsRecords, has_backup_in, is_renewed}
+use Rattle.log_laws.specs.records.Kept.{KeepsRecords, has_backup_in, is_renewed}
 use Rattle.backup_laws.specs.Renewed.{records_renewed, with_records}
 use Rattle.backup_laws.proofs.Named.{AllAre, named_in_log, records_are, record_stays}
 

@@ -33,8 +33,8 @@ use Rattle.bus_msg.specs.NewBackup.{next_backup, next_backup_at, backup_by_mode,
 use Rattle.t32_base.specs.declared.process.Mode.{Mode}
 use Rattle.t32_base.specs.declared.process.Mode.TheVariants.{Quarter, Half, Full}
 use Rattle.cert_sched.proofs.LiveLaws.{boot_lives, homes_live}
-use Rattle.record_laws.specs.Kept.{KeepsRecords}
-use Rattle.record_laws.proofs.Standing.{itself}
+use Rattle.log_laws.specs.records.Kept.{KeepsRecords}
+use Rattle.log_laws.proofs.records.Standing.{itself}
 use Rattle.cert_sched.specs.Record.{backup_record}
 use Rattle.backup_laws.proofs.SpreadSafe.{kept_at}
 

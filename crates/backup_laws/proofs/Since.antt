@@ -18,8 +18,8 @@ use Rattle.cert_sched.specs.Moved.{any_since_moved, names, was_moved}
 use Rattle.cert_sched.specs.Rules.{has_awaited_backup, is_alone, is_full, is_moved_fullback, places_since_moved}
 use Rattle.cert_sched.proofs.ListLaws.{after_last-snoc}
 use Rattle.cert_sched.proofs.LogLaws.{told-snoc}
-use Rattle.page_laws.specs.Next.{moves_next, next_told}
-use Rattle.page_laws.proofs.OneEntry.{any_since-snoc, list_any-last, or_nothing}
+use Rattle.log_laws.specs.pages.Next.{moves_next, next_told}
+use Rattle.log_laws.proofs.pages.OneEntry.{any_since-snoc, list_any-last, or_nothing}
 
 -- the mode of a process that has not ended
 abbrev pub mode_at : Places → Pid → Option Mode

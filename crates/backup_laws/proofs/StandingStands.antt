@@ -31,8 +31,8 @@ use Rattle.cert_sched.proofs.CameLaws.{same_of}
 use Rattle.cert_sched.proofs.FreshLaws.{Numbered, numbered_more, born_rightly, child_new}
 use Rattle.cert_sched.proofs.UnplacedLaws.{never_moved}
 use Rattle.cert_sched.proofs.ThereLaws.{plain_there}
-use Rattle.page_laws.specs.Next.{moves_next}
-use Rattle.page_laws.proofs.OneEntry.{any_since-goes_on, any_since-snoc}
+use Rattle.log_laws.specs.pages.Next.{moves_next}
+use Rattle.log_laws.proofs.pages.OneEntry.{any_since-goes_on, any_since-snoc}
 use Rattle.backup_mode.specs.Posts.{standing_post}
 use Rattle.backup_laws.specs.Posts.{MayHandOn}
 use Rattle.backup_laws.proofs.Since.{mode_at, was_moved-snoc}

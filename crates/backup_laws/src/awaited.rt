@@ -14,7 +14,7 @@ ghost use Rattle.cert_sched.specs.Moved.{names};
 ghost use Rattle.cert_sched.specs.Rules.{has_awaited_backup, is_alone, is_full};
 ghost use Rattle.cert_sched.specs.Legal.{IsLegalBy, Stands};
 ghost use Rattle.cert_sched.specs.Simulation.{IsUnended, bears};
-ghost use Rattle.page_laws.specs.Next.{moves_next};
+ghost use Rattle.log_laws.specs.pages.Next.{moves_next};
 
 /// A law and no code: a child that never synchronised waits for a new backup only where its parent does.
 pub fn children_wait_with_their_parent()

@@ -15,7 +15,7 @@ ghost use Rattle.cert_sched.specs.Record.{backup_record};
 ghost use Rattle.cert_sched.specs.Rules.{has_awaited_backup, has_its_pages, keeps_limits};
 ghost use Rattle.cert_sched.specs.Legal.{IsLegal, IsLegalBy, MayFollow, Stands};
 ghost use Rattle.cert_sched.specs.Simulation.{IsUnended};
-ghost use Rattle.sync_laws.specs.Sending.{MaySend};
+ghost use Rattle.checkpoint_laws.specs.posts.Sending.{MaySend};
 ghost use Rattle.backup_mode.specs.Posts.{fresh_post, renewed_record, standing_post};
 ghost use Rattle.backup_laws.specs.Posts.{MayHandOn, MayRenew};
 

@@ -11,7 +11,7 @@ ghost use Rattle.bus_msg.specs.Places.{lives_in, same_cluster, unended_at};
 ghost use Rattle.bus_msg.specs.PlacedAfter.{what};
 ghost use Rattle.cert_sched.specs.Schedule.{placement};
 ghost use Rattle.cert_sched.specs.Legal.{IsLegalBy, Stands};
-ghost use Rattle.record_laws.specs.Kept.{KeepsRecords};
+ghost use Rattle.log_laws.specs.records.Kept.{KeepsRecords};
 
 /// A law and no code: a cluster that returns is empty.
 pub fn clusters_return_empty()

@@ -9,9 +9,9 @@ use Rattle.bus_msg.specs.declared.entry.What.{What}
 use Rattle.bus_msg.specs.declared.entry.Post.{Post}
 use Rattle.bus_msg.specs.declared.entry.Entry.{Entry}
 use Rattle.bus_msg.specs.PlacedAfter.{what}
-use Rattle.record_laws.specs.Kept.{changes_in_place}
-use Rattle.record_laws.proofs.KeptLaws.{records_kept}
-use Rattle.record_laws.proofs.Standing.{built_stands}
+use Rattle.log_laws.specs.records.Kept.{changes_in_place}
+use Rattle.log_laws.proofs.records.KeptLaws.{records_kept}
+use Rattle.log_laws.proofs.records.Standing.{built_stands}
 use Rattle.crash_notice.specs.Splitting.{moves_here}
 use Rattle.cert_sched.specs.Built.{BuiltMayFollow, tells_or_closes}
 use Rattle.cert_sched.specs.Losses.{is_by_cluster, is_crash_of}
@@ -21,7 +21,7 @@ use Rattle.cert_sched.specs.Schedule.{placement}
 use Rattle.cert_sched.proofs.LogLaws.{IsLegal-last}
 use Rattle.cert_sched.proofs.NextChildren.{may_be_absorbed}
 use Rattle.backup_records.specs.Records.{are_rising, record_in, records_after}
-use Rattle.family_laws.specs.Unsynced.{unsynced_births}
+use Rattle.log_laws.specs.births.Unsynced.{unsynced_births}
 use Rattle.cluster_core.specs.Families.{CanJoin}
 use Rattle.cluster_core.proofs.FamilyNext.{can_join}
 use Rattle.cluster_core.specs.View.{ClusterView, Held, Runs, Rolls, with_server, Waits, held_at, held_of}

@@ -25,7 +25,7 @@ use Rattle.page_server.specs.Account.{PagerState, account}
 use Rattle.page_accounts.specs.Answering.{earliest}
 use Rattle.page_accounts.specs.Keeps.{KeepsAccounts}
 use Rattle.page_accounts.proofs.WaitLaws.{earliest_is_kept}
-use Rattle.record_laws.proofs.Standing.{built_stands}
+use Rattle.log_laws.proofs.records.Standing.{built_stands}
 use Rattle.cluster_core.specs.declared.worked.Worked.TheVariants.{Queued}
 use Rattle.cluster_core.specs.View.{ClusterView, Held, Runs, Rolls, Waits, next_count, held_at}
 use Rattle.cluster_core.specs.Holds.{IsHeldAs, KeepsIfThere}

@@ -21,16 +21,16 @@ use Rattle.cert_sched.specs.Legal.{IsLegalBy, Stands}
 use Rattle.cert_sched.specs.Losses.{is_by_cluster, is_from, is_page_is_entry, least_calls}
 use Rattle.cert_sched.specs.Rules.{has_its_pages}
 use Rattle.cert_sched.specs.Simulation.{IsUnended}
-use Rattle.page_laws.proofs.Keeping.{pages_kept}
-use Rattle.page_laws.proofs.OneEntry.{moves_none}
-use Rattle.sync_laws.specs.Batched.{AllNew, AllStand, log_with}
-use Rattle.mark_laws.specs.Sent.{SentUpto}
-use Rattle.batch_laws.specs.Underway.{BatchMay, page_left, posts_left, sync_left}
-use Rattle.batch_laws.proofs.QueuedBatch.{queued_before, queued_kept, queued_others, queued_own, queued_sent_before}
-use Rattle.batch_laws.proofs.RestMarks.{rest_marks}
-use Rattle.batch_laws.proofs.RestStands.{rest_is_new, rest_stands}
-use Rattle.limit_laws.specs.Within.{AllKeepLimits}
-use Rattle.limit_laws.proofs.RestLimits.{rest_keeps_limits}
+use Rattle.log_laws.proofs.pages.Keeping.{pages_kept}
+use Rattle.log_laws.proofs.pages.OneEntry.{moves_none}
+use Rattle.checkpoint_laws.specs.posts.Batched.{AllNew, AllStand, log_with}
+use Rattle.checkpoint_laws.specs.marks.Sent.{SentUpto}
+use Rattle.checkpoint_laws.specs.batches.Underway.{BatchMay, page_left, posts_left, sync_left}
+use Rattle.checkpoint_laws.proofs.batches.QueuedBatch.{queued_before, queued_kept, queued_others, queued_own, queued_sent_before}
+use Rattle.checkpoint_laws.proofs.batches.RestMarks.{rest_marks}
+use Rattle.checkpoint_laws.proofs.batches.RestStands.{rest_is_new, rest_stands}
+use Rattle.checkpoint_laws.specs.limits.Within.{AllKeepLimits}
+use Rattle.checkpoint_laws.proofs.limits.RestLimits.{rest_keeps_limits}
 use Rattle.cluster_core.specs.Queue.{IsQueueLegal, move_of, with_queue}
 use Rattle.cluster_core.specs.Holds.{CarriesMarks, MarkedIfThere, is_fetch_queued}
 use Rattle.cluster_core.proofs.Counted.{count_by-snoc}

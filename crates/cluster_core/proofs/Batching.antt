@@ -23,11 +23,11 @@ use Rattle.cert_sched.specs.Schedule.{placement}
 use Rattle.cert_sched.specs.Kinds.{after_take}
 use Rattle.cert_sched.specs.Simulation.{IsUnended}
 use Rattle.cert_sched.specs.Steps.{silent_upto}
-use Rattle.mark_laws.specs.Sent.{SentUpto}
-use Rattle.sync_laws.proofs.TakeLeaves.{takes_leave}
-use Rattle.batch_laws.specs.Underway.{BatchMay, page_left, posts_left, sync_left}
-use Rattle.batch_laws.proofs.QueuedBatch.{queued_sent_before}
-use Rattle.record_laws.proofs.Standing.{built_stands}
+use Rattle.checkpoint_laws.specs.marks.Sent.{SentUpto}
+use Rattle.checkpoint_laws.proofs.posts.TakeLeaves.{takes_leave}
+use Rattle.checkpoint_laws.specs.batches.Underway.{BatchMay, page_left, posts_left, sync_left}
+use Rattle.checkpoint_laws.proofs.batches.QueuedBatch.{queued_sent_before}
+use Rattle.log_laws.proofs.records.Standing.{built_stands}
 use Rattle.cluster_core.specs.View.{ClusterView, Held, Runs, Rolls, Waits, disk_calls, head_of, held_at}
 use Rattle.cluster_core.specs.Residents.{pids_in}
 use Rattle.cluster_core.specs.Queue.{Nothing, IsQueueLegal, move_of, state_by, with_queue}
@@ -40,7 +40,7 @@ use Rattle.cluster_core.proofs.ByKind.{is_of_sync}
 use Rattle.cluster_core.proofs.Here.{is_among, pid_same}
 use Rattle.cluster_core.proofs.Homes.{differ_built, home_here}
 use Rattle.cluster_core.proofs.Marking.{came_to}
-use Rattle.child_waits.proofs.EitherWait.{so_alike}
+use Rattle.replay_laws.proofs.forks.EitherWait.{so_alike}
 
 -- every process but one
 abbrev pub all_but : Pid → Pid → Bool

@@ -15,7 +15,7 @@ use Rattle.cert_sched.specs.Schedule.{placement, done_after}
 use Rattle.cert_sched.specs.Steps.{silent_upto}
 use Rattle.cert_sched.specs.Built.{BuiltMayFollow}
 use Rattle.cert_sched.specs.Losses.{capped, least_calls, least_steps}
-use Rattle.record_laws.proofs.Standing.{built_stands}
+use Rattle.log_laws.proofs.records.Standing.{built_stands}
 use Rattle.cluster_core.specs.declared.quantum.Forking.{Forking}
 use Rattle.cluster_core.specs.View.{ClusterView, Held, Runs, disk_calls, held_at, limits_of, next_count}
 use Rattle.cluster_core.specs.Residents.{with_changed}

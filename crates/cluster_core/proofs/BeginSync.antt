@@ -22,16 +22,16 @@ use Rattle.cert_sched.specs.Legal.{IsLegalBy, Stands}
 use Rattle.cert_sched.specs.Built.{BuiltMayFollow}
 use Rattle.cert_sched.specs.Losses.{capped, least_calls, least_steps}
 use Rattle.cert_sched.specs.Rules.{has_its_pages, keeps_limits}
-use Rattle.record_laws.proofs.Standing.{built_stands}
+use Rattle.log_laws.proofs.records.Standing.{built_stands}
 use Rattle.sync_point.specs.Batch.{batch, cut_of, marked_pages, synced, took_by}
 use Rattle.sync_point.specs.Due.{is_due_by}
 use Rattle.sync_point.proofs.Cuts.{Keeps, cut_keeps}
-use Rattle.mark_laws.specs.Sent.{SentUpto}
+use Rattle.checkpoint_laws.specs.marks.Sent.{SentUpto}
 use Rattle.quanta.specs.Limited.{is_due}
-use Rattle.sync_laws.specs.Running.{RunsMarked}
-use Rattle.sync_laws.specs.Sending.{MaySend}
-use Rattle.batch_laws.specs.Underway.{BatchMay, posts_left}
-use Rattle.batch_laws.proofs.BatchBegins.{batch_begins, batch_posts}
+use Rattle.checkpoint_laws.specs.posts.Running.{RunsMarked}
+use Rattle.checkpoint_laws.specs.posts.Sending.{MaySend}
+use Rattle.checkpoint_laws.specs.batches.Underway.{BatchMay, posts_left}
+use Rattle.checkpoint_laws.proofs.batches.BatchBegins.{batch_begins, batch_posts}
 use Rattle.cluster_core.specs.View.{ClusterView, Held, Runs, disk_calls, held_at, limits_of, next_count}
 use Rattle.cluster_core.specs.Residents.{pids_in, with_changed}
 use Rattle.cluster_core.specs.Queue.{Nothing, with_queue}

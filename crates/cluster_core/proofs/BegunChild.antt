@@ -21,15 +21,15 @@ use Rattle.cert_sched.specs.Legal.{IsLegalBy, Stands}
 use Rattle.cert_sched.specs.Simulation.{IsUnended}
 use Rattle.cert_sched.specs.Steps.{saved_of}
 use Rattle.cert_sched.proofs.RunsOutLaws.{record_of}
-use Rattle.recovery_laws.specs.Behind.{RollsBehind}
-use Rattle.recovery_laws.proofs.ByRule.{itself, standing_from_kept}
-use Rattle.recovery_laws.proofs.ForkedAgain.{child_starts}
-use Rattle.recovery_laws.proofs.Reaching.{led_there}
-use Rattle.recovery_laws.proofs.Stepping.{rolls_on}
-use Rattle.mark_laws.specs.Beside.{is_some_page}
-use Rattle.mark_laws.proofs.AllMarked.{all_marked}
-use Rattle.mark_laws.proofs.ForkMarks.{forked_marked, forked_sent}
-use Rattle.mark_laws.proofs.SentPages.{unsent_upto}
+use Rattle.replay_laws.specs.rolling.Behind.{RollsBehind}
+use Rattle.replay_laws.proofs.rolling.ByRule.{itself, standing_from_kept}
+use Rattle.replay_laws.proofs.rolling.ForkedAgain.{child_starts}
+use Rattle.replay_laws.proofs.rolling.Reaching.{led_there}
+use Rattle.replay_laws.proofs.rolling.Stepping.{rolls_on}
+use Rattle.checkpoint_laws.specs.marks.Beside.{is_some_page}
+use Rattle.checkpoint_laws.proofs.marks.AllMarked.{all_marked}
+use Rattle.checkpoint_laws.proofs.marks.ForkMarks.{forked_marked, forked_sent}
+use Rattle.checkpoint_laws.proofs.marks.SentPages.{unsent_upto}
 use Rattle.cluster_core.specs.Bearing.{forked, newborn}
 use Rattle.cluster_core.specs.ForkingAgain.{with_mail_of}
 use Rattle.cluster_core.specs.Holds.{CarriesMarks}

@@ -25,17 +25,17 @@ use Rattle.cert_sched.specs.Rests.{home_pids}
 use Rattle.cert_sched.specs.Schedule.{placement}
 use Rattle.cert_sched.specs.Simulation.{IsUnended}
 use Rattle.cert_sched.specs.Steps.{silent_upto}
-use Rattle.page_laws.proofs.OneEntry.{any_since-goes_on}
-use Rattle.record_laws.proofs.Standing.{built_stands}
-use Rattle.sync_laws.specs.Running.{RunsMarked}
-use Rattle.sync_laws.specs.Sending.{MaySend}
-use Rattle.sync_laws.proofs.BirthStands.{birth_stands}
-use Rattle.limit_laws.proofs.ForkLimits.{birth_keeps}
-use Rattle.mark_laws.specs.Beside.{LeavesMarks}
-use Rattle.mark_laws.specs.Sent.{SentUpto, is_later_page}
-use Rattle.mark_laws.proofs.EntryMarks.{marks_before, marks_kept}
-use Rattle.mark_laws.proofs.ForkMarks.{birth_leaves}
-use Rattle.mark_laws.proofs.SentPages.{sent_on}
+use Rattle.log_laws.proofs.pages.OneEntry.{any_since-goes_on}
+use Rattle.log_laws.proofs.records.Standing.{built_stands}
+use Rattle.checkpoint_laws.specs.posts.Running.{RunsMarked}
+use Rattle.checkpoint_laws.specs.posts.Sending.{MaySend}
+use Rattle.checkpoint_laws.proofs.posts.BirthStands.{birth_stands}
+use Rattle.checkpoint_laws.proofs.limits.ForkLimits.{birth_keeps}
+use Rattle.checkpoint_laws.specs.marks.Beside.{LeavesMarks}
+use Rattle.checkpoint_laws.specs.marks.Sent.{SentUpto, is_later_page}
+use Rattle.checkpoint_laws.proofs.marks.EntryMarks.{marks_before, marks_kept}
+use Rattle.checkpoint_laws.proofs.marks.ForkMarks.{birth_leaves}
+use Rattle.checkpoint_laws.proofs.marks.SentPages.{sent_on}
 use Rattle.cluster_core.specs.Bearing.{BearsChild, birth_post}
 use Rattle.cluster_core.specs.View.{ClusterView, Held, Runs, disk_calls, head_of, held_at}
 use Rattle.cluster_core.specs.Residents.{pids_in}

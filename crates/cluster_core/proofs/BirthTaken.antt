@@ -26,12 +26,12 @@ use Rattle.cert_sched.proofs.NextChildren.{may_be_absorbed}
 use Rattle.cert_sched.proofs.PidLaws.{apart_of}
 use Rattle.cert_sched.proofs.RisingLaws.{put_all-none, put_all-put, rising-append}
 use Rattle.backup_records.specs.Records.{records_after}
-use Rattle.record_laws.specs.Kept.{changes_in_place}
-use Rattle.record_laws.proofs.KeptLaws.{records_kept}
-use Rattle.record_laws.proofs.Standing.{built_stands}
+use Rattle.log_laws.specs.records.Kept.{changes_in_place}
+use Rattle.log_laws.proofs.records.KeptLaws.{records_kept}
+use Rattle.log_laws.proofs.records.Standing.{built_stands}
 use Rattle.cluster_core.specs.Families.{family_after}
 use Rattle.birth_notice.specs.Family.{stands_in}
-use Rattle.family_laws.proofs.NewBirth.{stands_in_none}
+use Rattle.log_laws.proofs.births.NewBirth.{stands_in_none}
 use Rattle.cluster_core.specs.ForksAgain.{ForksLeft}
 use Rattle.cluster_core.proofs.ForksBorn.{forks_born}
 use Rattle.cluster_core.proofs.FamilyNext.{family_next}

@@ -33,8 +33,8 @@ use Rattle.cert_sched.proofs.MadeLaws.{BirthMade}
 use Rattle.cert_sched.proofs.PidLaws.{apart_of}
 use Rattle.cert_sched.proofs.ThereLaws.{unended_not_born}
 use Rattle.backup_records.specs.Records.{record_after, records_after, with_child}
-use Rattle.record_laws.specs.Kept.{KeepsRecords}
-use Rattle.mark_laws.specs.Beside.{is_some_page}
+use Rattle.log_laws.specs.records.Kept.{KeepsRecords}
+use Rattle.checkpoint_laws.specs.marks.Beside.{is_some_page}
 use Rattle.page_server.specs.Account.{PagerState}
 use Rattle.cert_sched.specs.Parts.{rising}
 use Rattle.cert_sched.specs.Rests.{home_pids}

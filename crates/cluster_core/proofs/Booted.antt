@@ -30,7 +30,7 @@ use Rattle.cert_sched.proofs.MailLaws.{boot_arrived}
 use Rattle.cert_sched.proofs.RisingLaws.{NoTwo, rising-same}
 use Rattle.cert_sched.proofs.RootPids.{HomesFit, homes_fit}
 use Rattle.cert_sched.proofs.StepLaws.{process_after-own}
-use Rattle.record_laws.specs.Kept.{KeepsRecords}
+use Rattle.log_laws.specs.records.Kept.{KeepsRecords}
 use Rattle.cluster_core.specs.Booting.{AreBooted, belongs_to}
 use Rattle.page_server.specs.Account.{PagerState}
 use Rattle.cert_sched.specs.Scripted.{is_server}
@@ -41,13 +41,13 @@ use Rattle.cluster_core.specs.Holds.{IsHeldAs, CarriesMarks, MarkedIfThere, unen
 use Rattle.cluster_core.specs.Parts.{AllOwn, IsHeldOwn, IsOwn}
 use Rattle.cluster_core.specs.Queue.{Nothing}
 use Rattle.cluster_core.specs.Residents.{pids_in}
-use Rattle.family_laws.specs.Unsynced.{unsynced_births}
+use Rattle.log_laws.specs.births.Unsynced.{unsynced_births}
 use Rattle.cluster_core.specs.View.{ClusterView, Held, Runs, held_at, held_of, IsHeldWithin, limits_of}
 use Rattle.cluster_core.proofs.Here.{is_among}
 use Rattle.cluster_core.proofs.Passing.{found_passing, passing, passing_apart, pids_pass, pids_under, process_is}
 use Rattle.cluster_core.proofs.Telling.{at_once}
-use Rattle.mark_laws.proofs.BootMarks.{boot_marks}
-use Rattle.mark_laws.proofs.SentPages.{sent_none}
+use Rattle.checkpoint_laws.proofs.marks.BootMarks.{boot_marks}
+use Rattle.checkpoint_laws.proofs.marks.SentPages.{sent_none}
 use Rattle.std.proofs.lemmas.List.{length-replicate}
 use Rattle.cluster_core.proofs.Within.{start_within}
 

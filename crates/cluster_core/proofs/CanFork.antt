@@ -15,14 +15,14 @@ use Rattle.cert_sched.specs.Built.{BuiltMayFollow}
 use Rattle.cert_sched.specs.Legal.{IsLegalBy, Stands}
 use Rattle.cert_sched.specs.Record.{has_state}
 use Rattle.cert_sched.specs.Simulation.{IsUnended}
-use Rattle.record_laws.proofs.Standing.{built_stands}
-use Rattle.recovery_laws.specs.Behind.{RollsBehind}
-use Rattle.recovery_laws.proofs.ByRule.{itself, standing_always, standing_from_kept}
-use Rattle.recovery_laws.proofs.ForkedAgain.{child_starts}
-use Rattle.recovery_laws.proofs.FromStart.{record_stated}
-use Rattle.recovery_laws.proofs.Reaching.{led_there}
-use Rattle.recovery_laws.proofs.Stepping.{rolls_on}
-use Rattle.child_waits.proofs.EitherWait.{kept_so}
+use Rattle.log_laws.proofs.records.Standing.{built_stands}
+use Rattle.replay_laws.specs.rolling.Behind.{RollsBehind}
+use Rattle.replay_laws.proofs.rolling.ByRule.{itself, standing_always, standing_from_kept}
+use Rattle.replay_laws.proofs.rolling.ForkedAgain.{child_starts}
+use Rattle.replay_laws.proofs.rolling.FromStart.{record_stated}
+use Rattle.replay_laws.proofs.rolling.Reaching.{led_there}
+use Rattle.replay_laws.proofs.rolling.Stepping.{rolls_on}
+use Rattle.replay_laws.proofs.forks.EitherWait.{kept_so}
 use Rattle.cluster_core.specs.View.{ClusterView, Held, Rolls, Waits, held_at}
 use Rattle.cluster_core.specs.ForkingAgain.{AtForks, AtFront, CanBeginAgain, CanForkAgain}
 use Rattle.cluster_core.specs.Follows.{FollowsBuilt, IsOpen}

@@ -14,12 +14,12 @@ use Rattle.cert_sched.specs.Schedule.{process_after}
 use Rattle.cert_sched.specs.Simulation.{IsUnended}
 use Rattle.cert_sched.proofs.MailLaws.{built_is_plain}
 use Rattle.cert_sched.proofs.ThereLaws.{unended_there}
-use Rattle.record_laws.proofs.Standing.{legal_stands}
-use Rattle.recovery_laws.specs.Behind.{RollsBehind}
-use Rattle.recovery_laws.proofs.ByRule.{standing_behind}
-use Rattle.recovery_laws.proofs.Reaching.{led_unended}
-use Rattle.recovery_laws.proofs.Stepping.{went_on}
-use Rattle.recovery_laws.proofs.CaughtUp.{caught_up}
+use Rattle.log_laws.proofs.records.Standing.{legal_stands}
+use Rattle.replay_laws.specs.rolling.Behind.{RollsBehind}
+use Rattle.replay_laws.proofs.rolling.ByRule.{standing_behind}
+use Rattle.replay_laws.proofs.rolling.Reaching.{led_unended}
+use Rattle.replay_laws.proofs.rolling.Stepping.{went_on}
+use Rattle.replay_laws.proofs.rolling.CaughtUp.{caught_up}
 use Rattle.cluster_core.specs.View.{Held, Runs, Rolls, Waits}
 use Rattle.cluster_core.specs.Quantum.{RollsTo}
 use Rattle.cluster_core.specs.Follows.{IsOpen}

@@ -4,7 +4,7 @@ use Rattle.t32_base.specs.declared.process.Pid.{Pid}
 use Rattle.bus_msg.specs.declared.entry.Entry.{Entry}
 use Rattle.birth_notice.specs.Family.{first_unsynced}
 use Rattle.cert_sched.specs.Kinds.{ChildrenSynced}
-use Rattle.family_laws.proofs.FirstChild.{none_first}
+use Rattle.log_laws.proofs.births.FirstChild.{none_first}
 use Rattle.cluster_core.specs.View.{ClusterView}
 use Rattle.cluster_core.specs.Follows.{FollowsBuilt}
 

@@ -19,10 +19,10 @@ use Rattle.cert_sched.specs.Record.{has_state}
 use Rattle.cert_sched.specs.Rules.{home_at}
 use Rattle.cert_sched.specs.Schedule.{placement}
 use Rattle.cert_sched.proofs.RisingLaws.{rising-any}
-use Rattle.family_laws.specs.Unsynced.{unsynced_births}
-use Rattle.family_laws.proofs.FirstChild.{first_has_none, first_kept, none_first}
-use Rattle.family_laws.proofs.UnsyncedChild.{first_lives_there, stateless}
-use Rattle.record_laws.proofs.Standing.{built_stands}
+use Rattle.log_laws.specs.births.Unsynced.{unsynced_births}
+use Rattle.log_laws.proofs.births.FirstChild.{first_has_none, first_kept, none_first}
+use Rattle.log_laws.proofs.births.UnsyncedChild.{first_lives_there, stateless}
+use Rattle.log_laws.proofs.records.Standing.{built_stands}
 use Rattle.sync_point.specs.Batch.{took_by}
 use Rattle.sync_point.specs.Due.{is_due_by}
 use Rattle.cluster_core.specs.View.{ClusterView, Held, held_at, held_of}

@@ -13,10 +13,10 @@ use Rattle.birth_notice.specs.Family.{stands_in}
 use Rattle.cert_sched.specs.Built.{BuiltMayFollow}
 use Rattle.cert_sched.specs.Legal.{IsLegalBy, Stands}
 use Rattle.cert_sched.proofs.LogLaws.{IsLegal-last}
-use Rattle.family_laws.specs.Unsynced.{changes_unsynced, unsynced_births}
-use Rattle.family_laws.proofs.NewBirth.{birth_last, child_apart, stands_in_none}
-use Rattle.family_laws.proofs.OtherEntries.{ended_goes, others_leave, synced_goes}
-use Rattle.record_laws.proofs.Standing.{built_stands}
+use Rattle.log_laws.specs.births.Unsynced.{changes_unsynced, unsynced_births}
+use Rattle.log_laws.proofs.births.NewBirth.{birth_last, child_apart, stands_in_none}
+use Rattle.log_laws.proofs.births.OtherEntries.{ended_goes, others_leave, synced_goes}
+use Rattle.log_laws.proofs.records.Standing.{built_stands}
 use Rattle.cluster_core.specs.Families.{CanJoin, family_after}
 use Rattle.cluster_core.specs.Follows.{IsOpen}
 use Rattle.cluster_core.proofs.NotMoved.{by_built}

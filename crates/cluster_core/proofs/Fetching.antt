@@ -14,8 +14,8 @@ use Rattle.cert_sched.specs.Schedule.{placement}
 use Rattle.cert_sched.proofs.LogLaws.{no_items}
 use Rattle.cert_sched.proofs.ThereLaws.{plain_there}
 use Rattle.page_waits.specs.Waiting.{WaitingState, next_page}
-use Rattle.wait_laws.specs.Waits.{WaitsAs, none_queued}
-use Rattle.wait_laws.proofs.Asks.{next_asked, next_fetch}
+use Rattle.replay_laws.specs.pages.Waits.{WaitsAs, none_queued}
+use Rattle.replay_laws.proofs.pages.Asks.{next_asked, next_fetch}
 use Rattle.cluster_core.specs.declared.worked.Worked.TheVariants.{Queued}
 use Rattle.cluster_core.specs.View.{ClusterView, Held, Runs, Rolls, Waits, asked_held, held_at, next_count, page_lacked}
 use Rattle.cluster_core.specs.Holds.{IsHeldAs, is_fetch_queued}
@@ -28,7 +28,7 @@ use Rattle.cluster_core.proofs.ForksAgain.{asked_forks, forks_changed}
 use Rattle.cluster_core.proofs.Here.{pids_changed, same_itself}
 use Rattle.cluster_core.proofs.Homes.{home_lives}
 use Rattle.cluster_core.proofs.Served.{accounts_queued}
-use Rattle.child_waits.proofs.EitherWait.{lacks_pages, so_alike}
+use Rattle.replay_laws.proofs.forks.EitherWait.{lacks_pages, so_alike}
 use Rattle.cluster_core.proofs.Working.{held_beside, home_by, home_of_it, limits_beside, more_counted, pages_beside, turned, marks_beside, marks_queued}
 
 -- ---- the fetch

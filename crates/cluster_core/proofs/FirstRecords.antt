@@ -24,8 +24,8 @@ use Rattle.bus_msg.specs.Places.{Places, is_cluster, same_pid, unended_at}
 use Rattle.cert_sched.specs.Schedule.{placement}
 use Rattle.cert_sched.specs.Record.{backup_record}
 use Rattle.backup_records.specs.Records.{record_in, with_record}
-use Rattle.record_laws.specs.Kept.{KeepsRecords, has_backup_in, record_at_boot}
-use Rattle.record_laws.proofs.BootLaws.{boot_record}
+use Rattle.log_laws.specs.records.Kept.{KeepsRecords, has_backup_in, record_at_boot}
+use Rattle.log_laws.proofs.records.BootLaws.{boot_record}
 use Rattle.cluster_core.specs.Booting.{AreFirstRecords}
 use Rattle.cluster_core.proofs.Booted.{boot_has}
 use Rattle.cluster_core.proofs.Here.{pid_same}

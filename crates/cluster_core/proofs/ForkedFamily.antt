@@ -16,16 +16,16 @@ use Rattle.cert_sched.specs.Legal.{IsLegalBy, Stands}
 use Rattle.cert_sched.specs.Record.{has_state}
 use Rattle.cert_sched.specs.Simulation.{IsUnended, bears}
 use Rattle.cert_sched.proofs.FamilyLaws.{Pair}
-use Rattle.family_laws.specs.Unsynced.{unsynced_births}
-use Rattle.family_laws.proofs.FamilyKept.{births_may_stand}
-use Rattle.family_laws.proofs.UnsyncedChild.{stateless}
+use Rattle.log_laws.specs.births.Unsynced.{unsynced_births}
+use Rattle.log_laws.proofs.births.FamilyKept.{births_may_stand}
+use Rattle.log_laws.proofs.births.UnsyncedChild.{stateless}
 use Rattle.page_waits.specs.Waiting.{WaitingState}
-use Rattle.recovery_laws.specs.Behind.{RollsBehind}
-use Rattle.recovery_laws.proofs.ByRule.{itself}
-use Rattle.recovery_laws.proofs.ForkedAgain.{forked_once_only}
-use Rattle.child_waits.proofs.Begins.{state_none}
-use Rattle.child_waits.proofs.EitherWait.{kept_so}
-use Rattle.child_waits.proofs.StatedAbove.{in_the_record}
+use Rattle.replay_laws.specs.rolling.Behind.{RollsBehind}
+use Rattle.replay_laws.proofs.rolling.ByRule.{itself}
+use Rattle.replay_laws.proofs.rolling.ForkedAgain.{forked_once_only}
+use Rattle.replay_laws.proofs.forks.Begins.{state_none}
+use Rattle.replay_laws.proofs.forks.EitherWait.{kept_so}
+use Rattle.replay_laws.proofs.forks.StatedAbove.{in_the_record}
 use Rattle.cluster_core.specs.View.{Held, Runs, Rolls, Waits, held_of, is_waiting}
 use Rattle.cluster_core.specs.Bearing.{forked, newborn}
 use Rattle.cluster_core.specs.ForkingAgain.{begun_with, with_mail_of, going_held, with_fork_again}

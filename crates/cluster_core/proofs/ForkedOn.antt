@@ -15,12 +15,12 @@ use Rattle.cert_sched.specs.Legal.{IsLegalBy, Stands}
 use Rattle.cert_sched.specs.Parts.{rising}
 use Rattle.cert_sched.specs.Rules.{has_its_pages}
 use Rattle.cert_sched.specs.Simulation.{IsUnended}
-use Rattle.record_laws.proofs.Standing.{built_stands}
-use Rattle.recovery_laws.specs.Behind.{RollsBehind}
+use Rattle.log_laws.proofs.records.Standing.{built_stands}
+use Rattle.replay_laws.specs.rolling.Behind.{RollsBehind}
 use Rattle.page_waits.specs.Waiting.{WaitingState}
-use Rattle.wait_laws.proofs.MovedStated.{stateless_paged}
-use Rattle.child_waits.specs.ForkWaits.{WaitsForFork}
-use Rattle.child_waits.proofs.EitherWait.{for_fork}
+use Rattle.replay_laws.proofs.pages.MovedStated.{stateless_paged}
+use Rattle.replay_laws.specs.forks.ForkWaits.{WaitsForFork}
+use Rattle.replay_laws.proofs.forks.EitherWait.{for_fork}
 use Rattle.cluster_core.specs.View.{ClusterView, Held, Runs, Rolls, Waits, IsHeldWithin, held_at, held_of, limits_of}
 use Rattle.cluster_core.specs.Bearing.{forked, newborn}
 use Rattle.cluster_core.specs.Follows.{FollowsBuilt, IsOpen}

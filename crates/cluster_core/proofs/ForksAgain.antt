@@ -16,7 +16,7 @@ use Rattle.bus_msg.specs.Places.{same_pid}
 use Rattle.cert_sched.specs.Built.{tells_or_closes}
 use Rattle.cert_sched.specs.Deeds.{is_end_of}
 use Rattle.cert_sched.proofs.FamilyLaws.{Pair}
-use Rattle.family_laws.proofs.Filters.{kept_passes, one_passes, passes_any}
+use Rattle.log_laws.proofs.births.Filters.{kept_passes, one_passes, passes_any}
 use Rattle.roll_forward.specs.Advancing.{Going, going, gone_on, rolled_on}
 use Rattle.roll_forward.specs.RunsOut.{nothing_left}
 use Rattle.cluster_core.specs.View.{Held, Runs, Rolls, Waits, arrived_held, asked_held, held_of, is_waiting}

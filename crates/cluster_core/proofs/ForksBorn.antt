@@ -8,7 +8,7 @@ use Rattle.bus_msg.specs.Places.{same_pid}
 use Rattle.birth_notice.specs.Family.{stands_in}
 use Rattle.cert_sched.proofs.FamilyLaws.{Pair}
 use Rattle.cert_sched.proofs.RisingLaws.{either_not}
-use Rattle.family_laws.proofs.Filters.{one_passes, passes_any}
+use Rattle.log_laws.proofs.births.Filters.{one_passes, passes_any}
 use Rattle.cluster_core.specs.View.{Held, Runs, held_of, is_waiting}
 use Rattle.cluster_core.specs.Bearing.{with_born}
 use Rattle.cluster_core.specs.ForksAgain.{ForksLeft, has_to_bear}

@@ -22,16 +22,16 @@ use Rattle.cert_sched.specs.Record.{has_state}
 use Rattle.cert_sched.specs.Schedule.{placement}
 use Rattle.cert_sched.specs.Simulation.{bears}
 use Rattle.cert_sched.proofs.FamilyLaws.{Pair}
-use Rattle.record_laws.proofs.Standing.{built_stands}
-use Rattle.page_laws.proofs.MovedStated.{moved_stated}
-use Rattle.family_laws.specs.Unsynced.{unsynced_births}
-use Rattle.family_laws.proofs.Filters.{any_kept, kept_passes, one_passes, passes_any}
-use Rattle.family_laws.proofs.UnsyncedChild.{stateless}
+use Rattle.log_laws.proofs.records.Standing.{built_stands}
+use Rattle.log_laws.proofs.pages.MovedStated.{moved_stated}
+use Rattle.log_laws.specs.births.Unsynced.{unsynced_births}
+use Rattle.log_laws.proofs.births.Filters.{any_kept, kept_passes, one_passes, passes_any}
+use Rattle.log_laws.proofs.births.UnsyncedChild.{stateless}
 use Rattle.recovery.specs.Begun.{begun}
 use Rattle.roll_forward.specs.RunsOut.{nothing_left}
 use Rattle.page_waits.specs.Waiting.{WaitingState, is_whole, start_of, with_page}
-use Rattle.child_waits.proofs.EitherWait.{kept_so, page_for}
-use Rattle.child_waits.proofs.StatedAbove.{in_the_record}
+use Rattle.replay_laws.proofs.forks.EitherWait.{kept_so, page_for}
+use Rattle.replay_laws.proofs.forks.StatedAbove.{in_the_record}
 use Rattle.cluster_core.specs.View.{Held, Runs, Rolls, Waits, going_on, held_of, is_waiting, page_held, rolling_held}
 use Rattle.cluster_core.specs.Calls.{here_after}
 use Rattle.cluster_core.specs.Families.{family_after}

@@ -12,10 +12,10 @@ use Rattle.cert_sched.specs.Built.{BuiltMayFollow}
 use Rattle.cert_sched.specs.Legal.{IsLegalBy, Stands}
 use Rattle.cert_sched.specs.Simulation.{IsUnended}
 use Rattle.cert_sched.proofs.MailLaws.{built_is_plain}
-use Rattle.record_laws.proofs.Standing.{built_stands}
-use Rattle.recovery_laws.specs.Behind.{RollsBehind}
-use Rattle.recovery_laws.proofs.CaughtUp.{caught_up}
-use Rattle.recovery_cost.proofs.CaughtLimits.{caught_keeps}
+use Rattle.log_laws.proofs.records.Standing.{built_stands}
+use Rattle.replay_laws.specs.rolling.Behind.{RollsBehind}
+use Rattle.replay_laws.proofs.rolling.CaughtUp.{caught_up}
+use Rattle.replay_laws.proofs.costs.CaughtLimits.{caught_keeps}
 use Rattle.cluster_core.specs.View.{Runs, Rolls, IsHeldWithin, limits_of}
 use Rattle.cluster_core.specs.Follows.{IsOpen}
 use Rattle.cluster_core.specs.ForkingAgain.{going_held}

@@ -22,7 +22,7 @@ use Rattle.cert_sched.specs.Rules.{awaits_pages, has_its_pages, holds_of, home_a
 use Rattle.cert_sched.specs.Schedule.{placement}
 use Rattle.cert_sched.specs.Steps.{process_of}
 use Rattle.cert_sched.proofs.ThereLaws.{unended_not_born}
-use Rattle.page_laws.proofs.Keeping.{pages_kept}
+use Rattle.log_laws.proofs.pages.Keeping.{pages_kept}
 use Rattle.cluster_core.proofs.ByKind.{by_kind}
 use Rattle.cluster_core.proofs.Homes.{HomeHere}
 use Rattle.cluster_core.proofs.NotMoved.{home_not_moved}

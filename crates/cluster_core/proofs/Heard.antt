@@ -22,9 +22,9 @@ use Rattle.cert_sched.specs.Schedule.{placement}
 use Rattle.cert_sched.proofs.ExitLaws.{unended_exit}
 use Rattle.cert_sched.proofs.LogLaws.{IsLegal-last, placement-snoc}
 use Rattle.cert_sched.proofs.UnendedLaws.{loss_keeps, sync_keeps, unended_map, unended_open_at}
-use Rattle.family_laws.specs.Unsynced.{changes_unsynced, unsynced_births}
-use Rattle.family_laws.proofs.Filters.{and_false, and_true, filter_both, filter_alike, passes_any}
-use Rattle.family_laws.proofs.OtherEntries.{ended_goes, others_leave, synced_goes}
+use Rattle.log_laws.specs.births.Unsynced.{changes_unsynced, unsynced_births}
+use Rattle.log_laws.proofs.births.Filters.{and_false, and_true, filter_both, filter_alike, passes_any}
+use Rattle.log_laws.proofs.births.OtherEntries.{ended_goes, others_leave, synced_goes}
 use Rattle.page_server.specs.Account.{PagerState}
 use Rattle.backup_records.specs.Records.{are_rising, records_after}
 use Rattle.cluster_core.specs.Absorbing.{goes_to}
@@ -41,9 +41,9 @@ use Rattle.cert_sched.specs.Rules.{is_by_home, is_by_right}
 use Rattle.cert_sched.proofs.BirthClusters.{birth_keeps}
 use Rattle.cert_sched.proofs.FamilyLaws.{Families, Member, families, found_born, found_child}
 use Rattle.cert_sched.proofs.FreshLaws.{BornRightly, born_rightly}
-use Rattle.record_laws.proofs.Standing.{built_stands}
+use Rattle.log_laws.proofs.records.Standing.{built_stands}
 use Rattle.birth_notice.specs.Family.{stands_in}
-use Rattle.family_laws.proofs.NewBirth.{birth_last, stands_in_none}
+use Rattle.log_laws.proofs.births.NewBirth.{birth_last, stands_in_none}
 use Rattle.cluster_core.proofs.Absorbed.{absorbs, ready_own}
 use Rattle.cluster_core.proofs.Counted.{capped_next, count_by-snoc, lost_before}
 use Rattle.cluster_core.proofs.FirstServer.{lost_other, same_pager}

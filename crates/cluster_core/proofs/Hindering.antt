@@ -13,11 +13,11 @@ use Rattle.bus_msg.specs.Places.{same_pid}
 use Rattle.cert_sched.specs.Legal.{IsLegalBy, Stands}
 use Rattle.cert_sched.specs.Schedule.{placement}
 use Rattle.quanta.specs.declared.limits.Limits.{Limits}
-use Rattle.record_laws.proofs.Standing.{built_stands}
-use Rattle.family_laws.specs.Unsynced.{unsynced_births}
-use Rattle.family_laws.proofs.Filters.{passes_any}
-use Rattle.family_laws.proofs.FirstChild.{within_has}
-use Rattle.family_laws.proofs.UnsyncedChild.{lives_with_parent}
+use Rattle.log_laws.proofs.records.Standing.{built_stands}
+use Rattle.log_laws.specs.births.Unsynced.{unsynced_births}
+use Rattle.log_laws.proofs.births.Filters.{passes_any}
+use Rattle.log_laws.proofs.births.FirstChild.{within_has}
+use Rattle.log_laws.proofs.births.UnsyncedChild.{lives_with_parent}
 use Rattle.cluster_core.specs.View.{ClusterView, Held, Runs, Rolls, Waits, can_act, held_at, held_of, limits_of}
 use Rattle.cluster_core.specs.ChildrenFirst.{child_before, comes_after_children, has_turn, is_hindered, is_running, runs_at}
 use Rattle.cluster_core.specs.Follows.{FollowsBuilt}

@@ -20,14 +20,14 @@ use Rattle.cert_sched.proofs.RisingLaws.{NoTwo, either_not}
 use Rattle.page_server.specs.Account.{PagerState}
 use Rattle.page_accounts.specs.Answering.{earliest}
 use Rattle.page_waits.specs.Waiting.{WaitingState, next_page}
-use Rattle.record_laws.proofs.Standing.{built_stands}
-use Rattle.wait_laws.specs.Waits.{WaitsAs, none_queued}
-use Rattle.wait_laws.proofs.FetchesWait.{a_fetch_waits}
-use Rattle.family_laws.specs.Unsynced.{unsynced_births}
-use Rattle.family_laws.proofs.UnsyncedChild.{lives_with_parent}
-use Rattle.child_waits.specs.ForkWaits.{HasStatedOne, WaitsSo}
-use Rattle.child_waits.proofs.EitherWait.{for_pages, stated_record}
-use Rattle.child_waits.proofs.StatedAbove.{stated_above}
+use Rattle.log_laws.proofs.records.Standing.{built_stands}
+use Rattle.replay_laws.specs.pages.Waits.{WaitsAs, none_queued}
+use Rattle.replay_laws.proofs.pages.FetchesWait.{a_fetch_waits}
+use Rattle.log_laws.specs.births.Unsynced.{unsynced_births}
+use Rattle.log_laws.proofs.births.UnsyncedChild.{lives_with_parent}
+use Rattle.replay_laws.specs.forks.ForkWaits.{HasStatedOne, WaitsSo}
+use Rattle.replay_laws.proofs.forks.EitherWait.{for_pages, stated_record}
+use Rattle.replay_laws.proofs.forks.StatedAbove.{stated_above}
 use Rattle.cluster_core.specs.declared.worked.Worked.TheVariants.{Waits as IsWaiting, Rests}
 use Rattle.quanta.specs.declared.limits.Limits.{Limits}
 use Rattle.cluster_core.specs.View.{ClusterView, Held, Runs, Rolls, Waits, can_act, counted_once, held_at, held_of, is_waiting, limits_of, page_lacked}

@@ -36,18 +36,18 @@ use Rattle.cert_sched.proofs.PidLaws.{apart_fewer, placed_pids}
 use Rattle.cert_sched.proofs.RisingLaws.{NoTwo, put_all}
 use Rattle.cert_sched.proofs.RollLaws.{all_roll, two_apart}
 use Rattle.backup_records.specs.Records.{are_rising, record_in, records_after, record_after}
-use Rattle.record_laws.specs.Kept.{KeepsRecords, has_backup_in}
-use Rattle.record_laws.proofs.LossLaws.{loss_kept}
-use Rattle.record_laws.proofs.Standing.{built_stands}
+use Rattle.log_laws.specs.records.Kept.{KeepsRecords, has_backup_in}
+use Rattle.log_laws.proofs.records.LossLaws.{loss_kept}
+use Rattle.log_laws.proofs.records.Standing.{built_stands}
 use Rattle.t32_base.specs.Small.{SmallState}
 use Rattle.page_waits.specs.Waiting.{page_count}
 use Rattle.recovery.specs.Begun.{number_of}
-use Rattle.recovery_laws.specs.Behind.{RollsBehind}
-use Rattle.recovery_laws.proofs.FromStart.{record_stated}
-use Rattle.recovery_laws.proofs.KeepingBehind.{behind_standing}
-use Rattle.child_waits.proofs.Begins.{state_none}
-use Rattle.recovery_laws.proofs.ByRule.{built_stands as standing}
-use Rattle.family_laws.specs.Unsynced.{unsynced_births}
+use Rattle.replay_laws.specs.rolling.Behind.{RollsBehind}
+use Rattle.replay_laws.proofs.rolling.FromStart.{record_stated}
+use Rattle.replay_laws.proofs.rolling.KeepingBehind.{behind_standing}
+use Rattle.replay_laws.proofs.forks.Begins.{state_none}
+use Rattle.replay_laws.proofs.rolling.ByRule.{built_stands as standing}
+use Rattle.log_laws.specs.births.Unsynced.{unsynced_births}
 use Rattle.cluster_core.specs.Families.{family_after}
 use Rattle.cluster_core.proofs.FamilyNext.{family_next}
 use Rattle.cluster_core.specs.View.{ClusterView, Held, Runs, Rolls, Waits, held_of, is_waiting, next_count, with_server, IsHeldWithin, limits_of}
@@ -69,22 +69,22 @@ use Rattle.cluster_core.proofs.Following.{counted_foreign}
 use Rattle.cluster_core.proofs.Served.{accounts_next, foreign_no_answer, ahead_after}
 use Rattle.cluster_core.specs.Serving.{Serves}
 use Rattle.page_server.specs.Account.{PagerState}
-use Rattle.wait_laws.proofs.RecordPages.{HasPages, has_pages, starts_so}
+use Rattle.replay_laws.proofs.pages.RecordPages.{HasPages, has_pages, starts_so}
 use Rattle.cluster_core.proofs.LostQueue.{NextLoss, no_fetch_queued, no_move_queued, not_here_lost, places_after, queue_stays, found_after}
 use Rattle.cert_sched.specs.Legal.{Stands}
-use Rattle.wait_laws.specs.Waits.{first_wait, none_queued}
+use Rattle.replay_laws.specs.pages.Waits.{first_wait, none_queued}
 use Rattle.cert_sched.specs.Told.{cluster_lost, is_moved}
 use Rattle.cluster_core.proofs.NotMoved.{home_not_moved}
 use Rattle.cert_sched.specs.Moved.{is_fetch, is_page_is}
-use Rattle.page_laws.specs.Next.{moves_next}
+use Rattle.log_laws.specs.pages.Next.{moves_next}
 use Rattle.cluster_core.proofs.HasPages.{pages_after}
-use Rattle.family_laws.proofs.UnsyncedChild.{lives_with_parent}
+use Rattle.log_laws.proofs.births.UnsyncedChild.{lives_with_parent}
 use Rattle.cluster_core.specs.ForksAgain.{ForksLeft, has_to_bear}
 use Rattle.cluster_core.proofs.ForksAgain.{bears_by}
-use Rattle.child_waits.specs.ForkWaits.{WaitsSo}
-use Rattle.child_waits.proofs.EitherWait.{so_alike, so_begins, so_follows}
+use Rattle.replay_laws.specs.forks.ForkWaits.{WaitsSo}
+use Rattle.replay_laws.proofs.forks.EitherWait.{so_alike, so_begins, so_follows}
 use Rattle.cert_sched.specs.Account.{is_exit_of}
-use Rattle.mark_laws.specs.Beside.{is_some_page}
+use Rattle.checkpoint_laws.specs.marks.Beside.{is_some_page}
 use Rattle.cluster_core.proofs.Marking.{Leaves, marked_after, queue_tells}
 
 -- ---- lists

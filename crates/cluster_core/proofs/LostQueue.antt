@@ -43,10 +43,10 @@ use Rattle.cluster_core.proofs.PagePosts.{page_post_stays}
 use Rattle.cluster_core.proofs.HasPages.{waits_after}
 use Rattle.cert_sched.specs.Deeds.{deeds_in, is_birth_of, is_cut, letter_for}
 use Rattle.sys_calls.proofs.RunLemma.{all_delivered}
-use Rattle.record_laws.proofs.Standing.{built_stands}
+use Rattle.log_laws.proofs.records.Standing.{built_stands}
 use Rattle.cert_sched.proofs.BuiltCuts.{by_home_there}
 use Rattle.cluster_core.proofs.KeptLimits.{told_within}
-use Rattle.limit_laws.proofs.StayingLimits.{sent_stays}
+use Rattle.checkpoint_laws.proofs.limits.StayingLimits.{sent_stays}
 
 -- the home of a process sends the fetches of its pages
 fetched_home : (places : Places) (by : By) (p : Pid) (i : ℕ) (w : What) → (tells_or_closes w ≡ true) ⊎ (is_of_page w ≡ true) → is_fetch p i w ≡ true → is_by_right places by w ≡ true → is_by by (home_at places p) ≡ true

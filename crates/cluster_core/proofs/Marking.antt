@@ -37,13 +37,13 @@ use Rattle.cert_sched.proofs.LogLaws.{IsLegal-before}
 use Rattle.cert_sched.proofs.OpenLaws.{unended_open}
 use Rattle.cert_sched.proofs.RollLaws.{all_roll, rolls_next}
 use Rattle.cert_sched.proofs.StepLaws.{Tells}
-use Rattle.read_laws.proofs.LogReads.{itself}
-use Rattle.page_laws.proofs.OneEntry.{any_since-goes_on}
-use Rattle.mark_laws.specs.Beside.{LeavesMarks, is_some_page}
-use Rattle.mark_laws.specs.Sent.{SentUpto, is_later_page}
-use Rattle.mark_laws.proofs.EntryMarks.{marks_before, marks_kept}
-use Rattle.mark_laws.proofs.LetterMarks.{letter_kept}
-use Rattle.mark_laws.proofs.SentPages.{sent_on}
+use Rattle.log_laws.proofs.letters.LogReads.{itself}
+use Rattle.log_laws.proofs.pages.OneEntry.{any_since-goes_on}
+use Rattle.checkpoint_laws.specs.marks.Beside.{LeavesMarks, is_some_page}
+use Rattle.checkpoint_laws.specs.marks.Sent.{SentUpto, is_later_page}
+use Rattle.checkpoint_laws.proofs.marks.EntryMarks.{marks_before, marks_kept}
+use Rattle.checkpoint_laws.proofs.marks.LetterMarks.{letter_kept}
+use Rattle.checkpoint_laws.proofs.marks.SentPages.{sent_on}
 use Rattle.cluster_core.specs.View.{Held, Runs, Rolls, Waits, arrived, arrived_held}
 use Rattle.cluster_core.specs.Queue.{AreTogether, Queued, Nothing, One, posts_of, IsQueueLegal, is_lone, is_move_of, is_rebackup, move_of, state_by, state_now, taken_by, tells_steps, with_queue}
 use Rattle.cluster_core.specs.Holds.{CarriesMarks, IsHeldAs, MarkedIfThere, process_in, unended_process}
@@ -52,8 +52,8 @@ use Rattle.cluster_core.proofs.Here.{arrival_at}
 use Rattle.cluster_core.proofs.Posted.{moves_it, no_end}
 use Rattle.cluster_core.proofs.Telling.{Telling, telling}
 use Rattle.cluster_core.proofs.Unmoved.{page_moves_none}
-use Rattle.read_laws.proofs.RollingReads.{silent_next}
-use Rattle.recovery_laws.proofs.Others.{rolls_next as rolling_next}
+use Rattle.log_laws.proofs.letters.RollingReads.{silent_next}
+use Rattle.replay_laws.proofs.rolling.Others.{rolls_next as rolling_next}
 
 -- ---- what leaves the marks of a process
 

@@ -10,12 +10,12 @@ use Rattle.bus_msg.specs.PlacedAfter.{what}
 use Rattle.cert_sched.specs.Built.{BuiltMayFollow}
 use Rattle.cert_sched.specs.Legal.{IsLegalBy}
 use Rattle.cert_sched.specs.Simulation.{IsUnended}
-use Rattle.page_laws.proofs.StartPages.{built_waits}
-use Rattle.sync_laws.specs.Marked.{IsMarked}
-use Rattle.mark_laws.specs.Sent.{SentUpto}
-use Rattle.mark_laws.proofs.BegunMarks.{begun_marked, begun_sent}
+use Rattle.log_laws.proofs.pages.StartPages.{built_waits}
+use Rattle.checkpoint_laws.specs.posts.Marked.{IsMarked}
+use Rattle.checkpoint_laws.specs.marks.Sent.{SentUpto}
+use Rattle.checkpoint_laws.proofs.marks.BegunMarks.{begun_marked, begun_sent}
 use Rattle.page_waits.specs.Waiting.{WaitingState}
-use Rattle.wait_laws.specs.Waits.{GoesOnAs, WaitsAs}
+use Rattle.replay_laws.specs.pages.Waits.{GoesOnAs, WaitsAs}
 use Rattle.std.proofs.lemmas.List.{length-replicate}
 use Rattle.cluster_core.specs.Holds.{CarriesMarks}
 

@@ -18,11 +18,11 @@ use Rattle.cert_sched.specs.Record.{backup_record, has_state, record_from}
 use Rattle.cert_sched.specs.Simulation.{IsUnended}
 use Rattle.cert_sched.proofs.RunsOutLaws.{record_of}
 use Rattle.cert_sched.proofs.StepLaws.{process_after-own}
-use Rattle.record_laws.proofs.Counts.{next_fits}
-use Rattle.recovery_laws.proofs.FromStart.{record_stated, stated_at_start}
+use Rattle.log_laws.proofs.records.Counts.{next_fits}
+use Rattle.replay_laws.proofs.rolling.FromStart.{record_stated, stated_at_start}
 use Rattle.page_waits.specs.Waiting.{page_count}
-use Rattle.wait_laws.specs.Waits.{first_wait}
-use Rattle.wait_laws.proofs.RecordPages.{StartsSo, has_pages, starts_so}
+use Rattle.replay_laws.specs.pages.Waits.{first_wait}
+use Rattle.replay_laws.proofs.pages.RecordPages.{StartsSo, has_pages, starts_so}
 use Rattle.cluster_core.specs.Parts.{WaitsOwn}
 
 -- where there is a page, not all have come at first

@@ -35,10 +35,10 @@ use Rattle.cert_sched.proofs.PidLaws.{apart_of}
 use Rattle.cert_sched.proofs.RisingLaws.{either_not}
 use Rattle.cert_sched.proofs.StatedLaws.{stated_there}
 use Rattle.cert_sched.proofs.UnendedLaws.{loss_keeps, unended_map}
-use Rattle.page_laws.specs.Next.{moves_next}
-use Rattle.page_laws.proofs.OneEntry.{moved-goes_on, moves_none, turned}
-use Rattle.record_laws.proofs.Standing.{built_stands}
-use Rattle.page_laws.proofs.MovedStated.{moved_stated}
+use Rattle.log_laws.specs.pages.Next.{moves_next}
+use Rattle.log_laws.proofs.pages.OneEntry.{moved-goes_on, moves_none, turned}
+use Rattle.log_laws.proofs.records.Standing.{built_stands}
+use Rattle.log_laws.proofs.pages.MovedStated.{moved_stated}
 use Rattle.cert_sched.proofs.BirthPlaces.{born_beside}
 use Rattle.cluster_core.proofs.ByKind.{OneOf, by_kind, by_page, by_sync, kind_is}
 use Rattle.cluster_core.proofs.Homes.{HomeHere, differ_built}

@@ -28,8 +28,8 @@ use Rattle.cert_sched.specs.Built.{BuiltMayFollow, tells_or_closes}
 use Rattle.cert_sched.specs.Schedule.{placement}
 use Rattle.cert_sched.specs.Record.{backup_record}
 use Rattle.backup_records.specs.Records.{CanNote, record_in, record_after, record_of_child, records_after, is_receiver, after_birth, with_child_of, with_record, with_saved, with_counted, with_cut}
-use Rattle.record_laws.specs.Kept.{KeepsRecords, has_backup_in}
-use Rattle.record_laws.proofs.BuiltLaws.{built_can_note}
+use Rattle.log_laws.specs.records.Kept.{KeepsRecords, has_backup_in}
+use Rattle.log_laws.proofs.records.BuiltLaws.{built_can_note}
 use Rattle.cert_sched.proofs.LogLaws.{IsLegal-last}
 use Rattle.cluster_core.specs.View.{ClusterView}
 use Rattle.cluster_core.specs.Calls.{IsReady, ReadyFor}

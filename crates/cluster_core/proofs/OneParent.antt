@@ -25,7 +25,7 @@ use Rattle.cert_sched.specs.Parts.{after_last}
 use Rattle.cert_sched.specs.Rolling.{RollsAs}
 use Rattle.cert_sched.specs.Simulation.{bears}
 use Rattle.cert_sched.proofs.FamilyLaws.{Pair}
-use Rattle.family_laws.proofs.Filters.{one_passes, passes_any}
+use Rattle.log_laws.proofs.births.Filters.{one_passes, passes_any}
 use Rattle.cluster_core.proofs.ForksAgain.{bears_by}
 use Rattle.cluster_core.proofs.Here.{pid_same, same_itself}
 

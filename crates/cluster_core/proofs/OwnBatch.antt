@@ -22,10 +22,10 @@ use Rattle.cert_sched.specs.Rests.{home_pids}
 use Rattle.cert_sched.specs.Schedule.{placement}
 use Rattle.cert_sched.specs.Steps.{process_of}
 use Rattle.cert_sched.proofs.LogLaws.{placement-snoc}
-use Rattle.sync_laws.proofs.CutEntry.{cut_process}
-use Rattle.batch_laws.specs.Underway.{BatchMay, page_left, posts_left, sync_left}
-use Rattle.batch_laws.proofs.PageSent.{page_sent}
-use Rattle.batch_laws.proofs.RestMarks.{last_cuts}
+use Rattle.checkpoint_laws.proofs.posts.CutEntry.{cut_process}
+use Rattle.checkpoint_laws.specs.batches.Underway.{BatchMay, page_left, posts_left, sync_left}
+use Rattle.checkpoint_laws.proofs.batches.PageSent.{page_sent}
+use Rattle.checkpoint_laws.proofs.batches.RestMarks.{last_cuts}
 use Rattle.page_server.specs.Account.{PagerState}
 use Rattle.page_waits.specs.Waiting.{WaitingState}
 use Rattle.cluster_core.specs.View.{ClusterView, Held, Runs, Rolls, Waits, after_sent, head_of, held_at, with_server}
@@ -51,9 +51,9 @@ use Rattle.cluster_core.proofs.Served.{accounts_on, ahead_after, brought}
 use Rattle.cluster_core.proofs.Spared.{passed}
 use Rattle.cluster_core.proofs.Synchronising.{s as tells, differ, held_still, loses_none, pids_same, records_stay, stands, sync_taken}
 use Rattle.cluster_core.proofs.Telling.{at_once}
-use Rattle.child_waits.proofs.EitherWait.{so_alike}
+use Rattle.replay_laws.proofs.forks.EitherWait.{so_alike}
 use Rattle.cluster_core.proofs.ForksAgain.{forks_synced}
-use Rattle.limit_laws.proofs.RestLimits.{page_leaves_sync}
+use Rattle.checkpoint_laws.proofs.limits.RestLimits.{page_leaves_sync}
 use Rattle.cluster_core.proofs.Batching.{batch_state}
 
 -- ---- what a batch leaves of the other processes

@@ -40,15 +40,15 @@ use Rattle.cert_sched.proofs.MadeLaws.{BirthMade}
 use Rattle.cert_sched.proofs.RecordLaws.{has_state-snoc}
 use Rattle.cert_sched.proofs.StatedLaws.{stated_there}
 use Rattle.cert_sched.proofs.ThereLaws.{unended_not_born}
-use Rattle.wait_laws.proofs.MovedStated.{stateless_paged}
-use Rattle.record_laws.proofs.Standing.{built_stands}
-use Rattle.sync_laws.specs.Running.{RunsMarked}
-use Rattle.limit_laws.proofs.ForkLimits.{fork_within}
-use Rattle.mark_laws.specs.Beside.{is_some_page}
-use Rattle.mark_laws.specs.Sent.{is_later_page}
-use Rattle.mark_laws.proofs.BornMarks.{child_runs, child_sent, parent_runs}
-use Rattle.mark_laws.proofs.ForkMarks.{forked_sent}
-use Rattle.mark_laws.proofs.SentPages.{sent_on}
+use Rattle.replay_laws.proofs.pages.MovedStated.{stateless_paged}
+use Rattle.log_laws.proofs.records.Standing.{built_stands}
+use Rattle.checkpoint_laws.specs.posts.Running.{RunsMarked}
+use Rattle.checkpoint_laws.proofs.limits.ForkLimits.{fork_within}
+use Rattle.checkpoint_laws.specs.marks.Beside.{is_some_page}
+use Rattle.checkpoint_laws.specs.marks.Sent.{is_later_page}
+use Rattle.checkpoint_laws.proofs.marks.BornMarks.{child_runs, child_sent, parent_runs}
+use Rattle.checkpoint_laws.proofs.marks.ForkMarks.{forked_sent}
+use Rattle.checkpoint_laws.proofs.marks.SentPages.{sent_on}
 use Rattle.page_waits.specs.Waiting.{WaitingState}
 use Rattle.cluster_core.specs.View.{ClusterView, Held, Runs, Waits, IsHeldWithin, held_at, limits_of}
 use Rattle.cluster_core.specs.Residents.{pids_in}

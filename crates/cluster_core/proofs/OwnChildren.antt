@@ -13,15 +13,15 @@ use Rattle.cert_sched.specs.Legal.{IsLegalBy, Stands}
 use Rattle.cert_sched.specs.Rules.{home_at}
 use Rattle.cert_sched.specs.Schedule.{placement}
 use Rattle.cert_sched.proofs.FamilyLaws.{Pair, Member}
-use Rattle.record_laws.proofs.Standing.{built_stands}
+use Rattle.log_laws.proofs.records.Standing.{built_stands}
 use Rattle.birth_notice.specs.Family.{are_births, children_of, first_unsynced, is_of, lowest}
 use Rattle.birth_notice.proofs.BirthLaws.{births_kept}
 use Rattle.birth_notice.proofs.LowestLaws.{lowest-born, same_of}
 use Rattle.birth_notice.proofs.WalkLaws.{down, first-none, first-some, left, left-most}
-use Rattle.family_laws.specs.Unsynced.{unsynced_births}
-use Rattle.family_laws.proofs.FamilyKept.{births_may_stand}
-use Rattle.family_laws.proofs.Filters.{filter_alike, filter_both, one_passes, passes_any}
-use Rattle.family_laws.proofs.UnsyncedChild.{lives_with_parent}
+use Rattle.log_laws.specs.births.Unsynced.{unsynced_births}
+use Rattle.log_laws.proofs.births.FamilyKept.{births_may_stand}
+use Rattle.log_laws.proofs.births.Filters.{filter_alike, filter_both, one_passes, passes_any}
+use Rattle.log_laws.proofs.births.UnsyncedChild.{lives_with_parent}
 use Rattle.cluster_core.specs.Follows.{IsOpen}
 use Rattle.cluster_core.specs.Hearing.{FollowsHeard, concerns}
 use Rattle.cluster_core.specs.Residents.{pids_in}

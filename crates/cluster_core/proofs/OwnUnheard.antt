@@ -18,8 +18,8 @@ use Rattle.cert_sched.specs.Appended.{entry_of}
 use Rattle.cert_sched.specs.Built.{BuiltMayFollow, UnlostMayFollow, is_unlost}
 use Rattle.cert_sched.specs.Losses.{capped, is_by_cluster, is_from, least_steps}
 use Rattle.cert_sched.specs.Schedule.{placement}
-use Rattle.family_laws.specs.Unsynced.{unsynced_births}
-use Rattle.family_laws.proofs.OtherEntries.{synced_goes}
+use Rattle.log_laws.specs.births.Unsynced.{unsynced_births}
+use Rattle.log_laws.proofs.births.OtherEntries.{synced_goes}
 use Rattle.backup_records.specs.Records.{are_rising, records_after}
 use Rattle.cluster_core.specs.Absorbing.{goes_to}
 use Rattle.cluster_core.specs.Calls.{ReadyFor, absorbed, here_after}

@@ -17,7 +17,7 @@ use Rattle.cert_sched.specs.Schedule.{placement}
 use Rattle.cert_sched.proofs.LogLaws.{IsLegal-last}
 use Rattle.backup_records.specs.Records.{are_rising, record_in, records_after}
 use Rattle.page_waits.specs.Waiting.{WaitingState}
-use Rattle.wait_laws.specs.Waits.{first_wait}
+use Rattle.replay_laws.specs.pages.Waits.{first_wait}
 use Rattle.cluster_core.specs.View.{ClusterView, Held, Waits}
 use Rattle.cluster_core.specs.Residents.{with_more}
 use Rattle.cluster_core.specs.Parts.{AllOwn, IsHeldOwn, WaitsOwn}

@@ -35,13 +35,13 @@ use Rattle.cert_sched.proofs.FreshLaws.{kept_elsewhere, put_here}
 use Rattle.cert_sched.proofs.LogLaws.{IsLegal-last, no_items, placement-snoc}
 use Rattle.cert_sched.proofs.ThereLaws.{plain_there}
 use Rattle.cert_sched.proofs.UnendedLaws.{loss_keeps, unended_map}
-use Rattle.record_laws.proofs.Standing.{built_stands}
-use Rattle.page_laws.specs.Next.{ends_wait_next, moves_next}
-use Rattle.page_laws.specs.Waited.{is_waited}
-use Rattle.page_laws.proofs.Keeping.{answer_kept, fetch_kept}
-use Rattle.page_laws.proofs.OneEntry.{turned}
-use Rattle.page_laws.proofs.StartPages.{cut_has_pages, waited_unended}
-use Rattle.page_laws.proofs.Waiting.{first_waited, waited_has_not, waited_lacks}
+use Rattle.log_laws.proofs.records.Standing.{built_stands}
+use Rattle.log_laws.specs.pages.Next.{ends_wait_next, moves_next}
+use Rattle.log_laws.specs.pages.Waited.{is_waited}
+use Rattle.log_laws.proofs.pages.Keeping.{answer_kept, fetch_kept}
+use Rattle.log_laws.proofs.pages.OneEntry.{turned}
+use Rattle.log_laws.proofs.pages.StartPages.{cut_has_pages, waited_unended}
+use Rattle.log_laws.proofs.pages.Waiting.{first_waited, waited_has_not, waited_lacks}
 use Rattle.cluster_core.specs.Follows.{IsOpen}
 use Rattle.cluster_core.proofs.ByKind.{by_page, is_of_page}
 use Rattle.cluster_core.proofs.HasPages.{home_of_sender}

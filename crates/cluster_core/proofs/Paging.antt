@@ -25,12 +25,12 @@ use Rattle.cert_sched.specs.Rules.{is_by_home, has_its_pages, home_at, is_by, is
 use Rattle.cert_sched.specs.Schedule.{items_of, placement}
 use Rattle.cert_sched.proofs.LogLaws.{IsLegal-last, placement-snoc}
 use Rattle.backup_records.specs.Records.{records_after}
-use Rattle.record_laws.specs.Kept.{KeepsRecords, changes_in_place}
-use Rattle.record_laws.proofs.KeptLaws.{records_kept}
-use Rattle.record_laws.proofs.Standing.{built_stands}
-use Rattle.recovery_laws.specs.Behind.{RollsBehind}
-use Rattle.recovery_laws.proofs.KeepingBehind.{behind_standing}
-use Rattle.recovery_laws.proofs.ByRule.{built_stands as standing}
+use Rattle.log_laws.specs.records.Kept.{KeepsRecords, changes_in_place}
+use Rattle.log_laws.proofs.records.KeptLaws.{records_kept}
+use Rattle.log_laws.proofs.records.Standing.{built_stands}
+use Rattle.replay_laws.specs.rolling.Behind.{RollsBehind}
+use Rattle.replay_laws.proofs.rolling.KeepingBehind.{behind_standing}
+use Rattle.replay_laws.proofs.rolling.ByRule.{built_stands as standing}
 use Rattle.cluster_core.specs.Families.{family_after}
 use Rattle.cluster_core.specs.View.{page_held, ClusterView, Held, Runs, Rolls, Waits, next_count, with_server, held_of, IsHeldWithin, limits_of, rolling_held}
 use Rattle.cluster_core.specs.Residents.{pids_in}
@@ -54,7 +54,7 @@ use Rattle.page_server.specs.Account.{PagerState}
 use Rattle.cluster_core.proofs.Unmoved.{emission_same, state_same, silent_same}
 use Rattle.cert_sched.specs.Simulation.{IsUnended}
 use Rattle.page_waits.specs.Waiting.{WaitingState, is_whole, rolling_of, start_of, with_page}
-use Rattle.child_waits.proofs.EitherWait.{so_alike}
+use Rattle.replay_laws.proofs.forks.EitherWait.{so_alike}
 use Rattle.cluster_core.specs.ForksAgain.{HoldsForks}
 use Rattle.cluster_core.proofs.ForksPaged.{forks_paged}
 use Rattle.cluster_core.proofs.Paged.{page_at, was_paged}
@@ -79,7 +79,7 @@ use Rattle.std.specs.Option.{option_map_or}
 use Rattle.cluster_core.proofs.Within.{start_within}
 use Rattle.cert_sched.proofs.BuiltCuts.{by_home_there}
 use Rattle.cluster_core.proofs.KeptLimits.{told_within}
-use Rattle.limit_laws.proofs.StayingLimits.{sent_stays}
+use Rattle.checkpoint_laws.proofs.limits.StayingLimits.{sent_stays}
 
 -- ---- what is here then
 

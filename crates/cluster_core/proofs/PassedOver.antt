@@ -24,9 +24,9 @@ use Rattle.cert_sched.specs.Rules.{is_by, is_by_home, is_by_right}
 use Rattle.cert_sched.specs.Schedule.{placement}
 use Rattle.cert_sched.proofs.LogLaws.{IsLegal-last, placement-snoc}
 use Rattle.cert_sched.proofs.UnendedLaws.{sync_keeps, unended_map}
-use Rattle.family_laws.specs.Unsynced.{unsynced_births, changes_unsynced}
-use Rattle.family_laws.proofs.Filters.{filter_both}
-use Rattle.family_laws.proofs.OtherEntries.{others_leave, synced_goes}
+use Rattle.log_laws.specs.births.Unsynced.{unsynced_births, changes_unsynced}
+use Rattle.log_laws.proofs.births.Filters.{filter_both}
+use Rattle.log_laws.proofs.births.OtherEntries.{others_leave, synced_goes}
 use Rattle.page_server.specs.Account.{PagerState}
 use Rattle.page_accounts.proofs.Followed.{makes_keeps}
 use Rattle.backup_records.specs.Records.{records_after, are_rising}

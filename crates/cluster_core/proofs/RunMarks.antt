@@ -18,18 +18,18 @@ use Rattle.cert_sched.specs.Deeds.{arrived_count}
 use Rattle.cert_sched.specs.Legal.{IsLegalBy, Stands}
 use Rattle.cert_sched.specs.Simulation.{IsUnended}
 use Rattle.cert_sched.specs.Steps.{saved_of, silent_upto}
-use Rattle.read_laws.specs.ReadsFrom.{ReadsFrom}
-use Rattle.read_laws.proofs.LogReads.{silent_reads}
-use Rattle.page_laws.proofs.StepSizes.{SameSize, Keeps, next_keeps}
-use Rattle.mark_laws.proofs.RolledMarks.{rolled_marked, rolled_sent}
-use Rattle.mark_laws.proofs.RolledReads.{rolled_over}
-use Rattle.mark_laws.proofs.SendingMarks.{sending_marked, sending_sent}
+use Rattle.log_laws.specs.letters.ReadsFrom.{ReadsFrom}
+use Rattle.log_laws.proofs.letters.LogReads.{silent_reads}
+use Rattle.log_laws.proofs.pages.StepSizes.{SameSize, Keeps, next_keeps}
+use Rattle.checkpoint_laws.proofs.marks.RolledMarks.{rolled_marked, rolled_sent}
+use Rattle.checkpoint_laws.proofs.marks.RolledReads.{rolled_over}
+use Rattle.checkpoint_laws.proofs.marks.SendingMarks.{sending_marked, sending_sent}
 use Rattle.cluster_core.specs.Holds.{CarriesMarks, IsHeldAs, MarkedIfThere, unended_process}
 use Rattle.quanta.specs.Quantum.{RunsOn}
 use Rattle.cluster_core.specs.Quantum.{RollsTo, RunsTo}
 use Rattle.cluster_core.specs.View.{Held, Runs, Rolls, Waits}
-use Rattle.read_laws.proofs.RollingReads.{rolling_reads, silent_next}
-use Rattle.recovery_laws.proofs.Others.{rolls_next}
+use Rattle.log_laws.proofs.letters.RollingReads.{rolling_reads, silent_next}
+use Rattle.replay_laws.proofs.rolling.Others.{rolls_next}
 
 -- one that has ended makes no step
 stays_ended : (n : ℕ) (g h : Going) → rolled_on n g ≡ Some h → has_ended ((g.state).small).status ≡ true → has_ended ((h.state).small).status ≡ true

@@ -13,8 +13,8 @@ use Rattle.cert_sched.specs.Built.{BuiltMayFollow}
 use Rattle.cert_sched.specs.Legal.{IsLegalBy}
 use Rattle.cert_sched.specs.Losses.{capped}
 use Rattle.cert_sched.specs.Schedule.{placement}
-use Rattle.family_laws.specs.Unsynced.{unsynced_births}
-use Rattle.family_laws.proofs.Filters.{any_kept}
+use Rattle.log_laws.specs.births.Unsynced.{unsynced_births}
+use Rattle.log_laws.proofs.births.Filters.{any_kept}
 use Rattle.cluster_core.specs.Bearing.{BearsChild}
 use Rattle.cluster_core.specs.Follows.{FollowsBuilt}
 use Rattle.cluster_core.specs.Hearing.{FollowsHeard, concerns}

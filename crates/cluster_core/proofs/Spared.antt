@@ -35,17 +35,17 @@ use Rattle.cert_sched.specs.Schedule.{done_after, placement, process_after}
 use Rattle.cert_sched.specs.Steps.{after_items, emission_at, process_of, silent_upto}
 use Rattle.cert_sched.proofs.LogLaws.{IsLegal-last, placement-snoc}
 use Rattle.backup_records.specs.Records.{record_after, records_after}
-use Rattle.record_laws.specs.Kept.{KeepsRecords}
-use Rattle.record_laws.proofs.Standing.{built_stands}
-use Rattle.recovery_laws.specs.Behind.{RollsBehind}
-use Rattle.recovery_laws.proofs.ByRule.{built_stands as standing}
-use Rattle.recovery_laws.proofs.KeepingBehind.{behind_standing}
+use Rattle.log_laws.specs.records.Kept.{KeepsRecords}
+use Rattle.log_laws.proofs.records.Standing.{built_stands}
+use Rattle.replay_laws.specs.rolling.Behind.{RollsBehind}
+use Rattle.replay_laws.proofs.rolling.ByRule.{built_stands as standing}
+use Rattle.replay_laws.proofs.rolling.KeepingBehind.{behind_standing}
 use Rattle.page_server.specs.Account.{PagerState}
 use Rattle.page_waits.specs.Waiting.{WaitingState}
-use Rattle.child_waits.specs.ForkWaits.{WaitsSo}
+use Rattle.replay_laws.specs.forks.ForkWaits.{WaitsSo}
 use Rattle.cluster_core.specs.Families.{family_after}
 use Rattle.cluster_core.specs.ForksAgain.{ForksLeft}
-use Rattle.child_waits.proofs.EitherWait.{so_alike, so_follows}
+use Rattle.replay_laws.proofs.forks.EitherWait.{so_alike, so_follows}
 use Rattle.cluster_core.specs.Families.{family_after}
 use Rattle.cluster_core.specs.View.{ClusterView, Held, Runs, Rolls, Waits, held_of, next_count, with_server}
 use Rattle.cluster_core.specs.Residents.{pids_in}
@@ -73,11 +73,11 @@ use Rattle.cluster_core.proofs.Telling.{Telling, telling}
 use Rattle.cluster_core.proofs.Unmoved.{page_moves_none}
 use Rattle.cert_sched.specs.Account.{is_exit_of}
 use Rattle.cert_sched.specs.Told.{cluster_lost, is_moved}
-use Rattle.mark_laws.specs.Beside.{is_some_page}
+use Rattle.checkpoint_laws.specs.marks.Beside.{is_some_page}
 use Rattle.cert_sched.specs.Simulation.{IsUnended}
 use Rattle.cert_sched.proofs.BuiltCuts.{by_home_there}
 use Rattle.cluster_core.proofs.KeptLimits.{told_within}
-use Rattle.limit_laws.proofs.StayingLimits.{sent_stays}
+use Rattle.checkpoint_laws.proofs.limits.StayingLimits.{sent_stays}
 
 -- ---- what an entry leaves
 

@@ -27,15 +27,15 @@ use Rattle.cert_sched.specs.Rules.{home_at, is_by_home}
 use Rattle.cert_sched.specs.Schedule.{placement}
 use Rattle.cert_sched.proofs.LogLaws.{IsLegal-last}
 use Rattle.cert_sched.proofs.RisingLaws.{rising-any}
-use Rattle.mark_laws.specs.Beside.{is_some_page}
-use Rattle.mark_laws.specs.Sent.{SentUpto, is_later_page}
-use Rattle.mark_laws.proofs.SentPages.{sent_on}
-use Rattle.batch_laws.specs.Between.{ComesBetween}
-use Rattle.batch_laws.specs.Underway.{BatchMay, posts_left, with_letters}
-use Rattle.batch_laws.proofs.EntryBetween.{batch_stays}
-use Rattle.batch_laws.proofs.OtherSenders.{others_between}
-use Rattle.limit_laws.proofs.RestLimits.{between_keeps}
-use Rattle.record_laws.proofs.Standing.{built_stands}
+use Rattle.checkpoint_laws.specs.marks.Beside.{is_some_page}
+use Rattle.checkpoint_laws.specs.marks.Sent.{SentUpto, is_later_page}
+use Rattle.checkpoint_laws.proofs.marks.SentPages.{sent_on}
+use Rattle.checkpoint_laws.specs.batches.Between.{ComesBetween}
+use Rattle.checkpoint_laws.specs.batches.Underway.{BatchMay, posts_left, with_letters}
+use Rattle.checkpoint_laws.proofs.batches.EntryBetween.{batch_stays}
+use Rattle.checkpoint_laws.proofs.batches.OtherSenders.{others_between}
+use Rattle.checkpoint_laws.proofs.limits.RestLimits.{between_keeps}
+use Rattle.log_laws.proofs.records.Standing.{built_stands}
 use Rattle.cluster_core.specs.View.{ClusterView, Held, Runs, arrived, arrived_held, held_at, held_of, page_held}
 use Rattle.cluster_core.specs.Residents.{pids_in}
 use Rattle.cluster_core.specs.Syncing.{Synchronises}

@@ -33,11 +33,11 @@ use Rattle.cert_sched.specs.Scripted.{is_done}
 use Rattle.cert_sched.specs.Steps.{emission_at, process_of, silent_upto}
 use Rattle.cert_sched.proofs.LogLaws.{IsLegal-last, placement-snoc}
 use Rattle.cert_sched.proofs.StepLaws.{done_after-other}
-use Rattle.sync_laws.proofs.SyncMade.{sync_made}
+use Rattle.checkpoint_laws.proofs.posts.SyncMade.{sync_made}
 use Rattle.backup_records.specs.Records.{record_after, records_after, with_cut}
-use Rattle.record_laws.specs.Kept.{KeepsRecords, changes_in_place}
-use Rattle.record_laws.proofs.KeptLaws.{records_kept}
-use Rattle.record_laws.proofs.Standing.{built_stands}
+use Rattle.log_laws.specs.records.Kept.{KeepsRecords, changes_in_place}
+use Rattle.log_laws.proofs.records.KeptLaws.{records_kept}
+use Rattle.log_laws.proofs.records.Standing.{built_stands}
 use Rattle.page_server.specs.Account.{PagerState}
 use Rattle.page_waits.specs.Waiting.{WaitingState}
 use Rattle.cluster_core.specs.Families.{family_after}
@@ -58,7 +58,7 @@ use Rattle.cluster_core.proofs.SyncedHomes.{home_kept, pids_synced, synced_found
 use Rattle.cluster_core.proofs.Unmoved.{emission_same, silent_same}
 use Rattle.cert_sched.specs.Account.{is_exit_of}
 use Rattle.cert_sched.specs.Told.{cluster_lost}
-use Rattle.mark_laws.specs.Beside.{is_some_page}
+use Rattle.checkpoint_laws.specs.marks.Beside.{is_some_page}
 use Rattle.cluster_core.proofs.ForksAgain.{forks_synced}
 use Rattle.cluster_core.proofs.Spared.{BringsNothing, Spares, emission_stays, follows_passed, held_stays, passed, silent_stays}
 

@@ -22,19 +22,19 @@ use Rattle.cert_sched.specs.Moved.{is_fetch, is_page_is}
 use Rattle.cert_sched.specs.Simulation.{IsUnended}
 use Rattle.cert_sched.specs.Told.{cluster_lost, is_moved}
 use Rattle.cert_sched.specs.Schedule.{placement}
-use Rattle.page_laws.specs.Next.{moves_next}
+use Rattle.log_laws.specs.pages.Next.{moves_next}
 use Rattle.cert_sched.proofs.LogLaws.{placement-snoc}
 use Rattle.bus_msg.specs.Places.{unended_at}
 use Rattle.bus_msg.specs.PlacedAfter.{placed_after}
-use Rattle.wait_laws.proofs.Follows.{page_within, page_entry}
-use Rattle.wait_laws.proofs.GoesOn.{can_go_on, goes_on}
-use Rattle.wait_laws.proofs.PagesCame.{has_all}
+use Rattle.replay_laws.proofs.pages.Follows.{page_within, page_entry}
+use Rattle.replay_laws.proofs.pages.GoesOn.{can_go_on, goes_on}
+use Rattle.replay_laws.proofs.pages.PagesCame.{has_all}
 use Rattle.backup_records.specs.Records.{counted_by_sender, is_receiver, record_after, with_counted, with_saved}
-use Rattle.mark_laws.specs.Beside.{is_some_page}
+use Rattle.checkpoint_laws.specs.marks.Beside.{is_some_page}
 use Rattle.page_waits.specs.Waiting.{WaitingState, is_whole, rolling_of, with_page}
-use Rattle.wait_laws.specs.Waits.{WaitsAs}
-use Rattle.child_waits.specs.ForkWaits.{WaitsSo}
-use Rattle.child_waits.proofs.EitherWait.{page_for, so_alike, so_follows}
+use Rattle.replay_laws.specs.pages.Waits.{WaitsAs}
+use Rattle.replay_laws.specs.forks.ForkWaits.{WaitsSo}
+use Rattle.replay_laws.proofs.forks.EitherWait.{page_for, so_alike, so_follows}
 use Rattle.cluster_core.specs.View.{Waits, Rolls, Runs, page_held, rolling_held}
 use Rattle.cluster_core.specs.Queue.{move_of, state_by}
 use Rattle.cluster_core.specs.Holds.{IsHeldAs, is_fetch_queued, process_in, CarriesMarks, MarkedIfThere, unended_process}
@@ -44,8 +44,8 @@ use Rattle.cluster_core.specs.Resident.{CanComeTo}
 use Rattle.cert_sched.specs.Legal.{IsLegalBy}
 use Rattle.cluster_core.specs.Follows.{IsOpen}
 use Rattle.roll_forward.specs.Rolling.{RollingState}
-use Rattle.recovery_laws.specs.Behind.{RollsBehind}
-use Rattle.recovery_laws.proofs.ByRule.{built_silent}
+use Rattle.replay_laws.specs.rolling.Behind.{RollsBehind}
+use Rattle.replay_laws.proofs.rolling.ByRule.{built_silent}
 use Rattle.cert_sched.specs.Rules.{has_its_pages}
 use Rattle.roll_forward.specs.RunsOut.{nothing_left}
 use Rattle.std.specs.Option.{option_map_or}

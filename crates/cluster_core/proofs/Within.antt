@@ -20,21 +20,21 @@ use Rattle.cert_sched.specs.Steps.{silent_upto}
 use Rattle.cert_sched.proofs.MailLaws.{silent_upto-ends}
 use Rattle.cert_sched.proofs.OpenLaws.{unended_open}
 use Rattle.cert_sched.proofs.StepLaws.{SilentFrom, silent_from}
-use Rattle.page_laws.proofs.SizesStay.{process_sized}
-use Rattle.record_laws.proofs.Standing.{built_stands, itself}
-use Rattle.recovery_laws.specs.Behind.{RollsBehind}
+use Rattle.log_laws.proofs.pages.SizesStay.{process_sized}
+use Rattle.log_laws.proofs.records.Standing.{built_stands, itself}
+use Rattle.replay_laws.specs.rolling.Behind.{RollsBehind}
 use Rattle.sync_point.proofs.Cuts.{cut_keeps}
 use Rattle.sync_point.specs.Batch.{synced}
 use Rattle.quanta.specs.declared.limits.Limits.{Limits}
 use Rattle.quanta.specs.Limited.{is_within}
-use Rattle.sync_laws.specs.Running.{RunsMarked}
-use Rattle.sync_laws.proofs.SilentSizes.{silent_sizes}
-use Rattle.limit_laws.specs.Within.{is_within_by}
-use Rattle.limit_laws.proofs.OwnCounts.{own_limits}
+use Rattle.checkpoint_laws.specs.posts.Running.{RunsMarked}
+use Rattle.checkpoint_laws.proofs.posts.SilentSizes.{silent_sizes}
+use Rattle.checkpoint_laws.specs.limits.Within.{is_within_by}
+use Rattle.checkpoint_laws.proofs.limits.OwnCounts.{own_limits}
 use Rattle.cluster_core.specs.View.{Held, Runs, Rolls, Waits, IsHeldWithin, limits_of}
 use Rattle.cluster_core.specs.Quantum.{RollsTo}
 use Rattle.cluster_core.specs.Holds.{CarriesMarks, IsHeldAs, MarkedIfThere, unended_process}
-use Rattle.recovery_cost.proofs.CaughtLimits.{caught_limits}
+use Rattle.replay_laws.proofs.costs.CaughtLimits.{caught_limits}
 use Rattle.cluster_core.specs.Follows.{IsOpen}
 
 -- ---- a process that runs

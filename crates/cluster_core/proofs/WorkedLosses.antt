@@ -30,10 +30,10 @@ use Rattle.cert_sched.specs.Steps.{silent_upto, emission_at, before_fork_at}
 use Rattle.cert_sched.specs.Rules.{is_over, has_its_pages}
 use Rattle.cert_sched.specs.Legal.{IsLegalBy}
 use Rattle.cert_sched.specs.Built.{BuiltMayFollow}
-use Rattle.record_laws.specs.Kept.{has_backup_in}
+use Rattle.log_laws.specs.records.Kept.{has_backup_in}
 use Rattle.page_waits.specs.Waiting.{WaitingState}
-use Rattle.wait_laws.specs.Waits.{WaitsAs, none_queued}
-use Rattle.child_waits.proofs.EitherWait.{kept_so}
+use Rattle.replay_laws.specs.pages.Waits.{WaitsAs, none_queued}
+use Rattle.replay_laws.proofs.forks.EitherWait.{kept_so}
 use Rattle.cluster_core.specs.View.{ClusterView, Held, Runs, Rolls, Waits, page_held}
 use Rattle.cluster_core.specs.Holds.{HoldsPages, HoldsProcesses, HoldsRecords, IsHeldAs}
 use Rattle.cluster_core.proofs.WorkedRecords.{each_pid, ended_4, ended_log}

@@ -19,7 +19,7 @@ use Rattle.cert_sched.specs.Account.{Account, account_after, no_pages}
 use Rattle.cert_sched.specs.Steps.{silent_upto, emission_at, before_fork_at}
 use Rattle.cert_sched.specs.Kinds.{BirthHolds}
 use Rattle.backup_records.specs.Records.{record_in}
-use Rattle.mark_laws.proofs.EntryMarks.{account_stays}
+use Rattle.checkpoint_laws.proofs.marks.EntryMarks.{account_stays}
 use Rattle.cluster_core.specs.View.{ClusterView, account_at}
 use Rattle.cluster_core.specs.Holds.{HoldsAccounts, HoldsRecords}
 use Rattle.cluster_core.proofs.Here.{pid_same}

@@ -38,11 +38,11 @@ use Rattle.cert_sched.specs.Record.{backup_record}
 use Rattle.cert_sched.specs.Account.{Account, account_after, page_in}
 use Rattle.cert_sched.specs.Steps.{silent_upto, emission_at}
 use Rattle.backup_records.specs.Records.{record_in}
-use Rattle.record_laws.specs.Kept.{has_backup_in}
+use Rattle.log_laws.specs.records.Kept.{has_backup_in}
 use Rattle.sync_point.specs.Batch.{batch, synced}
 use Rattle.quanta.specs.Limited.{is_due}
 use Rattle.page_waits.specs.Waiting.{WaitingState}
-use Rattle.wait_laws.specs.Waits.{WaitsAs, none_queued}
+use Rattle.replay_laws.specs.pages.Waits.{WaitsAs, none_queued}
 use Rattle.cluster_core.specs.View.{ClusterView, Held, Runs, account_at, held_of, limits_of, process_load}
 use Rattle.cluster_core.specs.Holds.{HoldsAccounts, HoldsMarks, HoldsPages, HoldsRecords, IsMarked, MarkedIfThere, is_fetch_queued, unended_process}
 use Rattle.cluster_core.specs.Queue.{with_queue}

@@ -50,14 +50,14 @@ use Rattle.cluster_core.proofs.ChildrenKept.{synced_where_none}
 use Rattle.cluster_core.proofs.Here.{FoundChanged, found_changed, is_among, pid_same, pids_changed}
 use Rattle.cluster_core.proofs.Telling.{done_is}
 use Rattle.cluster_core.proofs.Catching.{rolled_held}
-use Rattle.limit_laws.proofs.SendingLimits.{sent_keeps}
+use Rattle.checkpoint_laws.proofs.limits.SendingLimits.{sent_keeps}
 use Rattle.cluster_core.proofs.Within.{carried, rolled_within, runs_marked}
 use Rattle.cluster_core.proofs.KeptLimits.{told_keeps}
-use Rattle.child_waits.proofs.EitherWait.{so_alike}
+use Rattle.replay_laws.proofs.forks.EitherWait.{so_alike}
 use Rattle.cluster_core.proofs.ForksAgain.{forks_changed, ran_forks, run_forks}
 use Rattle.cluster_core.proofs.Marking.{marked_queued, queue_tells}
 use Rattle.cluster_core.proofs.RunMarks.{marked_ran, marked_rolled, marked_runs, marked_sends}
-use Rattle.record_laws.proofs.Standing.{built_stands}
+use Rattle.log_laws.proofs.records.Standing.{built_stands}
 use Rattle.cluster_core.proofs.Homes.{HomeHere, differ_built, home_here, home_lives}
 use Rattle.std.proofs.lemmas.Bool.{or_parts}
 use Rattle.sync_point.specs.Due.{is_due_by}

@@ -13,7 +13,7 @@ use Rattle.plain_kernel.specs.Maps.{processes_of as states_of}
 use Rattle.bus_msg.specs.declared.placed.Placed.{Placed}
 use Rattle.bus_msg.specs.Places.{Places, is_cluster, unended_at}
 use Rattle.backup_records.specs.Records.{record_in}
-use Rattle.record_laws.specs.Kept.{record_at_boot}
+use Rattle.log_laws.specs.records.Kept.{record_at_boot}
 use Rattle.cluster_core.specs.View.{Held, Runs}
 
 -- a pid of a root belongs to the cluster where that is at home: its number modulo 16 is the cluster's

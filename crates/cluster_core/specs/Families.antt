@@ -8,7 +8,7 @@ use Rattle.bus_msg.specs.declared.entry.What.TheVariants.{Birth, Exit, Sync}
 use Rattle.bus_msg.specs.declared.entry.Entry.{Entry}
 use Rattle.bus_msg.specs.Places.{same_pid}
 use Rattle.birth_notice.specs.Family.{stands_in}
-use Rattle.family_laws.specs.Unsynced.{unsynced_births}
+use Rattle.log_laws.specs.births.Unsynced.{unsynced_births}
 use Rattle.cluster_core.specs.View.{ClusterView}
 
 -- what an entry makes of these births: a child that is born comes last, and one that synchronised or ended goes

@@ -18,7 +18,7 @@ use Rattle.cert_sched.specs.Built.{UnlostMayFollow}
 use Rattle.cert_sched.specs.Losses.{capped, least_steps, was_lost_in}
 use Rattle.cert_sched.specs.Record.{is_root}
 use Rattle.cert_sched.specs.Schedule.{placement}
-use Rattle.family_laws.specs.Unsynced.{unsynced_births}
+use Rattle.log_laws.specs.births.Unsynced.{unsynced_births}
 use Rattle.cluster_core.specs.Absorbing.{goes_to}
 use Rattle.cluster_core.specs.Bearing.{BearsChild}
 use Rattle.cluster_core.specs.ForksAgain.{HoldsForks}

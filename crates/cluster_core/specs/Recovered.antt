@@ -10,7 +10,7 @@ use Rattle.bus_msg.specs.Places.{Places, same_pid}
 use Rattle.crash_notice.specs.Splitting.{moves_here, stays}
 use Rattle.backup_records.specs.Records.{record_in}
 use Rattle.page_waits.specs.Waiting.{page_count}
-use Rattle.wait_laws.specs.Waits.{first_wait}
+use Rattle.replay_laws.specs.pages.Waits.{first_wait}
 use Rattle.cluster_core.specs.View.{Held, Waits}
 use Rattle.cluster_core.specs.Residents.{with_more}
 

@@ -6,7 +6,7 @@ use Rattle.proc_state.specs.State.{state_of}
 use Rattle.roll_forward.specs.RunsOut.{RunsOut}
 use Rattle.cluster_core.specs.declared.resident.Standing.{Standing}
 use Rattle.cluster_core.specs.declared.resident.Standing.TheVariants.{Runs as IsRunning, Rolls as IsRolling, Waits as IsWaiting}
-use Rattle.wait_laws.specs.Waits.{first_wait}
+use Rattle.replay_laws.specs.pages.Waits.{first_wait}
 use Rattle.page_waits.specs.Waiting.{is_whole, with_page, CanGoOn}
 use Rattle.cluster_core.specs.View.{Held, Runs, Rolls, Waits, going_on}
 

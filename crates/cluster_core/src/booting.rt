@@ -8,7 +8,7 @@ ghost use Rattle.sys_text.specs.Valid.{is_system};
 ghost use Rattle.plain_kernel.specs.Starts.{starts_in};
 ghost use Rattle.bus_msg.specs.Places.{is_cluster, unended_at};
 ghost use Rattle.cert_sched.specs.Schedule.{placement};
-ghost use Rattle.record_laws.specs.Kept.{KeepsRecords};
+ghost use Rattle.log_laws.specs.records.Kept.{KeepsRecords};
 ghost use Rattle.cluster_core.specs.Booting.{AreBooted, AreFirstRecords, RunFrom, belongs_to};
 ghost use Rattle.cluster_core.specs.Serving.{BeginsToServe, IsAheadThere, IsFailing};
 ghost use Rattle.cluster_core.specs.View.{failing_in, limits_of};

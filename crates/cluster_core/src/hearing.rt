@@ -17,7 +17,7 @@ ghost use Rattle.std.specs.Prelude.{Option, Some, option_map};
 ghost use Rattle.cert_sched.specs.Appended.{entry_of};
 ghost use Rattle.t32_base.specs.declared.process.Pid.{Pid as APid};
 ghost use Rattle.birth_notice.specs.Family.{first_unsynced};
-ghost use Rattle.family_laws.specs.Unsynced.{unsynced_births};
+ghost use Rattle.log_laws.specs.births.Unsynced.{unsynced_births};
 ghost use Rattle.bus_msg.specs.PlacedAfter.{what};
 ghost use Rattle.cert_sched.specs.Losses.{is_crash_of};
 ghost use Rattle.cert_sched.specs.Schedule.{placement};

@@ -4,7 +4,7 @@ ghost use Rattle.bus_msg.specs.PlacedAfter.{what};
 ghost use Rattle.backup_records.specs.Records.{are_rising};
 ghost use Rattle.crash_notice.specs.Splitting.{moves_here, stays};
 ghost use Rattle.page_waits.specs.Waiting.{page_count};
-ghost use Rattle.wait_laws.specs.Waits.{first_wait};
+ghost use Rattle.replay_laws.specs.pages.Waits.{first_wait};
 ghost use Rattle.cluster_core.specs.Recovered.{CanWait, left_by, moved_by, with_all_waiting};
 
 use crate::resident::Resident;

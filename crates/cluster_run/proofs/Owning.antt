@@ -14,7 +14,7 @@ use Rattle.cert_sched.specs.Rules.{is_over}
 use Rattle.cert_sched.specs.declared.script.ScriptWord.{ScriptWord}
 use Rattle.cert_sched.specs.Losses.{was_lost_in}
 use Rattle.cert_sched.specs.Scripted.{is_closed, is_finished}
-use Rattle.sync_left.specs.Left.{left_to_send}
+use Rattle.checkpoint_laws.specs.remaining.Left.{left_to_send}
 use Rattle.cluster_core.specs.View.{ClusterView, counted_once, load}
 use Rattle.bus_lock.specs.Lists.{MayAdd}
 use Rattle.bus_order.specs.declared.marks.Mark.{Mark}

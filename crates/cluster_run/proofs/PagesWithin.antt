@@ -26,10 +26,10 @@ use Rattle.cert_sched.specs.Steps.{page_count}
 use Rattle.cert_sched.specs.Built.{BuiltMayFollow}
 use Rattle.cert_sched.specs.Legal.{IsLegalBy}
 use Rattle.cert_sched.proofs.KernelSums.{sum_of}
-use Rattle.record_laws.proofs.Standing.{built_stands}
-use Rattle.page_laws.specs.Left.{is_unasked, left_of_pages, unasked, unasked_of}
-use Rattle.page_laws.proofs.PagesStay.{EachPages, page_count-most}
-use Rattle.sync_left.proofs.PlacedSums.{of_family, placed_few}
+use Rattle.log_laws.proofs.records.Standing.{built_stands}
+use Rattle.log_laws.specs.pages.Left.{is_unasked, left_of_pages, unasked, unasked_of}
+use Rattle.log_laws.proofs.pages.PagesStay.{EachPages, page_count-most}
+use Rattle.checkpoint_laws.proofs.remaining.PlacedSums.{of_family, placed_few}
 
 -- ---- how many processes stand there
 

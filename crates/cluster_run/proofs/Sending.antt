@@ -20,9 +20,9 @@ use Rattle.cert_sched.specs.Losses.{is_by_cluster, is_crash_of, is_from, was_los
 use Rattle.cert_sched.proofs.Induction.{is_over-snoc}
 use Rattle.cert_sched.proofs.LogLaws.{IsLegal-snoc}
 use Rattle.cert_sched.proofs.UnlostLaws.{may_unlost}
-use Rattle.record_laws.proofs.Standing.{built_stands}
-use Rattle.sync_left.specs.Left.{left_to_send}
-use Rattle.sync_left.proofs.Falling.{to_send_falls}
+use Rattle.log_laws.proofs.records.Standing.{built_stands}
+use Rattle.checkpoint_laws.specs.remaining.Left.{left_to_send}
+use Rattle.checkpoint_laws.proofs.remaining.Falling.{to_send_falls}
 use Rattle.cluster_core.specs.View.{ClusterView, after_sent, with_server}
 use Rattle.cluster_core.specs.Queue.{IsQueueLegal}
 use Rattle.cluster_core.specs.Follows.{FollowsBuilt, IsOpen, StandsBetween}

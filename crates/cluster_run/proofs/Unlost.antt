@@ -14,7 +14,7 @@ use Rattle.cert_sched.specs.Built.{is_unlost}
 use Rattle.cert_sched.specs.Losses.{is_crash_of, is_from}
 use Rattle.cert_sched.specs.Rules.{ends_run, is_bus, is_by_right}
 use Rattle.cert_sched.specs.Scripted.{closes}
-use Rattle.sync_left.specs.Left.{is_from_cluster}
+use Rattle.checkpoint_laws.specs.remaining.Left.{is_from_cluster}
 use Rattle.cluster_core.specs.View.{ClusterView, after_head}
 
 pub by_unlost : (P : What → Type 0) → ((at : ℕ) (letter : Letter) → P (Mail at letter)) → ((parent : Pid) (at : ℕ) (child : Pid) (end : ℕ) → P (Birth parent at child end)) → ((pid : Pid) (at : ℕ) (end : End) → P (Exit pid at end)) → ((pid : Pid) (index : ℕ) → P (Fetch pid index)) → ((pid : Pid) (index : ℕ) (bytes : List ℕ) → P (PageIs pid index bytes))

@@ -59,11 +59,11 @@ use Rattle.bus_order.specs.View.{BusView}
 use Rattle.cluster_run.specs.Disks.{HasFailed}
 use Rattle.cluster_run.specs.Gone.{IsGone, StoodAs, StoodBeside, StoodBetween}
 use Rattle.cluster_run.specs.Along.{AllAlong, IsMember, IsOwned, IsSound}
-use Rattle.record_laws.proofs.Standing.{built_stands}
-use Rattle.sync_left.specs.Left.{left_of_syncs, left_to_send, most_syncs}
-use Rattle.sync_left.specs.Load.{kernel_load, log_load}
-use Rattle.sync_left.proofs.Bounded.{syncs_within}
-use Rattle.sync_left.proofs.StepsLeft.{after_log}
+use Rattle.log_laws.proofs.records.Standing.{built_stands}
+use Rattle.checkpoint_laws.specs.remaining.Left.{left_of_syncs, left_to_send, most_syncs}
+use Rattle.checkpoint_laws.specs.remaining.Load.{kernel_load, log_load}
+use Rattle.checkpoint_laws.proofs.remaining.Bounded.{syncs_within}
+use Rattle.checkpoint_laws.proofs.remaining.StepsLeft.{after_log}
 use Rattle.cluster_run.specs.Progress.{Falls, IsOver, Remaining, remaining, total, unseen}
 use Rattle.cluster_run.proofs.Posting.{follows_some}
 use Rattle.cluster_run.proofs.Prefixes.{goes_on_before, legal_prefix}
@@ -71,15 +71,15 @@ use Rattle.cluster_run.proofs.PagesWithin.{few_placed, most_pages, pages_within,
 use Rattle.cluster_run.proofs.StepLosses.{gone_inside, same_sent}
 use Rattle.cluster_run.proofs.Together.{one_member}
 use Rattle.cluster_run.proofs.Unlost.{by_unlost, same_after}
-use Rattle.page_laws.specs.Left.{left_of_pages}
+use Rattle.log_laws.specs.pages.Left.{left_of_pages}
 use Rattle.sys_calls.proofs.TakeLaws.{taken_strikes}
 use Rattle.std.proofs.lemmas.Bool.{and_parts}
 use Rattle.plain_kernel.proofs.Entries.{some_same}
 use Rattle.cluster_core.specs.Syncing.{Synchronises}
 use Rattle.cluster_core.specs.Bearing.{BearsChild}
 use Rattle.cluster_core.proofs.BatchPosts.{batch_moves, batch_moves_other}
-use Rattle.batch_laws.specs.Underway.{posts_left}
-use Rattle.sync_laws.proofs.TakeLeaves.{takes_leave}
+use Rattle.checkpoint_laws.specs.batches.Underway.{posts_left}
+use Rattle.checkpoint_laws.proofs.posts.TakeLeaves.{takes_leave}
 use Rattle.bus_msg.specs.declared.entry.What.TheVariants.{Mail, Exit, Fetch, PageIs, Sync}
 
 -- ---- a process

@@ -2,7 +2,7 @@
 use Rattle.std.proofs.Common.{◌≡◌, ◌∷◌, [], ℕ, inl, inr, refl, arith}
 use Rattle.t32_base.specs.declared.process.Pid.{Pid}
 use Rattle.proc_state.specs.State.{root_state}
-use Rattle.sync_left.specs.Load.{kernel_load}
+use Rattle.checkpoint_laws.specs.remaining.Load.{kernel_load}
 use Rattle.cluster_run.specs.Progress.{Falls, IsAtMost, Remaining}
 
 abbrev left : ℕ → ℕ → ℕ → ℕ → Remaining

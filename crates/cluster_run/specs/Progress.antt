@@ -8,7 +8,7 @@ use Rattle.cert_sched.specs.Parts.{first_of}
 use Rattle.cert_sched.specs.Schedule.{placement}
 use Rattle.cert_sched.specs.Losses.{was_lost_in}
 use Rattle.cert_sched.specs.Rules.{is_over}
-use Rattle.sync_left.specs.Left.{left_to_send}
+use Rattle.checkpoint_laws.specs.remaining.Left.{left_to_send}
 use Rattle.cluster_core.specs.View.{ClusterView, load}
 use Rattle.bus_order.specs.View.{BusView, is_awaited, mark_in}
 

@@ -9,7 +9,7 @@ use Rattle.cert_sched.specs.Rules.{is_over}
 use Rattle.cert_sched.specs.Appended.{entry_of}
 use Rattle.cert_sched.specs.Legal.{IsLegalBy}
 use Rattle.cert_sched.specs.Built.{BuiltMayFollow}
-use Rattle.sync_left.specs.Left.{left_to_send}
+use Rattle.checkpoint_laws.specs.remaining.Left.{left_to_send}
 use Rattle.cluster_core.specs.View.{ClusterView, head_of}
 use Rattle.bus_order.specs.Script.{is_unpassed}
 use Rattle.bus_order.specs.View.{BusView}

@@ -16,10 +16,10 @@ use Rattle.cert_sched.proofs.ThereLaws.{unended_there}
 use Rattle.cert_sched.proofs.OpenLaws.{unended_open}
 use Rattle.cert_sched.proofs.RollLaws.{all_roll}
 use Rattle.page_server.specs.Account.{PagerState}
-use Rattle.page_laws.specs.Waited.{is_wait_for, is_waited}
-use Rattle.page_laws.proofs.BornSums.{itself}
-use Rattle.page_laws.proofs.StartPages.{kept_pages, waited_unended}
-use Rattle.page_laws.proofs.Waiting.{waited_lacks}
+use Rattle.log_laws.specs.pages.Waited.{is_wait_for, is_waited}
+use Rattle.log_laws.proofs.pages.BornSums.{itself}
+use Rattle.log_laws.proofs.pages.StartPages.{kept_pages, waited_unended}
+use Rattle.log_laws.proofs.pages.Waiting.{waited_lacks}
 use Rattle.page_accounts.specs.Answering.{IsKept, earliest}
 use Rattle.page_accounts.specs.Keeps.{KeepsAccounts}
 

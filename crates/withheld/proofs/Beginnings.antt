@@ -15,7 +15,7 @@ use Rattle.cert_sched.specs.Legal.{IsLegalBy, IsLegalFrom, Stands}
 use Rattle.cert_sched.proofs.FreshLaws.{numbered}
 use Rattle.cert_sched.proofs.LogLaws.{IsLegal-last, placement-snoc}
 use Rattle.cert_sched.proofs.NextChildren.{stands_next}
-use Rattle.record_laws.proofs.Standing.{itself}
+use Rattle.log_laws.proofs.records.Standing.{itself}
 use Rattle.withheld.specs.declared.walk.Walk.{Walk}
 use Rattle.withheld.specs.Counts.{count_after, count_since, withheld_at}
 use Rattle.withheld.specs.Walks.{HasWalked, WalksOver}

@@ -14,7 +14,7 @@ use Rattle.cert_sched.specs.Simulation.{IsUnended}
 use Rattle.cert_sched.proofs.OpenLaws.{unended_open}
 use Rattle.cert_sched.proofs.RollLaws.{all_roll}
 use Rattle.cert_sched.proofs.ThereLaws.{unended_there}
-use Rattle.record_laws.proofs.Standing.{itself}
+use Rattle.log_laws.proofs.records.Standing.{itself}
 use Rattle.withheld.specs.Counts.{count_since}
 
 -- a process that has not ended has a record, since it started somewhere

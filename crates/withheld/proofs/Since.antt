@@ -11,7 +11,7 @@ use Rattle.cert_sched.specs.Deeds.{deeds_in, is_birth_of, is_cut, since, starts}
 use Rattle.cert_sched.specs.Legal.{IsLegalBy, Stands}
 use Rattle.cert_sched.proofs.Induction.{legal_induction}
 use Rattle.cert_sched.proofs.RecordLaws.{since-snoc}
-use Rattle.record_laws.proofs.OneRecord.{letter_out}
+use Rattle.log_laws.proofs.records.OneRecord.{letter_out}
 use Rattle.withheld.specs.Counts.{count_after, count_since, deeds_told, total_in}
 use Rattle.withheld.proofs.DeedTotals.{total_more}
 

@@ -5,7 +5,7 @@ use Rattle.t32_base.specs.declared.letter.BackRec.{BackRec}
 use Rattle.proc_state.specs.State.{ProcState}
 use Rattle.plain_kernel.specs.Maps.{pid_of}
 use Rattle.backup_records.specs.Records.{with_record}
-use Rattle.record_laws.specs.Kept.{record_at_boot}
+use Rattle.log_laws.specs.records.Kept.{record_at_boot}
 use Rattle.cluster_core.specs.Booting.{AreFirstRecords}
 use Rattle.cluster_core.proofs.FirstRecords.{more_recorded, none_recorded, seen, seen_last}
 use Rattle.cluster_core.proofs.booting.first_records.Goals as goal

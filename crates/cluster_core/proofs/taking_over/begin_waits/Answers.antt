@@ -3,7 +3,7 @@ use Rattle.std.specs.List.{list_any}
 use Rattle.t32_base.specs.declared.process.Pid.{Pid}
 use Rattle.bus_msg.specs.Places.{same_pid}
 use Rattle.backup_records.specs.Records.{are_rising}
-use Rattle.wait_laws.specs.Waits.{first_wait}
+use Rattle.replay_laws.specs.pages.Waits.{first_wait}
 use Rattle.cluster_core.specs.Residents.{with_more}
 use Rattle.cluster_core.specs.Recovered.{CanWait, with_all_waiting}
 use Rattle.cluster_core.specs.View.{Held, Waits}

@@ -8,7 +8,7 @@ use Rattle.bus_msg.specs.declared.entry.Post.{Post}
 use Rattle.cert_sched.specs.Built.{is_unlost}
 use Rattle.cert_sched.specs.Losses.{is_from}
 use Rattle.cert_sched.specs.Schedule.{places_at_boot}
-use Rattle.record_laws.specs.Kept.{KeepsRecords}
+use Rattle.log_laws.specs.records.Kept.{KeepsRecords}
 use Rattle.cluster_core.specs.View.{ClusterView, Held, limits_of}
 use Rattle.cluster_core.specs.Booting.{AreBooted}
 use Rattle.cluster_core.specs.Follows.{FollowsBuilt}

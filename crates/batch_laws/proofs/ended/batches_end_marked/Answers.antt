@@ -1,8 +1,0 @@
-use Rattle.batch_laws.proofs.RestMarks.{rest_marks, last_cuts}
-use Rattle.batch_laws.proofs.ended.batches_end_marked.Goals as goal
-
-pub returns-clause-marked : goal.returns-clause-marked
-returns-clause-marked c = rest_marks
-
-pub returns-clause-cuts : goal.returns-clause-cuts
-returns-clause-cuts c = last_cuts

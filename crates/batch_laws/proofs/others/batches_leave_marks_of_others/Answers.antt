@@ -1,8 +1,0 @@
-use Rattle.batch_laws.proofs.BatchAndOthers.{page_beside, sync_beside}
-use Rattle.batch_laws.proofs.others.batches_leave_marks_of_others.Goals as goal
-
-pub returns-clause-pages : goal.returns-clause-pages
-returns-clause-pages c = page_beside
-
-pub returns-clause-sync : goal.returns-clause-sync
-returns-clause-sync c = sync_beside

@@ -1,0 +1,89 @@
+-- The marks of a process that was just synchronised.
+use Rattle.std.proofs.Common.{◌≡◌, ℕ, zero, suc, ◌≤◌, refl, sym, ◌∙◌, ap, subst, arith, List, [], ◌∷◌, ◌++◌, length, map, Bool, true, false, cond, not, eqb, slice_get, Option, true≢false}
+use Rattle.std.specs.Prelude.{filter, replicate, nat_lt}
+use Rattle.std.specs.List.{list_any}
+use Rattle.std.specs.Option.{option_map_or}
+use Rattle.t32_base.specs.declared.process.Pid.{Pid}
+use Rattle.t32_base.specs.declared.letter.Arrived.{Arrived}
+use Rattle.t32_base.specs.Account.{Account, page_in}
+use Rattle.sys_text.specs.declared.system.System.{System}
+use Rattle.sys_text.specs.Valid.{is_system}
+use Rattle.proc_state.specs.declared.process.Process.{Process}
+use Rattle.proc_state.specs.State.{ProcState, state_of}
+use Rattle.bus_msg.specs.declared.entry.Entry.{Entry}
+use Rattle.sync_point.specs.Batch.{cut_of, synced}
+use Rattle.sync_point.proofs.Cuts.{cut_keeps}
+use Rattle.cert_sched.specs.Parts.{rising}
+use Rattle.cert_sched.specs.Account.{account_after, all_pages}
+use Rattle.cert_sched.specs.Steps.{numbers_read}
+use Rattle.cert_sched.proofs.ReadLaws.{reads_none}
+use Rattle.checkpoint_laws.proofs.posts.WholePages.{page_found}
+use Rattle.log_laws.proofs.pages.SizesStay.{process_sized}
+use Rattle.checkpoint_laws.specs.posts.Cut.{CutsAt}
+use Rattle.checkpoint_laws.specs.posts.Marked.{IsMarked, arrived_below}
+use Rattle.checkpoint_laws.proofs.posts.CutEntry.{cut_process, cut_start, cut_saved, cut_account}
+
+-- ---- the letters read
+
+-- of fewer letters fewer were read
+fewer_read : (next : ℕ) (saved mail : List Arrived) → length (numbers_read (arrived_below next saved) mail) ≤ length (numbers_read saved mail)
+fewer_read next [] mail = omega arith
+fewer_read next (a ∷ saved) mail = by_tests (nat_lt a.number next) (not (list_any (λ (b : Arrived). eqb b.number a.number) mail)) refl (fewer_read next saved mail)
+  where
+    test : Arrived → Bool
+    test a = not (list_any (λ (b : Arrived). eqb b.number a.number) mail)
+
+    number : Arrived → ℕ
+    number a = a.number
+
+    by_tests : (x y : Bool) → test a ≡ y → length (numbers_read (arrived_below next saved) mail) ≤ length (numbers_read saved mail)
+        → length (numbers_read (cond x (a ∷ arrived_below next saved) (arrived_below next saved)) mail) ≤ length (map number (cond y (a ∷ filter test saved) (filter test saved)))
+    by_tests true true passes less = rw (passes) (omega (arith, less))
+    by_tests true false passes less = rw (passes) less
+    by_tests false true passes less = omega (arith, less)
+    by_tests false false passes less = less
+
+none_left : (xs : List ℕ) → length xs ≤ 0 → xs ≡ []
+none_left [] few = refl
+none_left (x ∷ xs) few = absurd (omega (arith, few))
+
+-- of the letters of the mailbox none was read
+none_of_mail : (next : ℕ) (mail : List Arrived) → numbers_read (arrived_below next mail) mail ≡ []
+none_of_mail next mail =
+    let few = fewer_read next mail mail in
+    let none = reads_none mail in
+    none_left (numbers_read (arrived_below next mail) mail) (omega (arith, few, none))
+
+-- ---- the marks
+
+no_mark : (n i : ℕ) → option_map_or (λ (b : Bool). b) (slice_get (replicate n false) i) false ≡ false
+no_mark zero i = refl
+no_mark (suc n) zero = refl
+no_mark (suc n) (suc i) = no_mark n i
+
+-- where none of so many marks is set, no page is marked
+unmarked : (marks : List Bool) (n i : ℕ) → marks ≡ replicate n false → option_map_or (λ (b : Bool). b) (slice_get marks i) false ≡ false
+unmarked marks n i none = ap (λ marks. option_map_or (λ (b : Bool). b) (slice_get marks i) false) none ∙ no_mark n i
+
+-- a process as the cut left it, without a mark and with no letter read since, is marked as the log says
+pub cut_marks : (system : System) (log : List Entry) (e : Entry) (p : Pid) (process : Process) (n : ℕ) → is_system system ≡ true → CutsAt system log e p (state_of process) → process.read ≡ [] → process.since ≡ (process.small).steps
+    → (process.ram).dirty ≡ replicate n false → (account_after system log p).now ≡ all_pages (process.ram).bytes → IsMarked system (log ++ e ∷ []) p process
+cut_marks system log e p process n valid cut no_read since none account =
+    let s : ProcState = state_of process in
+    let sized = process_sized system (log ++ e ∷ []) p s valid (cut_process system log e p s cut) in
+    record {
+      since_start = since ∙ sym (ap (λ (o : Option ProcState). option_map_or (λ (s : ProcState). (s.small).steps) o 0) (cut_start system log e p s cut));
+      read = ap rising no_read ∙ sym (ap (λ saved. numbers_read (arrived_below (process.mail).next saved) (process.mail).letters) (cut_saved system log e p s cut) ∙ none_of_mail (process.mail).next (process.mail).letters);
+      clean = λ i within other.
+          ap (λ (a : Account). page_in a.now i) (cut_account system log e p s cut) ∙ ap (λ pages. page_in pages i) account
+          ∙ page_found (process.ram).bytes (process.small).pages i sized within;
+      unsent = λ i within marked. absurd (true≢false (sym marked ∙ unmarked (process.ram).dirty n i none));
+    }
+
+-- so is the process that was synchronised
+pub synced_marks : (system : System) (log : List Entry) (e : Entry) (p : Pid) (process : Process) → is_system system ≡ true → CutsAt system log e p (state_of (cut_of process)) → (account_after system log p).now ≡ all_pages (process.ram).bytes
+    → IsMarked system (log ++ e ∷ []) p (synced process)
+synced_marks system log e p process valid cut account =
+    let kept = cut_keeps process in
+    let same : state_of (cut_of process) ≡ state_of (synced process) = λ i. record (state_of (cut_of process)) { memory = ((kept.ram) i).bytes } in
+    cut_marks system log e p (synced process) (length (process.ram).dirty) valid (subst (CutsAt system log e p) same cut) refl (sym kept.steps) refl account

@@ -1,0 +1,5 @@
+pub mod posts
+pub mod marks
+pub mod batches
+pub mod limits
+pub mod remaining

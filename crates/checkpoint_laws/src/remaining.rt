@@ -1,0 +1,2 @@
+//! How many posts clusters may still send, where processes synchronise.
+pub mod left;

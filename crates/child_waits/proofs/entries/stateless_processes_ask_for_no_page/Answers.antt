@@ -1,8 +1,0 @@
-use Rattle.child_waits.proofs.Pageless.{none_asked, none_comes}
-use Rattle.child_waits.proofs.entries.stateless_processes_ask_for_no_page.Goals as goal
-
-pub returns-clause-asks : goal.returns-clause-asks
-returns-clause-asks c = none_asked
-
-pub returns-clause-comes : goal.returns-clause-comes
-returns-clause-comes c = none_comes

@@ -1,5 +1,0 @@
-//! What a log says of a child without a state in its record, which waits until its parent comes to its fork again: laws and no code.
-#![tactic(auto)]
-
-pub mod entries;
-pub mod parents;

@@ -1,8 +1,0 @@
-use Rattle.limit_laws.proofs.ForkLimits.{birth_keeps, fork_within}
-use Rattle.limit_laws.proofs.forks.forks_stay_within.Goals as goal
-
-pub returns-clause-within : goal.returns-clause-within
-returns-clause-within c = fork_within
-
-pub returns-clause-birth : goal.returns-clause-birth
-returns-clause-birth c = birth_keeps

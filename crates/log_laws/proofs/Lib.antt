@@ -1,0 +1,4 @@
+pub mod births
+pub mod letters
+pub mod pages
+pub mod records

@@ -1,0 +1,3 @@
+//! What the log says of the letters that a process has read.
+pub mod mailbox;
+pub mod reads;

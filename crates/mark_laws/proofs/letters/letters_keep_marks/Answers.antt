@@ -1,8 +1,0 @@
-use Rattle.mark_laws.proofs.LetterMarks.{letter_kept, letter_before}
-use Rattle.mark_laws.proofs.letters.letters_keep_marks.Goals as goal
-
-pub returns-clause-kept : goal.returns-clause-kept
-returns-clause-kept c = letter_kept
-
-pub returns-clause-before : goal.returns-clause-before
-returns-clause-before c = letter_before

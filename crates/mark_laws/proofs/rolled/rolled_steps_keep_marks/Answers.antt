@@ -1,8 +1,0 @@
-use Rattle.mark_laws.proofs.RolledMarks.{rolled_marked, rolled_sent}
-use Rattle.mark_laws.proofs.rolled.rolled_steps_keep_marks.Goals as goal
-
-pub returns-clause-marked : goal.returns-clause-marked
-returns-clause-marked c = rolled_marked
-
-pub returns-clause-sent : goal.returns-clause-sent
-returns-clause-sent c = rolled_sent

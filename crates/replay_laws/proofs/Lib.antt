@@ -1,0 +1,4 @@
+pub mod rolling
+pub mod costs
+pub mod pages
+pub mod forks

@@ -1,0 +1,3 @@
+pub mod rolling
+pub mod pages
+pub mod forks

@@ -1,6 +1,0 @@
-//! What a log says of a process that waits for its pages: laws and no code.
-#![tactic(auto)]
-
-pub mod entries;
-pub mod goes_on;
-pub mod lacks;
