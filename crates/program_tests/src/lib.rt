@@ -1,12 +1,15 @@
-//! Tests of the program as a whole: which words it takes, what it tells of its input and its output, which run it hands out,
-//! that the clusters of a run run beside each other, and that a run ends where a thread cannot be started.
+//! Tests of the program as a whole, and of runs of clusters, in turns and on threads, with losses.
 #![tactic(auto)]
 
 #[cfg(test)]
-mod beside;
+mod bus_refusals;
 #[cfg(test)]
-mod handed;
+mod losses;
+#[cfg(test)]
+mod plain;
 #[cfg(test)]
 mod program;
 #[cfg(test)]
-mod unstarted;
+mod sim;
+#[cfg(test)]
+mod threads;

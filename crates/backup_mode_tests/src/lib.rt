@@ -1,7 +1,0 @@
-//! Tests of who gets a new backup and where, and of the posts by which a process gets it. The expected values were worked by hand.
-#![tactic(auto)]
-
-#[cfg(test)]
-mod choices;
-#[cfg(test)]
-mod posts;

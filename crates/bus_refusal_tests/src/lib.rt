@@ -1,5 +1,0 @@
-//! Tests of what the bus refuses.
-#![tactic(auto)]
-
-#[cfg(test)]
-mod refusals;

@@ -1,0 +1,3 @@
+//! Tests of a cluster at its start.
+#[cfg(test)]
+mod disks;

@@ -1,0 +1,7 @@
+//! Tests of the entries of a log: their lines and their copies. The expected values come from the tables of the formats.
+#[cfg(test)]
+mod copies;
+#[cfg(test)]
+mod entries;
+#[cfg(test)]
+mod lines;

@@ -1,9 +1,0 @@
-//! Tests of the entries of a log: their lines and their copies. The expected values come from the tables of the formats.
-#![tactic(auto)]
-
-#[cfg(test)]
-mod copies;
-#[cfg(test)]
-mod entries;
-#[cfg(test)]
-mod lines;

@@ -1,0 +1,3 @@
+//! Tests of the accounts of a page server beside a log.
+#[cfg(test)]
+mod accounts;

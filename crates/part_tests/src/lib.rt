@@ -1,7 +1,0 @@
-//! Tests of the parts of texts, and of what is said of a line that is refused.
-#![tactic(auto)]
-
-#[cfg(test)]
-mod refusals;
-#[cfg(test)]
-mod texts;

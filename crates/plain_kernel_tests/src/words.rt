@@ -1,0 +1,3 @@
+//! Tests of the words of the program: which are a command, with which options and which script.
+#[cfg(test)]
+mod words;

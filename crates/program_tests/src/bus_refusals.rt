@@ -1,0 +1,3 @@
+//! Tests of what the bus refuses.
+#[cfg(test)]
+mod refusals;

@@ -1,5 +1,0 @@
-//! Tests of the records of a cluster, with what entries make of them. The expected values were worked by hand.
-#![tactic(auto)]
-
-#[cfg(test)]
-mod records;

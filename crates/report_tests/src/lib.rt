@@ -1,5 +1,0 @@
-//! Tests of what is printed of a run and of its log. The expected values come from the worked examples of the formats.
-#![tactic(auto)]
-
-#[cfg(test)]
-mod reports;

@@ -1,7 +1,0 @@
-//! Tests of schedules: of a log, and as a text. The expected values come from the worked examples of the formats.
-#![tactic(auto)]
-
-#[cfg(test)]
-mod logs;
-#[cfg(test)]
-mod texts;

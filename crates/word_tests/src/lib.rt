@@ -1,5 +1,0 @@
-//! Tests of the words of the program: which are a command, with which options and which script.
-#![tactic(auto)]
-
-#[cfg(test)]
-mod words;
