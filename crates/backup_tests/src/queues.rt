@@ -1,7 +1,5 @@
 //! Tests of what a backup keeps. The expected values were worked by hand.
 #[cfg(test)]
-mod beginning;
-#[cfg(test)]
 mod queues;
 #[cfg(test)]
 mod records;

@@ -27,7 +27,7 @@ use Rattle.log_laws.proofs.pages.MovedStated.{moved_stated}
 use Rattle.log_laws.specs.births.Unsynced.{unsynced_births}
 use Rattle.log_laws.proofs.births.Filters.{any_kept, kept_passes, one_passes, passes_any}
 use Rattle.log_laws.proofs.births.UnsyncedChild.{stateless}
-use Rattle.recovery.specs.Begun.{begun}
+use Rattle.page_waits.specs.Begun.{begun}
 use Rattle.roll_forward.specs.RunsOut.{nothing_left}
 use Rattle.page_waits.specs.Waiting.{WaitingState, is_whole, start_of, with_page}
 use Rattle.replay_laws.proofs.forks.EitherWait.{kept_so, page_for}

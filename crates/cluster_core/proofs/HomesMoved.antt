@@ -19,7 +19,7 @@ use Rattle.cert_sched.proofs.PidLaws.{placed_pids}
 use Rattle.cert_sched.proofs.RisingLaws.{NoTwo, either_not, put_all, put_all-put, put_rising-swap, rising-any}
 use Rattle.backup_records.specs.Records.{are_rising, record_in}
 use Rattle.log_laws.proofs.records.RisingRecords.{rising_same}
-use Rattle.recovery.specs.Begun.{number_of}
+use Rattle.page_waits.specs.Begun.{number_of}
 use Rattle.cluster_core.proofs.Homes.{home_more, pids_home}
 
 -- ---- one process

@@ -41,7 +41,7 @@ use Rattle.log_laws.proofs.records.LossLaws.{loss_kept}
 use Rattle.log_laws.proofs.records.Standing.{built_stands}
 use Rattle.t32_base.specs.Small.{SmallState}
 use Rattle.page_waits.specs.Waiting.{page_count}
-use Rattle.recovery.specs.Begun.{number_of}
+use Rattle.page_waits.specs.Begun.{number_of}
 use Rattle.replay_laws.specs.rolling.Behind.{RollsBehind}
 use Rattle.replay_laws.proofs.rolling.FromStart.{record_stated}
 use Rattle.replay_laws.proofs.rolling.KeepingBehind.{behind_standing}

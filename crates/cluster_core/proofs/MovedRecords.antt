@@ -8,7 +8,7 @@ use Rattle.t32_base.specs.declared.process.Pid.{Pid}
 use Rattle.t32_base.specs.declared.letter.BackRec.{BackRec}
 use Rattle.bus_msg.specs.Places.{same_pid}
 use Rattle.backup_records.specs.Records.{are_rising, record_in}
-use Rattle.recovery.specs.Begun.{number_of}
+use Rattle.page_waits.specs.Begun.{number_of}
 use Rattle.cluster_core.proofs.Here.{pid_same, same_itself}
 
 -- the record that is found of a process has its pid

@@ -31,7 +31,7 @@ use Rattle.cluster_core.proofs.ByKind.{by_kind}
 use Rattle.t32_base.specs.Small.{SmallState}
 use Rattle.page_waits.specs.Waiting.{WaitingState, is_whole, start_of, with_page}
 use Rattle.cluster_core.specs.Work.{any_waits}
-use Rattle.recovery.specs.Begun.{begun}
+use Rattle.page_waits.specs.Begun.{begun}
 use Rattle.cert_sched.proofs.RisingLaws.{either_not}
 use Rattle.roll_forward.specs.RunsOut.{nothing_left}
 use Rattle.std.specs.Option.{IfSome, option_map_or}

@@ -73,7 +73,7 @@ use Rattle.cert_sched.specs.Account.{is_exit_of}
 use Rattle.cluster_core.proofs.Marking.{marked_after, page_leaves, queue_tells}
 use Rattle.quanta.specs.declared.limits.Limits.{Limits}
 use Rattle.t32_base.specs.Small.{SmallState}
-use Rattle.recovery.specs.Begun.{begun}
+use Rattle.page_waits.specs.Begun.{begun}
 use Rattle.roll_forward.specs.RunsOut.{nothing_left}
 use Rattle.std.specs.Option.{option_map_or}
 use Rattle.cluster_core.proofs.Within.{start_within}

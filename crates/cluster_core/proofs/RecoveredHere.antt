@@ -7,7 +7,7 @@ use Rattle.t32_base.specs.declared.letter.BackRec.{BackRec}
 use Rattle.bus_msg.specs.Places.{same_pid}
 use Rattle.cert_sched.specs.Parts.{put_rising, rising}
 use Rattle.cert_sched.proofs.RisingLaws.{put_all, put_all-put, put_rising-swap}
-use Rattle.recovery.specs.Begun.{number_of}
+use Rattle.page_waits.specs.Begun.{number_of}
 use Rattle.replay_laws.specs.pages.Waits.{first_wait}
 use Rattle.cluster_core.specs.View.{Held, Waits, held_of}
 use Rattle.cluster_core.specs.Residents.{pids_in, with_more}

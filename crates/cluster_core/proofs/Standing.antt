@@ -20,7 +20,7 @@ use Rattle.roll_forward.specs.Advancing.{Going, going_of, gone_on, rolled_on}
 use Rattle.roll_forward.proofs.AheadLaws.{runs_out_ahead}
 use Rattle.roll_forward.proofs.Delivering.{RunsOut-delivered}
 use Rattle.plain_kernel.proofs.Entries.{some_same}
-use Rattle.recovery.specs.Begun.{begun}
+use Rattle.page_waits.specs.Begun.{begun}
 use Rattle.page_waits.specs.Waiting.{WaitingState, CanGoOn, rolling_of, start_of}
 use Rattle.cluster_core.specs.declared.resident.Standing.TheVariants.{Runs as IsRunning, Rolls as IsRolling}
 use Rattle.cluster_core.specs.View.{Rolls}

@@ -10,7 +10,7 @@ use Rattle.rv_mem.specs.Memory.{Memory}
 use Rattle.proc_state.specs.State.{ProcState, state_of}
 use Rattle.roll_forward.specs.RunsOut.{RunsOut}
 use Rattle.roll_forward.specs.Rolling.{CanRoll, RollingState, ahead_of, all_left, started}
-use Rattle.recovery.specs.Begun.{begun}
+use Rattle.page_waits.specs.Begun.{begun}
 use Rattle.page_waits.specs.Pages.{memory_of}
 use Rattle.page_waits.specs.Waiting.{WaitingState, CanGoOn, page_count, rolling_of, start_of}
 use Rattle.page_waits.proofs.OneEnd.{ahead_is}

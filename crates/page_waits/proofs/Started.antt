@@ -5,7 +5,7 @@ use Rattle.std.specs.Option.{IsSomeAnd}
 use Rattle.t32_base.specs.Small.{SmallState}
 use Rattle.proc_state.specs.State.{ProcState}
 use Rattle.roll_forward.specs.Rolling.{CanRoll}
-use Rattle.recovery.specs.Begun.{begun, BeginsFrom}
+use Rattle.page_waits.specs.Begun.{begun, BeginsFrom}
 use Rattle.page_waits.specs.Pages.{AreAllPages}
 use Rattle.page_waits.specs.Waiting.{WaitingState, CanGoOn, rolling_of, start_of}
 use Rattle.page_waits.proofs.AllPages.{all_memory}

@@ -1,3 +1,4 @@
+pub mod Begun
 pub mod Waiting
 pub mod Pages
 pub mod Kept

@@ -6,7 +6,7 @@ use Rattle.t32_base.specs.declared.letter.BackRec.{BackRec}
 use Rattle.t32_base.specs.Small.{SmallState}
 use Rattle.proc_state.specs.State.{ProcState}
 use Rattle.roll_forward.specs.Rolling.{CanRoll, RollingState}
-use Rattle.recovery.specs.Begun.{begun}
+use Rattle.page_waits.specs.Begun.{begun}
 use Rattle.page_waits.specs.Pages.{memory_of}
 
 -- its record, with the letters that were saved; how many of its pages were asked for, the lowest first; and each page by its index, where it has come

@@ -2,7 +2,7 @@
 ghost use Rattle.std.specs.Prelude.{ℕ, ◌≡◌, ◌≢◌, ◌<◌, true, List, Option, Some, is_some, length, slice_get};
 ghost use Rattle.std.specs.List.{list_all};
 ghost use Rattle.proc_state.specs.State.{ProcState};
-ghost use Rattle.recovery.specs.Begun.{begun, BeginsFrom};
+ghost use Rattle.page_waits.specs.Begun.{begun, BeginsFrom};
 ghost use Rattle.page_waits.specs.Pages.{memory_of, AreAllPages};
 ghost use Rattle.page_waits.specs.Waiting.{rolling_of, with_page, CanGoOn, WaitingState};
 

@@ -7,7 +7,7 @@ use Rattle.sys_text.specs.declared.system.System.{System}
 use Rattle.sys_text.specs.Valid.{is_system}
 use Rattle.rv_mem.specs.Memory.{page_at}
 use Rattle.proc_state.specs.State.{ProcState}
-use Rattle.recovery.specs.Begun.{begun}
+use Rattle.page_waits.specs.Begun.{begun}
 use Rattle.bus_msg.specs.declared.entry.What.TheVariants.{PageIs}
 use Rattle.bus_msg.specs.declared.entry.Entry.{Entry}
 use Rattle.bus_msg.specs.PlacedAfter.{what}

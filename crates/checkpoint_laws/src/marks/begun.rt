@@ -5,7 +5,7 @@ ghost use Rattle.t32_base.specs.declared.letter.BackRec.{BackRec};
 ghost use Rattle.sys_text.specs.declared.system.System.{System};
 ghost use Rattle.sys_text.specs.Valid.{is_system};
 ghost use Rattle.proc_state.specs.State.{ProcState};
-ghost use Rattle.recovery.specs.Begun.{begun};
+ghost use Rattle.page_waits.specs.Begun.{begun};
 ghost use Rattle.bus_msg.specs.declared.entry.What.TheVariants.{PageIs};
 ghost use Rattle.bus_msg.specs.declared.entry.Entry.{Entry};
 ghost use Rattle.bus_msg.specs.PlacedAfter.{what};

@@ -4,7 +4,7 @@ use Rattle.t32_base.specs.declared.process.Pid.{Pid}
 use Rattle.sys_text.specs.declared.system.System.{System}
 use Rattle.sys_text.specs.Valid.{is_system}
 use Rattle.roll_forward.specs.Rolling.{with_saved}
-use Rattle.recovery.specs.Begun.{begun, BeginsFrom}
+use Rattle.page_waits.specs.Begun.{begun, BeginsFrom}
 use Rattle.bus_msg.specs.declared.entry.Entry.{Entry}
 use Rattle.cert_sched.specs.Record.{has_state}
 use Rattle.cert_sched.specs.Built.{BuiltMayFollow}

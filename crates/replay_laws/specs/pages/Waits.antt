@@ -4,7 +4,7 @@ use Rattle.t32_base.specs.declared.process.Pid.{Pid}
 use Rattle.t32_base.specs.declared.letter.BackRec.{BackRec}
 use Rattle.sys_text.specs.declared.system.System.{System}
 use Rattle.proc_state.specs.State.{ProcState, state_of}
-use Rattle.recovery.specs.Begun.{begun}
+use Rattle.page_waits.specs.Begun.{begun}
 use Rattle.bus_msg.specs.declared.entry.Entry.{Entry}
 use Rattle.roll_forward.specs.Rolling.{RollingState}
 use Rattle.cert_sched.specs.Deeds.{start_of}

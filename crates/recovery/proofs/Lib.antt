@@ -1,4 +1,0 @@
-mod BootSizes
-mod Found
-mod OneEnd
-pub mod Waiting
