@@ -8,6 +8,7 @@ pub mod Raises
 pub mod Gives
 pub mod Opens
 pub mod Splits
+pub mod Joins
 pub mod Closes
 pub mod Fresh
 mod Examples

@@ -61,6 +61,18 @@ within_more [] ys zs h = within_after ys zs
 within_more (x ∷ xs) [] zs h = absurd h
 within_more (x ∷ xs) (y ∷ ys) zs h = ⊎_elim (λ t. inl (t.0, within_more xs ys zs t.1)) (λ t. inr (within_more (x ∷ xs) ys zs t)) h
 
+pub holds_left : (k : ℕ) (xs ys : List ℕ) → Holds k xs → Holds k (xs ++ ys)
+holds_left k [] ys h = absurd h
+holds_left k (x ∷ xs) ys h = ⊎_elim (λ t. inl t) (λ t. inr (holds_left k xs ys t)) h
+
+pub holds_right : (k : ℕ) (xs ys : List ℕ) → Holds k ys → Holds k (xs ++ ys)
+holds_right k [] ys h = h
+holds_right k (x ∷ xs) ys h = inr (holds_right k xs ys h)
+
+pub holds_either : (k : ℕ) (xs ys : List ℕ) → Holds k (xs ++ ys) → Holds k xs ⊎ Holds k ys
+holds_either k [] ys h = inr h
+holds_either k (x ∷ xs) ys h = ⊎_elim (λ t. inl (inl t)) (λ t. ⊎_elim (λ u. inl (inr u)) (λ u. inr u) (holds_either k xs ys t)) h
+
 pub numbers_within : (k a n : ℕ) → Holds k (numbers_from a n) → (a ≤ k) × (k < a + n)
 numbers_within k a zero h = absurd h
 numbers_within k a (suc n) h = ⊎_elim (λ t. (omega arith, omega arith)) (λ t. let r = numbers_within k (suc a) n t in (omega arith, omega arith)) h
