@@ -1,4 +1,0 @@
-pub mod births
-pub mod letters
-pub mod pages
-pub mod records

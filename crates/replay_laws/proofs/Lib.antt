@@ -1,4 +1,0 @@
-pub mod rolling
-pub mod costs
-pub mod pages
-pub mod forks
