@@ -1,5 +1,5 @@
 //! A process that has changed its second page and has a letter to read, and a family that was moved.
-ghost use Rattle.std.specs.Prelude.{◌≡◌, IfOk};
+ghost use Rattle.std.specs.Prelude.{◌≡◌, IfOk, is_some, true};
 ghost use Rattle.backup_mode.specs.Renewal.{AreInOrder};
 
 use backup_mode::posts::{fresh, standing};
@@ -128,17 +128,26 @@ fn it_sends_its_changed_page_once_and_keeps_its_letter(rt: HostRuntime) -> Resul
     )
 }
 
+// The records of a process, which has a state, and of its child.
+#[tactic(auto, using(crate::proofs::Family::two))]
+fn in_order(alloc: Global, first: BackRec, child: BackRec) -> Result<List<BackRec>, NoMemory>
+    requires { is_some first.state ≡ true }
+    ensures { IfOk result AreInOrder }
+{
+    let mut recs = List::new(alloc);
+    recs.push(first)?;
+    recs.push(child)?;
+    Ok(recs)
+}
+
 // The records of process 16, and of its child 32, which never synchronised.
 fn family(alloc: Global) -> Result<List<BackRec>, NoMemory>
     ensures { IfOk result AreInOrder }
 {
     let Process { small, .. } = begun(alloc)?;
-    let first = Record::new(alloc, Pid(16), Some(small));
-    let child = Record::new(alloc, Pid(32), None);
-    let mut recs = List::new(alloc);
-    recs.push(first.told()?)?;
-    recs.push(child.told()?)?;
-    Ok(recs)
+    let first = Record::new(alloc, Pid(16), Some(small)).told()?;
+    let child = Record::new(alloc, Pid(32), None).told()?;
+    in_order(alloc, first, child)
 }
 
 fn handed_on(alloc: Global) -> Result<(By, Shown), NoMemory> {
