@@ -188,17 +188,7 @@ module _ (system : System) (log : List Entry) (e : Entry) (stands : Stands syste
       subst (λ (c : Pair). (mode_at after c.0 ≡ mode_at after c.1)
       × WaitsWith system (log ++ e ∷ []) c) (sym same) (new_modes parent at child end is right, inl (new_waits parent at child end is right))
   by_kind (Birth parent at child end) is b (inr (inr none)) h t = absurd none
-  by_kind (Mail at letter) is b (inr m) h t = absurd m
-  by_kind (Exit q at end) is b (inr m) h t = absurd m
-  by_kind (Page q at index bytes) is b (inr m) h t = absurd m
-  by_kind (Sync q small read took) is b (inr m) h t = absurd m
-  by_kind (Fetch q index) is b (inr m) h t = absurd m
-  by_kind (PageIs q index bytes) is b (inr m) h t = absurd m
-  by_kind (Crash k cause) is b (inr m) h t = absurd m
-  by_kind (Return k) is b (inr m) h t = absurd m
-  by_kind (Rebackup to fresh recs) is b (inr m) h t = absurd m
-  by_kind (Done rests) is b (inr m) h t = absurd m
-  by_kind Stop is b (inr m) h t = absurd m
+  by_kind _ is b (inr m) h t = absurd m
 
   all_after : (b : Pair) → Member b (births_of (log ++ e ∷ [])) → is_unsynced after b.1 ≡ true → (mode_at after b.0 ≡ mode_at after b.1) × WaitsWith system (log ++ e ∷ []) b
   all_after b m h = by_kind (what e) refl b (member_either b (births_of log) (born (what e)) (subst (Member b) (births_more system log e stands before.all) m)) h (next.together b m h)

@@ -128,18 +128,12 @@ module _ (system : System) (log : List Entry) (e : Entry) (valid : is_system sys
       omega (arith, same, births, born_most child (placed_at here parent), few)
 
   by_kind : (w : What) → what e ≡ w → cluster_lost w ≡ None → left_of_backups system (log ++ e ∷ []) ≤ left_of_backups system log
-  by_kind (Mail at letter) is none = by_most (Mail at letter) is (omega arith)
   by_kind (Birth parent at child end) is none = birth_most parent at child end is
   by_kind (Exit r at end) is none = by_most (Exit r at end) is (mapped_most (after_exit r) (exit_keeps r) here.placed)
-  by_kind (Page r at index bytes) is none = by_most (Page r at index bytes) is (omega arith)
   by_kind (Sync r small read took) is none = by_most (Sync r small read took) is (mapped_most (after_sync r) (synced_keeps r) here.placed)
-  by_kind (Fetch r index) is none = by_most (Fetch r index) is (omega arith)
-  by_kind (PageIs r index bytes) is none = by_most (PageIs r index bytes) is (omega arith)
   by_kind (Crash k cause) is none = cc
-  by_kind (Return k) is none = by_most (Return k) is (omega arith)
   by_kind (Rebackup to fresh recs) is none = by_most (Rebackup to fresh recs) is (mapped_most (after_rebackup to fresh recs) (renewed_keeps to fresh recs) here.placed)
-  by_kind (Done rests) is none = by_most (Done rests) is (omega arith)
-  by_kind Stop is none = by_most Stop is (omega arith)
+  by_kind w is none = by_most w is (omega arith)
 
   -- a new backup names a process that lacks one
   fewer : (to : ClusterNo) (fresh : Bool) (r : BackRec) (rs : List BackRec) → what e ≡ Rebackup to fresh (r ∷ rs) → left_of_backups system (log ++ e ∷ []) < left_of_backups system log

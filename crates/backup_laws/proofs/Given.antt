@@ -178,7 +178,6 @@ module _ (system : System) (log : List Entry) (e : Entry) (stands : Stands syste
               ap (λ (x : Placed). x.backup) (sym one) ∙ moved_none lost r by_it
 
   by_kind : (w : What) → what e ≡ w → unended_at (placement system (log ++ e ∷ [])) p ≡ Some q → q.backup ≡ None
-  by_kind (Mail at letter) is found = by_same (Mail at letter) is refl refl found
   by_kind (Birth parent at child end) is found = by_child (same_pid child p) refl
     where
       by_child : (b : Bool) → same_pid child p ≡ b → q.backup ≡ None
@@ -195,7 +194,6 @@ module _ (system : System) (log : List Entry) (e : Entry) (stands : Stands syste
       by_pid : (b : Bool) → same_pid p r ≡ b → q.backup ≡ None
       by_pid true same = absurd (true≢false (sym (ap is_some (sym (places_are (Exit r at end) is) ∙ found)) ∙ ap is_some (exit_there here r p at end same)))
       by_pid false apart = by_same (Exit r at end) is refl (exit_elsewhere here r p at end apart) found
-  by_kind (Page r at index bytes) is found = by_same (Page r at index bytes) is refl refl found
   by_kind (Sync r small read took) is found =
       by_change (after_sync r) (places_are (Sync r small read took) is
       ∙ unended_map (after_sync r) (sync_keeps r) here (placed_after here (Sync r small read took)) refl p) found (none_lost (Sync r small read took) is refl) (sync_mode r)
@@ -204,10 +202,7 @@ module _ (system : System) (log : List Entry) (e : Entry) (stands : Stands syste
       kept : (b : Bool) (s : Placed) → (cond b (record s { synced = true }) s).backup ≡ s.backup
       kept true s = refl
       kept false s = refl
-  by_kind (Fetch r index) is found = by_same (Fetch r index) is refl refl found
-  by_kind (PageIs r index bytes) is found = by_same (PageIs r index bytes) is refl refl found
   by_kind (Crash lost cause) is found = by_loss lost cause is found
-  by_kind (Return k) is found = by_same (Return k) is refl refl found
   by_kind (Rebackup to fresh recs) is found =
       by_change (after_rebackup to fresh recs) (places_are (Rebackup to fresh recs) is
       ∙ unended_map (after_rebackup to fresh recs) (backup_keeps to fresh recs) here (placed_after here (Rebackup to fresh recs)) refl p) found
@@ -215,8 +210,7 @@ module _ (system : System) (log : List Entry) (e : Entry) (stands : Stands syste
       (λ s there unnamed had.
       let name : is_named recs s ≡ false = ap (λ x. list_any (λ (r : BackRec). same_pid r.pid x) recs) (unended_pid here p s there) ∙ sym (ap (names p) is) ∙ unnamed in
       ap (λ b. (cond b (record s { backup = Some to; synced = s.synced || fresh }) s).backup) name ∙ had)
-  by_kind (Done rests) is found = by_same (Done rests) is refl refl found
-  by_kind Stop is found = by_same Stop is refl refl found
+  by_kind w is found = by_same w is refl refl found
 
 none_legal : (system : System) → IsLegalBy Stands system []
 unfolding IsLegalBy

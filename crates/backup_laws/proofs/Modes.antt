@@ -59,23 +59,17 @@ backup_mode to fresh recs q = by_test (is_named recs q)
 
 -- a process that an entry neither bears nor ends keeps its mode
 pub mode_stays : (w : What) (places : Places) (p : Pid) → is_birth_of p w ≡ false → is_some (unended_at (placed_after places w) p) ≡ true → mode_at (placed_after places w) p ≡ mode_at places p
-mode_stays (Mail at letter) places p other there = refl
 mode_stays (Birth parent at child end) places p other there = ap (option_map (λ (q : Placed). q.mode)) (born_beside p child places (placed_at places parent) other)
 mode_stays (Exit r at end) places p other there = by_pid (same_pid p r) refl
   where
     by_pid : (b : Bool) → same_pid p r ≡ b → mode_at (placed_after places (Exit r at end)) p ≡ mode_at places p
     by_pid true same = absurd (true≢false (sym there ∙ ap is_some (exit_there places r p at end same)))
     by_pid false apart = ap (option_map (λ (q : Placed). q.mode)) (exit_elsewhere places r p at end apart)
-mode_stays (Page r at index bytes) places p other there = refl
 mode_stays (Sync r small read took) places p other there = mode_map (after_sync r) (sync_keeps r) (sync_mode r) places (placed_after places (Sync r small read took)) refl p
-mode_stays (Fetch r index) places p other there = refl
-mode_stays (PageIs r index bytes) places p other there = refl
 mode_stays (Crash k cause) places p other there = mode_map (after_loss k) (loss_keeps k) (loss_mode k) places (placed_after places (Crash k cause)) refl p
-mode_stays (Return k) places p other there = refl
 mode_stays (Rebackup to fresh recs) places p other there =
     mode_map (after_rebackup to fresh recs) (backup_keeps to fresh recs) (backup_mode to fresh recs) places (placed_after places (Rebackup to fresh recs)) refl p
-mode_stays (Done rests) places p other there = refl
-mode_stays Stop places p other there = refl
+mode_stays _ places p other there = refl
 
 -- ---- who is moved
 

@@ -168,15 +168,11 @@ module _ (system : System) (log : List Entry) (e : Entry) (stands : Stands syste
   backed_by : (w : What) → what e ≡ w → KindHolds system log e w → is_by_right here (e.post).by w ≡ true → AllBacked (placement system (log ++ e ∷ []))
   unfolding AllBacked placement BackedAt
   backed_by (Birth parent at child end) is kind right = birth_backed parent at child end is (born_rightly here (e.post).by parent child right kind.child_is)
-  backed_by (Mail at letter) is kind right = after_is (Mail at letter) is all.backed
   backed_by (Exit r at end) is kind right = after_is (Exit r at end) is (exit_backed r at end)
-  backed_by (Page q at index bytes) is kind right = after_is (Page q at index bytes) is all.backed
   backed_by (Sync r small read took) is kind right =
       after_is (Sync r small read took) is
       (by_map here (placed_after here (Sync r small read took)) (after_sync r) (sync_keeps r) refl
       (λ p q found. longer here here (λ b lives. lives) q (after_sync r q) (sync_home r q).1 (all.backed p q found)))
-  backed_by (Fetch q index) is kind right = after_is (Fetch q index) is all.backed
-  backed_by (PageIs q index bytes) is kind right = after_is (PageIs q index bytes) is all.backed
   backed_by (Crash k cause) is kind right =
       after_is (Crash k cause) is
       (by_map here (placed_after here (Crash k cause)) (after_loss k) (loss_keeps k) refl
@@ -189,8 +185,7 @@ module _ (system : System) (log : List Entry) (e : Entry) (stands : Stands syste
       after_is (Rebackup to fresh recs) is
       (by_map here (placed_after here (Rebackup to fresh recs)) (after_rebackup to fresh recs) (backup_keeps to fresh recs) refl
       (λ p q found. renewed_backed to fresh recs q (to_lives to fresh recs kind) (all.backed p q found)))
-  backed_by (Done rests) is kind right = after_is (Done rests) is all.backed
-  backed_by Stop is kind right = after_is Stop is all.backed
+  backed_by w is kind right = after_is w is all.backed
 
 -- ---- the start
 

@@ -190,41 +190,23 @@ module _ (lost : ClusterNo → Bool) where
     pub second : NeverLost (placement system log) (system.pager).1
 
   same_pager : (w : What) (places : Places) → (placed_after places w).pager ≡ places.pager
-  same_pager (Mail at letter) places = refl
   same_pager (Birth parent at child end) places = by_parent (placed_at places parent)
     where
       by_parent : (o : Option Placed) → (with_birth places child o).pager ≡ places.pager
       by_parent None = refl
       by_parent (Some q) = refl
-  same_pager (Exit pid at end) places = refl
-  same_pager (Page pid at index bytes) places = refl
-  same_pager (Sync pid small read took) places = refl
-  same_pager (Fetch pid index) places = refl
-  same_pager (PageIs pid index bytes) places = refl
-  same_pager (Crash k cause) places = refl
-  same_pager (Return k) places = refl
-  same_pager (Rebackup to fresh recs) places = refl
-  same_pager (Done rests) places = refl
-  same_pager Stop places = refl
+  same_pager _ places = refl
 
   never_kept : (w : What) (places : Places) (s : ClusterNo) → lost_word w ≡ true → NeverLost places s → NeverLost (placed_after places w) s
   unfolding NeverLost lost_word
-  never_kept (Mail at letter) places s by_word never safe = never safe
   never_kept (Birth parent at child end) places s by_word never safe = by_parent (placed_at places parent)
     where
       by_parent : (o : Option Placed) → never_lost (with_birth places child o) s ≡ true
       by_parent None = never safe
       by_parent (Some q) = kept_at (λ (c : ClusterPlace). not c.was_lost) raised_serial (λ c h. h) places.clusters (q.home).0 s.0 (never safe)
-  never_kept (Exit pid at end) places s by_word never safe = never safe
-  never_kept (Page pid at index bytes) places s by_word never safe = never safe
-  never_kept (Sync pid small read took) places s by_word never safe = never safe
-  never_kept (Fetch pid index) places s by_word never safe = never safe
-  never_kept (PageIs pid index bytes) places s by_word never safe = never safe
   never_kept (Crash k cause) places s by_word never safe = kept_apart (λ (c : ClusterPlace). not c.was_lost) lost_cluster places.clusters k.0 s.0 (apart_from s k safe by_word) (never safe)
   never_kept (Return k) places s by_word never safe = kept_at (λ (c : ClusterPlace). not c.was_lost) returned_cluster (λ c h. h) places.clusters k.0 s.0 (never safe)
-  never_kept (Rebackup to fresh recs) places s by_word never safe = never safe
-  never_kept (Done rests) places s by_word never safe = never safe
-  never_kept Stop places s by_word never safe = never safe
+  never_kept _ places s by_word never safe = never safe
 
   module _ (system : System) (log : List Entry) (e : Entry) (stands : Stands system log e) (all : AllIn system log) (by_word : lost_word (what e) ≡ true) where
     abbrev here : Places
@@ -264,15 +246,11 @@ module _ (lost : ClusterNo → Bool) where
     safe_by : (w : What) → what e ≡ w → KindHolds system log e w → is_by_right here (e.post).by w ≡ true → lost_word w ≡ true → AllSafe (placement system (log ++ e ∷ []))
     unfolding lost_word AllSafe placement SafeAt
     safe_by (Birth parent at child end) is kind right word = birth_safe parent at child end is (born_rightly here (e.post).by parent child right kind.child_is)
-    safe_by (Mail at letter) is kind right word = after_is (Mail at letter) is all.safe
     safe_by (Exit r at end) is kind right word = after_is (Exit r at end) is (exit_safe r at end)
-    safe_by (Page q at index bytes) is kind right word = after_is (Page q at index bytes) is all.safe
     safe_by (Sync r small read took) is kind right word =
         after_is (Sync r small read took) is
         (by_map here (placed_after here (Sync r small read took)) (after_sync r) (sync_keeps r) refl
         (λ p q found. longer here here (λ b safe lives. lives) q (after_sync r q) (sync_home r q).0 (sync_home r q).1 (all.safe p q found)))
-    safe_by (Fetch q index) is kind right word = after_is (Fetch q index) is all.safe
-    safe_by (PageIs q index bytes) is kind right word = after_is (PageIs q index bytes) is all.safe
     safe_by (Crash k cause) is kind right word =
         after_is (Crash k cause) is
         (by_map here (placed_after here (Crash k cause)) (after_loss k) (loss_keeps k) refl (λ p q found. loss_safe here k cause q word (unended_open_at here p q found) (all.safe p q found)))
@@ -290,8 +268,7 @@ module _ (lost : ClusterNo → Bool) where
             let u = named_unbacked system log all.families e to fresh recs kind p (ap (λ x. list_any (λ (r : BackRec). same_pid r.pid x) recs) (sym (unended_pid here p q found)) ∙ named) in
             let same : u.at ≡ q = ap (λ (o : Option Placed). unwrap_or o q) (sym u.found ∙ found) in
             ap (λ (x : Placed). x.backup) (sym same) ∙ u.none
-    safe_by (Done rests) is kind right word = after_is (Done rests) is all.safe
-    safe_by Stop is kind right word = after_is Stop is all.safe
+    safe_by w is kind right word = after_is w is all.safe
 
     all_more : AllIn system (log ++ e ∷ [])
     all_more = record {

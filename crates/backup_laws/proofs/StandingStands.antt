@@ -78,17 +78,7 @@ module _ (system : System) (log : List Entry) (e : Entry) (may : MayFollow syste
           was_moved-snoc system log e child ∙ (λ i. never_moved MayFollow system log child all.legal new i || ap (λ w. option_map_or (is_moved child here) (cluster_lost w) false) is i) in
           let one : child ≡ p = λ i. record { 0 = eqb-true child.0 p.0 same i } in
           absurd (true≢false (sym (waiting_says system (log ++ e ∷ []) p waits).moved ∙ sym (ap (was_moved system (log ++ e ∷ [])) one) ∙ never))
-  not_born (Mail at letter) is = refl
-  not_born (Exit q at end) is = refl
-  not_born (Page q at index bytes) is = refl
-  not_born (Sync q small read took) is = refl
-  not_born (Fetch q index) is = refl
-  not_born (PageIs q index bytes) is = refl
-  not_born (Crash k cause) is = refl
-  not_born (Return k) is = refl
-  not_born (Rebackup to fresh recs) is = refl
-  not_born (Done rests) is = refl
-  not_born Stop is = refl
+  not_born _ is = refl
 
   modes : mode_at (placement system (log ++ e ∷ [])) p ≡ mode_at here p
   modes =

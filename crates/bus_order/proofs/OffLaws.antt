@@ -110,13 +110,7 @@ return_lives places j k lost = by_number (eqb j.0 k.0) refl
 
 -- whether it lives after an entry, where it lives exactly where it is not off
 lives_after : (places : Places) (off : Option ℕ) (k : ClusterNo) (e : Entry) (w : What) → what e ≡ w → ((j : ClusterNo) → w ≡ Return j → is_lost_in places j ≡ true) → lives_in places k ≡ is_none off → lives_in (placed_after places w) k ≡ is_none (cond (turns k w) (place_of_loss k (Some e)) off)
-lives_after places off k e (Mail at letter) is lost before = before
 lives_after places off k e (Birth parent at child end) is lost before = birth_keeps (λ (c : ClusterPlace). c.lives) (λ c. refl) places child (placed_at places parent) k ∙ before
-lives_after places off k e (Exit pid at end) is lost before = before
-lives_after places off k e (Page pid at index bytes) is lost before = before
-lives_after places off k e (Sync pid small read took) is lost before = before
-lives_after places off k e (Fetch pid index) is lost before = before
-lives_after places off k e (PageIs pid index bytes) is lost before = before
 lives_after places off k e (Crash j cause) is lost before = crash_lives places j k cause ∙ by_test (same_cluster j k) refl
   where
     by_test : (b : Bool) → same_cluster j k ≡ b → cond b false (lives_in places k) ≡ is_none (cond b (place_of_loss k (Some e)) off)
@@ -127,9 +121,7 @@ lives_after places off k e (Return j) is lost before = return_lives places j k (
     by_test : (b : Bool) → cond b true (lives_in places k) ≡ is_none (cond b (place_of_loss k (Some e)) off)
     by_test true = sym (ap (λ w. is_none (cond (is_crash_of k w) (Some e.place) None)) is)
     by_test false = before
-lives_after places off k e (Rebackup to fresh recs) is lost before = before
-lives_after places off k e (Done rests) is lost before = before
-lives_after places off k e Stop is lost before = before
+lives_after places off k e _ is lost before = before
 
 -- in any log that stands, also where clusters return
 module _ (May : System → List Entry → Entry → Type 0) (stands_in : (system : System) (log : List Entry) (e : Entry) → May system log e → Stands system log e) where

@@ -112,17 +112,7 @@ module _ (system : System) (log : List Entry) (e : Entry) where
     where
       by_what : (w : What) → what e ≡ w → KindHolds system log e w → (k : Kernel) → apply_all (items_of k (what e)) k ≡ Some j → Alike system log k → Alike system (log ++ e ∷ []) j
       by_what (Birth parent at child end) is kind k made a = birth_alike parent at child end k j is kind a made
-      by_what (Mail at letter) is kind k made a = other_alike k j (ap is_birth is) a made
-      by_what (Exit pid at end) is kind k made a = other_alike k j (ap is_birth is) a made
-      by_what (Page pid at index bytes) is kind k made a = other_alike k j (ap is_birth is) a made
-      by_what (Sync pid small read took) is kind k made a = other_alike k j (ap is_birth is) a made
-      by_what (Fetch pid index) is kind k made a = other_alike k j (ap is_birth is) a made
-      by_what (PageIs pid index bytes) is kind k made a = other_alike k j (ap is_birth is) a made
-      by_what (Crash c cause) is kind k made a = other_alike k j (ap is_birth is) a made
-      by_what (Return c) is kind k made a = other_alike k j (ap is_birth is) a made
-      by_what (Rebackup to fresh recs) is kind k made a = other_alike k j (ap is_birth is) a made
-      by_what (Done rests) is kind k made a = other_alike k j (ap is_birth is) a made
-      by_what Stop is kind k made a = other_alike k j (ap is_birth is) a made
+      by_what _ is kind k made a = other_alike k j (ap is_birth is) a made
 
 -- ---- in a legal log
 

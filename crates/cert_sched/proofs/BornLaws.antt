@@ -89,14 +89,4 @@ there_not_born system log e p was applies there = by_what (what e) refl
 
     by_what : (w : What) → what e ≡ w → is_birth_of p w ≡ false
     by_what (Birth parent at child end) is = by_pid parent at child end is (same_pid child p) refl
-    by_what (Mail at letter) is = refl
-    by_what (Exit pid at end) is = refl
-    by_what (Page pid at index bytes) is = refl
-    by_what (Sync pid small read took) is = refl
-    by_what (Fetch pid index) is = refl
-    by_what (PageIs pid index bytes) is = refl
-    by_what (Crash k cause) is = refl
-    by_what (Return k) is = refl
-    by_what (Rebackup to fresh recs) is = refl
-    by_what (Done rests) is = refl
-    by_what Stop is = refl
+    by_what _ is = refl

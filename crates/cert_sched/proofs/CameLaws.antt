@@ -294,18 +294,14 @@ module _ (system : System) (log : List Entry) (e : Entry) where
   went_silently (Mail at letter) is quiet untaken applies kind two p now there = absurd (true≢false (sym quiet))
   went_silently (Birth parent at child end) is quiet untaken applies kind two p now there = absurd (true≢false (sym quiet))
   went_silently (Exit q at end) is quiet untaken applies kind two p now there = absurd (true≢false (sym quiet))
-  went_silently (Page q at index bytes) is quiet untaken applies kind two p now there = still (Page q at index bytes) p now is (λ k. refl) there
   went_silently (Sync q small read (Some g)) is quiet untaken applies kind two p now there = absurd (true≢false untaken)
   went_silently (Sync q small read None) is quiet untaken applies kind two p now there = sync_silently q small read is kind p now there
-  went_silently (Fetch q index) is quiet untaken applies kind two p now there = still (Fetch q index) p now is (λ k. refl) there
-  went_silently (PageIs q index bytes) is quiet untaken applies kind two p now there = still (PageIs q index bytes) p now is (λ k. refl) there
   went_silently (Crash k cause) is quiet untaken applies kind two p now there = still (Crash k cause) p now is (λ k. refl) there
   went_silently (Return k) is quiet untaken applies kind two p now there = still (Return k) p now is (λ k. refl) there
   went_silently (Rebackup to true []) is quiet untaken applies kind two p now there = absurd kind
   went_silently (Rebackup to true (r ∷ rs)) is quiet untaken applies kind two p now there = fresh_silently to r rs is kind p now there
-  went_silently (Rebackup to false recs) is quiet untaken applies kind two p now there = still (Rebackup to false recs) p now is (λ k. refl) there
   went_silently (Done rests) is quiet untaken applies kind two p now there = done_came rests is applies kind two p now there
-  went_silently Stop is quiet untaken applies kind two p now there = still Stop p now is (λ k. refl) there
+  went_silently w is quiet untaken applies kind two p now there = still w p now is (λ k. refl) there
 
   -- silent steps lead each process to where such an entry leaves it, or to where it takes a signal
   pub record Settles (p : Pid) (now : ProcState) : Type 0 where
@@ -345,28 +341,13 @@ module _ (system : System) (log : List Entry) (e : Entry) where
   went_settled (Mail at letter) is quiet applies kind two p now there = absurd (true≢false (sym quiet))
   went_settled (Birth parent at child end) is quiet applies kind two p now there = absurd (true≢false (sym quiet))
   went_settled (Exit q at end) is quiet applies kind two p now there = absurd (true≢false (sym quiet))
-  went_settled (Page q at index bytes) is quiet applies kind two p now there = settles_as p now (went_silently (Page q at index bytes) is refl refl applies kind two p now there)
-  went_settled (Fetch q index) is quiet applies kind two p now there = settles_as p now (went_silently (Fetch q index) is refl refl applies kind two p now there)
-  went_settled (PageIs q index bytes) is quiet applies kind two p now there = settles_as p now (went_silently (PageIs q index bytes) is refl refl applies kind two p now there)
-  went_settled (Crash k cause) is quiet applies kind two p now there = settles_as p now (went_silently (Crash k cause) is refl refl applies kind two p now there)
-  went_settled (Return k) is quiet applies kind two p now there = settles_as p now (went_silently (Return k) is refl refl applies kind two p now there)
-  went_settled (Rebackup to fresh recs) is quiet applies kind two p now there = settles_as p now (went_silently (Rebackup to fresh recs) is refl refl applies kind two p now there)
-  went_settled (Done rests) is quiet applies kind two p now there = settles_as p now (went_silently (Done rests) is refl refl applies kind two p now there)
-  went_settled Stop is quiet applies kind two p now there = settles_as p now (went_silently Stop is refl refl applies kind two p now there)
+  went_settled w is quiet applies kind two p now there = settles_as p now (went_silently w is refl refl applies kind two p now there)
 
   silent_no_deed : (w : What) (p : Pid) → is_silent w ≡ true → is_birth w ≡ false → (deeds_in p w ≡ []) × (letter_for p w ≡ []) × (is_birth_of p w ≡ false)
   silent_no_deed (Mail at letter) p quiet other = absurd (true≢false (sym quiet))
   silent_no_deed (Birth parent at child end) p quiet other = absurd (true≢false other)
   silent_no_deed (Exit q at end) p quiet other = absurd (true≢false (sym quiet))
-  silent_no_deed (Page q at index bytes) p quiet other = (refl, refl, refl)
-  silent_no_deed (Sync q small read took) p quiet other = (refl, refl, refl)
-  silent_no_deed (Fetch q index) p quiet other = (refl, refl, refl)
-  silent_no_deed (PageIs q index bytes) p quiet other = (refl, refl, refl)
-  silent_no_deed (Crash k cause) p quiet other = (refl, refl, refl)
-  silent_no_deed (Return k) p quiet other = (refl, refl, refl)
-  silent_no_deed (Rebackup to fresh recs) p quiet other = (refl, refl, refl)
-  silent_no_deed (Done rests) p quiet other = (refl, refl, refl)
-  silent_no_deed Stop p quiet other = (refl, refl, refl)
+  silent_no_deed _ p quiet other = (refl, refl, refl)
 
   came_silently : (w : What) → what e ≡ w → is_silent w ≡ true → is_birth w ≡ false → takes_signal w ≡ false → is_some (plain_after system (log ++ e ∷ [])) ≡ true → KindHolds system log e w → NoTwo (placed_pids (placement system log).placed) → (p : Pid) → Here w p
   unfolding Here
@@ -425,16 +406,8 @@ module _ (system : System) (log : List Entry) (e : Entry) where
   came_by (Mail at letter) is applies kind two p = let sent = is_sent system log letter.from at (Sent letter) kind in mail_came at letter sent.after p sent.is is
   came_by (Birth parent at child end) is applies kind two p = λ now there goes_on. birth_came parent at child end (birth_applied system log e parent at child end is applies kind.end_is) p now there
   came_by (Exit q at end) is applies kind two p = let sent = is_sent system log q at (Ended end) kind.0 in exit_came q at end sent.after p sent.is is
-  came_by (Page q at index bytes) is applies kind two p = came_silently (Page q at index bytes) is refl refl refl applies kind two p
-  came_by (Sync q small read None) is applies kind two p = came_silently (Sync q small read None) is refl refl refl applies kind two p
   came_by (Sync q small read (Some g)) is applies kind two p = λ now there goes_on. take_came q small read g (sync_taken system log e q small read g is kind).made p now there
-  came_by (Fetch q index) is applies kind two p = came_silently (Fetch q index) is refl refl refl applies kind two p
-  came_by (PageIs q index bytes) is applies kind two p = came_silently (PageIs q index bytes) is refl refl refl applies kind two p
-  came_by (Crash k cause) is applies kind two p = came_silently (Crash k cause) is refl refl refl applies kind two p
-  came_by (Return k) is applies kind two p = came_silently (Return k) is refl refl refl applies kind two p
-  came_by (Rebackup to fresh recs) is applies kind two p = came_silently (Rebackup to fresh recs) is refl refl refl applies kind two p
-  came_by (Done rests) is applies kind two p = came_silently (Done rests) is refl refl refl applies kind two p
-  came_by Stop is applies kind two p = came_silently Stop is refl refl refl applies kind two p
+  came_by w is applies kind two p = came_silently w is refl refl refl applies kind two p
 
 -- each process that has not ended after an entry that stands came there so
 pub came : (system : System) (log : List Entry) (e : Entry) → Stands system log e → NoTwo (placed_pids (placement system log).placed)

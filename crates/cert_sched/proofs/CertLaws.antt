@@ -24,20 +24,9 @@ use Rattle.cert_sched.proofs.Induction.{is_over-snoc}
 
 -- by the counts of a kernel an entry adds its items there
 added_is : (k : Kernel) (w : What) → added (done k) w ≡ items_of k w
-added_is k (Mail at letter) = refl
-added_is k (Birth parent at child end) = refl
-added_is k (Exit pid at end) = refl
-added_is k (Page pid at index bytes) = refl
-added_is k (Sync pid small read took) = refl
-added_is k (Fetch pid index) = refl
-added_is k (PageIs pid index bytes) = refl
-added_is k (Crash c cause) = refl
-added_is k (Return c) = refl
 added_is k (Rebackup to true []) = refl
 added_is k (Rebackup to true (r ∷ rs)) = refl
-added_is k (Rebackup to false recs) = refl
-added_is k (Done rests) = refl
-added_is k Stop = refl
+added_is k _ = refl
 
 same_added : (f g : Pid → ℕ) (w : What) → ((p : Pid) → f p ≡ g p) → added f w ≡ added g w
 same_added f g w same = ap (λ h. added h w) (λ i p. same p i)
@@ -59,18 +48,8 @@ raised_done (Some r) counts q =
 -- ---- the end
 
 ends_by_done : (places : Places) (w : What) → ends_run places w ≡ false → is_done w ≡ false
-ends_by_done places (Mail at letter) runs = refl
-ends_by_done places (Birth parent at child end) runs = refl
-ends_by_done places (Exit pid at end) runs = refl
-ends_by_done places (Page pid at index bytes) runs = refl
-ends_by_done places (Sync pid small read took) runs = refl
-ends_by_done places (Fetch pid index) runs = refl
-ends_by_done places (PageIs pid index bytes) runs = refl
-ends_by_done places (Crash c cause) runs = refl
-ends_by_done places (Return c) runs = refl
-ends_by_done places (Rebackup to fresh recs) runs = refl
 ends_by_done places (Done rests) runs = runs
-ends_by_done places Stop runs = refl
+ends_by_done places _ runs = refl
 
 -- ---- the whole
 

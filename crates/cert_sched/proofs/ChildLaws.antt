@@ -44,21 +44,15 @@ module _ (system : System) (log : List Entry) (e : Entry) (stands : Stands syste
 
   -- a process that was placed and is unsynced was unsynced
   pub unsynced_by : (w : What) → what e ≡ w → KindHolds system log e w → is_by_right (placement system log) (e.post).by w ≡ true → (p : Pid) → In p.0 (placement system log) → is_unsynced (placed_after (placement system log) w) p ≡ true → is_unsynced (placement system log) p ≡ true
-  unsynced_by (Mail at letter) is kind right p there h = h
   unsynced_by (Birth parent at child end) is kind right p there h =
       let born = born_rightly (placement system log) (e.post).by parent child right kind.child_is in
       let old = found_born system log e stands all parent at child end is born p (not_in p.0 child (placement system log) (child_new (placement system log) parent child all.numbered born) there) in
       sym (ap (λ o. option_map_or (λ (q : Placed). not q.synced) o false) old) ∙ ap (λ places. is_unsynced places p) (placement-snoc system log e ∙ ap (placed_after (placement system log)) is) ∙ h
   unsynced_by (Exit r at end) is kind right p there h = by_exit r at end p h (same_pid p r) refl
-  unsynced_by (Page q at index bytes) is kind right p there h = h
   unsynced_by (Sync q small read took) is kind right p there h = by_change (after_sync q) (sync_keeps q) (sync_synced q) (Sync q small read took) refl p h
-  unsynced_by (Fetch q index) is kind right p there h = h
-  unsynced_by (PageIs q index bytes) is kind right p there h = h
   unsynced_by (Crash k cause) is kind right p there h = by_change (after_loss k) (loss_keeps k) (λ q s. sym (loss_synced k q) ∙ s) (Crash k cause) refl p h
-  unsynced_by (Return k) is kind right p there h = h
   unsynced_by (Rebackup to fresh recs) is kind right p there h = by_change (after_rebackup to fresh recs) (backup_keeps to fresh recs) (backup_synced system log e all to fresh recs) (Rebackup to fresh recs) refl p h
-  unsynced_by (Done rests) is kind right p there h = h
-  unsynced_by Stop is kind right p there h = h
+  unsynced_by _ is kind right p there h = h
 
   -- a process is cut only where its children have synchronised
   cut_children : (w : What) → KindHolds system log e w → (p : Pid) → is_cut p w ≡ true → ChildrenSynced system log p
@@ -71,17 +65,7 @@ module _ (system : System) (log : List Entry) (e : Entry) (stands : Stands syste
   pub no_birth_of : (w : What) → KindHolds system log e w → is_by_right (placement system log) (e.post).by w ≡ true → (p : Pid) → In p.0 (placement system log) → is_birth_of p w ≡ false
   no_birth_of (Birth parent at child end) kind right p there =
       not_in p.0 child (placement system log) (child_new (placement system log) parent child all.numbered (born_rightly (placement system log) (e.post).by parent child right kind.child_is)) there
-  no_birth_of (Mail at letter) kind right p there = refl
-  no_birth_of (Exit q at end) kind right p there = refl
-  no_birth_of (Page q at index bytes) kind right p there = refl
-  no_birth_of (Sync q small read took) kind right p there = refl
-  no_birth_of (Fetch q index) kind right p there = refl
-  no_birth_of (PageIs q index bytes) kind right p there = refl
-  no_birth_of (Crash k cause) kind right p there = refl
-  no_birth_of (Return k) kind right p there = refl
-  no_birth_of (Rebackup to fresh recs) kind right p there = refl
-  no_birth_of (Done rests) kind right p there = refl
-  no_birth_of Stop kind right p there = refl
+  no_birth_of _ kind right p there = refl
 
 -- each child that never synchronised is a birth since its parent started
 abbrev pub Recorded : System → List Entry → Type 0
@@ -130,17 +114,7 @@ module _ (system : System) (log : List Entry) (e : Entry) (stands : Stands syste
   by_kind (Birth parent at child end) is kind right b (inr (inl same)) h =
       subst (λ (c : Pair). among c.1 (births_in (since (log ++ e ∷ []) c.0)) ≡ true) (sym same) (new_pair parent at child end is (born_rightly (placement system log) (e.post).by parent child right kind.child_is))
   by_kind (Birth parent at child end) is kind right b (inr (inr none)) h = absurd none
-  by_kind (Mail at letter) is kind right b (inr m) h = absurd m
-  by_kind (Exit q at end) is kind right b (inr m) h = absurd m
-  by_kind (Page q at index bytes) is kind right b (inr m) h = absurd m
-  by_kind (Sync q small read took) is kind right b (inr m) h = absurd m
-  by_kind (Fetch q index) is kind right b (inr m) h = absurd m
-  by_kind (PageIs q index bytes) is kind right b (inr m) h = absurd m
-  by_kind (Crash k cause) is kind right b (inr m) h = absurd m
-  by_kind (Return k) is kind right b (inr m) h = absurd m
-  by_kind (Rebackup to fresh recs) is kind right b (inr m) h = absurd m
-  by_kind (Done rests) is kind right b (inr m) h = absurd m
-  by_kind Stop is kind right b (inr m) h = absurd m
+  by_kind _ is kind right b (inr m) h = absurd m
 
 pub member_either : (b : Pair) (xs ys : List Pair) → Member b (xs ++ ys) → Member b xs ⊎ Member b ys
 member_either b [] ys m = inr m

@@ -154,15 +154,7 @@ module _ (system : System) (log : List Entry) (e : Entry) where
   limit_by (Mail at letter) is applies kind limits p = mail_limit at letter is kind limits p
   limit_by (Birth parent at child end) is applies kind limits p = birth_limit parent at child end is applies kind limits p
   limit_by (Exit q at end) is applies kind limits p = exit_limit q at end is kind limits p
-  limit_by (Page q at index bytes) is applies kind limits p = λ now there. inl refl
-  limit_by (Sync q small read took) is applies kind limits p = λ now there. inl refl
-  limit_by (Fetch q index) is applies kind limits p = λ now there. inl refl
-  limit_by (PageIs q index bytes) is applies kind limits p = λ now there. inl refl
-  limit_by (Crash k cause) is applies kind limits p = λ now there. inl refl
-  limit_by (Return k) is applies kind limits p = λ now there. inl refl
-  limit_by (Rebackup to fresh recs) is applies kind limits p = λ now there. inl refl
-  limit_by (Done rests) is applies kind limits p = λ now there. inl refl
-  limit_by Stop is applies kind limits p = λ now there. inl refl
+  limit_by _ is applies kind limits p = λ now there. inl refl
 
 -- ---- the invariant
 

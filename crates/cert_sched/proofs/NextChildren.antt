@@ -38,17 +38,7 @@ absorbed_by system log e (Birth parent at child end) numbered kind right =
       none_found child places.placed (child_new places parent child numbered born),
       subst (λ (o : Option Placed). IfSome o (λ (q : Placed). child.0 ≡ (q.home).0 + 16 * next_serial_in places q.home)) (sym (only_one parent places.placed born.at numbered.two born.found)) (sym (ap (λ (p : Pid). p.0) born.child_is)),
     )
-absorbed_by system log e (Mail at letter) numbered kind right = tt
-absorbed_by system log e (Exit q at end) numbered kind right = tt
-absorbed_by system log e (Page q at index bytes) numbered kind right = tt
-absorbed_by system log e (Sync q small read took) numbered kind right = tt
-absorbed_by system log e (Fetch q index) numbered kind right = tt
-absorbed_by system log e (PageIs q index bytes) numbered kind right = tt
-absorbed_by system log e (Crash k cause) numbered kind right = tt
-absorbed_by system log e (Return k) numbered kind right = tt
-absorbed_by system log e (Rebackup to fresh recs) numbered kind right = tt
-absorbed_by system log e (Done rests) numbered kind right = tt
-absorbed_by system log e Stop numbered kind right = tt
+absorbed_by system log e _ numbered kind right = tt
 
 -- where pids and serials are as they are to be
 pub stands_next : (system : System) (log : List Entry) (e : Entry) → Numbered (placement system log) → Stands system log e → CanBeAbsorbed (placement system log) (what e)

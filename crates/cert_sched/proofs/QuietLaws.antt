@@ -71,15 +71,9 @@ module _ (system : System) (log : List Entry) (e : Entry) (k j : Kernel) (before
   went_quietly (Mail at letter) is quiet kind two = absurd (true≢false (sym quiet))
   went_quietly (Birth parent at child end) is quiet kind two = absurd (true≢false (sym quiet))
   went_quietly (Exit q at end) is quiet kind two = absurd (true≢false (sym quiet))
-  went_quietly (Page q at index bytes) is quiet kind two = nothing (λ i. ap (items_of i) is)
   went_quietly (Sync q small read took) is quiet kind two = cut_quietly q small read took is kind
-  went_quietly (Fetch q index) is quiet kind two = nothing (λ i. ap (items_of i) is)
-  went_quietly (PageIs q index bytes) is quiet kind two = nothing (λ i. ap (items_of i) is)
-  went_quietly (Crash c cause) is quiet kind two = nothing (λ i. ap (items_of i) is)
-  went_quietly (Return c) is quiet kind two = nothing (λ i. ap (items_of i) is)
   went_quietly (Rebackup to true []) is quiet kind two = absurd kind
   went_quietly (Rebackup to true (r ∷ rs)) is quiet kind two =
       one_run r.pid (steps_in r.state) (ap (λ w. is_some (after_items system log w)) (sym is) ∙ kind.silent) (ap (items_of k) is)
-  went_quietly (Rebackup to false recs) is quiet kind two = nothing (λ i. ap (items_of i) is)
   went_quietly (Done rests) is quiet kind two = end_quietly rests is kind two
-  went_quietly Stop is quiet kind two = nothing (λ i. ap (items_of i) is)
+  went_quietly _ is quiet kind two = nothing (λ i. ap (items_of i) is)

@@ -84,31 +84,11 @@ module _ (system : System) (log : List Entry) (e : Entry) (p : Pid) where
 
   cut_no_letter : (w : What) → is_cut p w ≡ true → letter_for p w ≡ []
   cut_no_letter (Mail at letter) h = absurd (true≢false (sym h))
-  cut_no_letter (Birth parent at child end) h = refl
-  cut_no_letter (Exit pid at end) h = refl
-  cut_no_letter (Page pid at index bytes) h = refl
-  cut_no_letter (Sync pid small read took) h = refl
-  cut_no_letter (Fetch pid index) h = refl
-  cut_no_letter (PageIs pid index bytes) h = refl
-  cut_no_letter (Crash k cause) h = refl
-  cut_no_letter (Return k) h = refl
-  cut_no_letter (Rebackup to fresh recs) h = refl
-  cut_no_letter (Done rests) h = refl
-  cut_no_letter Stop h = refl
+  cut_no_letter _ h = refl
 
   cut_no_birth : (w : What) → is_cut p w ≡ true → is_birth_of p w ≡ false
-  cut_no_birth (Mail at letter) h = refl
   cut_no_birth (Birth parent at child end) h = absurd (true≢false (sym h))
-  cut_no_birth (Exit pid at end) h = refl
-  cut_no_birth (Page pid at index bytes) h = refl
-  cut_no_birth (Sync pid small read took) h = refl
-  cut_no_birth (Fetch pid index) h = refl
-  cut_no_birth (PageIs pid index bytes) h = refl
-  cut_no_birth (Crash k cause) h = refl
-  cut_no_birth (Return k) h = refl
-  cut_no_birth (Rebackup to fresh recs) h = refl
-  cut_no_birth (Done rests) h = refl
-  cut_no_birth Stop h = refl
+  cut_no_birth _ h = refl
 
   -- a cut: it starts from where it is
   after_cut : (was now : ProcState) → process_after system (log ++ e ∷ []) p ≡ Some now → is_cut p (what e) ≡ true → now.next ≡ was.next → Rolls system log p was → Rolls system (log ++ e ∷ []) p now

@@ -64,14 +64,8 @@ pub items_forkless : (k : Kernel) (w : What) → is_birth w ≡ false → list_a
 items_forkless k (Mail at letter) other = run_forkless letter.from (at - done k letter.from)
 items_forkless k (Birth parent at child end) other = absurd (true≢false other)
 items_forkless k (Exit pid at end) other = run_forkless pid (at - done k pid)
-items_forkless k (Page pid at index bytes) other = refl
 items_forkless k (Sync pid small read took) other = parts_forkless (run_upto k pid small.steps) (take_of pid took) (run_forkless pid (small.steps - done k pid)) (take_forkless pid took)
-items_forkless k (Fetch pid index) other = refl
-items_forkless k (PageIs pid index bytes) other = refl
-items_forkless k (Crash c cause) other = refl
-items_forkless k (Return c) other = refl
 items_forkless k (Rebackup to true []) other = refl
 items_forkless k (Rebackup to true (r ∷ rs)) other = run_forkless r.pid (steps_in r.state - done k r.pid)
-items_forkless k (Rebackup to false recs) other = refl
 items_forkless k (Done rests) other = runs_forkless k rests
-items_forkless k Stop other = refl
+items_forkless k _ other = refl

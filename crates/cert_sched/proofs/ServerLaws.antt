@@ -45,22 +45,15 @@ changed f keeps clusters j all n = by_number (eqb j n) refl
         elsewhere (Some c) = ap serves (kept_elsewhere clusters j n (f c) (λ e. true≢false (sym (eq-eqb j n (sym e)) ∙ apart))) ∙ all n
 
 served_more : (places : Places) (w : What) → is_built w ≡ true → Served places.clusters → Served (placed_after places w).clusters
-served_more places (Mail at letter) built all = all
 served_more places (Birth parent at child end) built all = by_parent (placed_at places parent)
   where
     by_parent : (o : Option Placed) → Served (with_birth places child o).clusters
     by_parent None = all
     by_parent (Some q) = changed raised_serial (λ c h. h) places.clusters (q.home).0 all
-served_more places (Exit pid at end) built all = all
-served_more places (Page pid at index bytes) built all = all
-served_more places (Sync pid small read took) built all = all
-served_more places (Fetch pid index) built all = all
-served_more places (PageIs pid index bytes) built all = all
 served_more places (Crash k cause) built all = changed lost_cluster (λ c h. refl) places.clusters k.0 all
 served_more places (Return k) built all = absurd (true≢false (sym built))
 served_more places (Rebackup to fresh recs) built all = absurd (true≢false (sym built))
-served_more places (Done rests) built all = all
-served_more places Stop built all = all
+served_more places _ built all = all
 
 served_at_boot : (placed : List Placed) (numbers : List ℕ) → Served (map (boot_cluster placed) numbers)
 served_at_boot placed [] n = refl

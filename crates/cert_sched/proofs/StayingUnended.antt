@@ -42,18 +42,12 @@ pub unended_stays : (w : What) → is_birth w ≡ false → (places : Places) (p
 unended_stays w no_birth places p no_exit there = by_what w no_birth no_exit
   where
     by_what : (w : What) → is_birth w ≡ false → is_exit_of p w ≡ false → is_some (unended_at (placed_after places w) p) ≡ true
-    by_what (Mail at letter) other stays = there
     by_what (Birth parent at child end) other stays = absurd (true≢false other)
     by_what (Exit q at end) other stays = ap is_some (unended_exit q p places.placed (apart_from q p stays)) ∙ there
-    by_what (Page q at index bytes) other stays = there
     by_what (Sync q small read took) other stays = mapped places p (after_sync q) (sync_keeps q) (placed_after places (Sync q small read took)) refl ∙ there
-    by_what (Fetch q index) other stays = there
-    by_what (PageIs q index bytes) other stays = there
     by_what (Crash k cause) other stays = mapped places p (after_loss k) (loss_keeps k) (placed_after places (Crash k cause)) refl ∙ there
-    by_what (Return k) other stays = there
     by_what (Rebackup to fresh recs) other stays = mapped places p (after_rebackup to fresh recs) (backup_keeps to fresh recs) (placed_after places (Rebackup to fresh recs)) refl ∙ there
-    by_what (Done rests) other stays = there
-    by_what Stop other stays = there
+    by_what _ other stays = there
 
 -- who has not ended after it had not ended before, and the entry is not its exit
 pub unended_before : (w : What) → is_birth w ≡ false → (places : Places) (p : Pid) → is_some (unended_at (placed_after places w) p) ≡ true → (is_exit_of p w ≡ false) × (is_some (unended_at places p) ≡ true)
@@ -65,18 +59,12 @@ unended_before w no_birth places p there = by_what w no_birth there
     by_exit q false is there = (refl, sym (ap is_some (unended_exit q p places.placed (apart_from q p is))) ∙ there)
 
     by_what : (w : What) → is_birth w ≡ false → is_some (unended_at (placed_after places w) p) ≡ true → (is_exit_of p w ≡ false) × (is_some (unended_at places p) ≡ true)
-    by_what (Mail at letter) other there = (refl, there)
     by_what (Birth parent at child end) other there = absurd (true≢false other)
     by_what (Exit q at end) other there = by_exit q (same_pid q p) refl there
-    by_what (Page q at index bytes) other there = (refl, there)
     by_what (Sync q small read took) other there = (refl, sym (mapped places p (after_sync q) (sync_keeps q) (placed_after places (Sync q small read took)) refl) ∙ there)
-    by_what (Fetch q index) other there = (refl, there)
-    by_what (PageIs q index bytes) other there = (refl, there)
     by_what (Crash k cause) other there = (refl, sym (mapped places p (after_loss k) (loss_keeps k) (placed_after places (Crash k cause)) refl) ∙ there)
-    by_what (Return k) other there = (refl, there)
     by_what (Rebackup to fresh recs) other there = (refl, sym (mapped places p (after_rebackup to fresh recs) (backup_keeps to fresh recs) (placed_after places (Rebackup to fresh recs)) refl) ∙ there)
-    by_what (Done rests) other there = (refl, there)
-    by_what Stop other there = (refl, there)
+    by_what _ other there = (refl, there)
 
 -- ---- births too
 
@@ -93,17 +81,7 @@ birth_stays p child places (Some q) there =
 -- who has not ended stays so over every entry but its exit
 pub stays_unended : (w : What) (places : Places) (p : Pid) → is_exit_of p w ≡ false → is_some (unended_at places p) ≡ true → is_some (unended_at (placed_after places w) p) ≡ true
 stays_unended (Birth parent at child end) places p no_exit there = birth_stays p child places (placed_at places parent) there
-stays_unended (Mail at letter) places p no_exit there = unended_stays (Mail at letter) refl places p no_exit there
-stays_unended (Exit q at end) places p no_exit there = unended_stays (Exit q at end) refl places p no_exit there
-stays_unended (Page q at index bytes) places p no_exit there = unended_stays (Page q at index bytes) refl places p no_exit there
-stays_unended (Sync q small read took) places p no_exit there = unended_stays (Sync q small read took) refl places p no_exit there
-stays_unended (Fetch q index) places p no_exit there = unended_stays (Fetch q index) refl places p no_exit there
-stays_unended (PageIs q index bytes) places p no_exit there = unended_stays (PageIs q index bytes) refl places p no_exit there
-stays_unended (Crash k cause) places p no_exit there = unended_stays (Crash k cause) refl places p no_exit there
-stays_unended (Return k) places p no_exit there = unended_stays (Return k) refl places p no_exit there
-stays_unended (Rebackup to fresh recs) places p no_exit there = unended_stays (Rebackup to fresh recs) refl places p no_exit there
-stays_unended (Done rests) places p no_exit there = unended_stays (Done rests) refl places p no_exit there
-stays_unended Stop places p no_exit there = unended_stays Stop refl places p no_exit there
+stays_unended w places p no_exit there = unended_stays w refl places p no_exit there
 
 -- who has not ended after an entry that does not bear it had not ended before, and the entry is not its exit
 pub before_unended : (w : What) (places : Places) (p : Pid) → is_birth_of p w ≡ false → is_some (unended_at (placed_after places w) p) ≡ true → (is_exit_of p w ≡ false) × (is_some (unended_at places p) ≡ true)

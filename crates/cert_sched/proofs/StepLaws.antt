@@ -167,20 +167,14 @@ counts_after : (w : What) (k j : Kernel) (q : Pid) → is_done w ≡ false → I
 counts_after (Mail at letter) k j q other later made = run_upto-counts letter.from at k j q made
 counts_after (Birth parent at child end) k j q other later made = birth_counts parent at child k j q later made
 counts_after (Exit pid at end) k j q other later made = run_upto-counts pid at k j q made
-counts_after (Page pid at index bytes) k j q other later made = ap (λ i. done i q) (sym (some_same k j made))
 counts_after (Sync pid small read None) k j q other later made = run_upto-counts pid small.steps k j q (ap (λ is. apply_all is k) (sym (append-nil (run_upto k pid small.steps))) ∙ made)
 counts_after (Sync pid small read (Some g)) k j q other later made =
     let r = run_and_take (run_upto k pid small.steps) pid k j made in
     take_counts pid r.to j q r.takes ∙ run_upto-counts pid small.steps k r.to q r.ran
-counts_after (Fetch pid index) k j q other later made = ap (λ i. done i q) (sym (some_same k j made))
-counts_after (PageIs pid index bytes) k j q other later made = ap (λ i. done i q) (sym (some_same k j made))
-counts_after (Crash c cause) k j q other later made = ap (λ i. done i q) (sym (some_same k j made))
-counts_after (Return c) k j q other later made = ap (λ i. done i q) (sym (some_same k j made))
 counts_after (Rebackup to true []) k j q other later made = ap (λ i. done i q) (sym (some_same k j made))
 counts_after (Rebackup to true (r ∷ rs)) k j q other later made = run_upto-counts r.pid (steps_in r.state) k j q made
-counts_after (Rebackup to false recs) k j q other later made = ap (λ i. done i q) (sym (some_same k j made))
 counts_after (Done rests) k j q other later made = absurd (true≢false other)
-counts_after Stop k j q other later made = ap (λ i. done i q) (sym (some_same k j made))
+counts_after _ k j q other later made = ap (λ i. done i q) (sym (some_same k j made))
 
 pub raised_same : (o : Option (Pid × ℕ)) (f g : Pid → ℕ) (q : Pid) → ((p : Pid) → f p ≡ g p) → raised_at o f q ≡ raised_at o g q
 raised_same o f g q same = ap (λ h. raised_at o h q) (λ i p. same p i)

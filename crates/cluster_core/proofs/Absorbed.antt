@@ -212,9 +212,8 @@ pub may_come : (c : ClusterView) (e : Entry) → is_system c.system ≡ true →
 may_come c e valid r = by_loss (one_of c.system r.log e r.open_next)
   where
     came : (queue : List Post) (p : Pid) (i : ℕ) (bytes : List ℕ) → what e ≡ PageIs p i bytes → IsUnended c.system r.log p → (h : Held) → IsHeldAs c.system r.log queue p h → CanComeTo i bytes h
-    came queue p i bytes is unended (Runs s) held = tt
-    came queue p i bytes is unended (Rolls s counts births) held = tt
     came queue p i bytes is unended (Waits waiting) held = may_come_to c.system r.log e queue p i bytes waiting valid (r.open_next).0 unended is held.1
+    came queue p i bytes is unended _ held = tt
 
     home : (p : Pid) (h : Held) → rising (pids_in c.here) ≡ rising (home_pids c.system r.log c.number) → held_at c p ≡ Some h → IsUnended c.system r.log p
     home p h once there = ap is_some (home_here (placement c.system r.log) c.number (pids_in c.here) p (differ_built c.system r.log valid (r.open_log).0) once (is_among c.here p h there)).found

@@ -50,13 +50,12 @@ module _ (process : Process) (child : Pid) where
   left = 2 * weight_with_children (child_small process.small child)
 
   begun_load : (h : Held) → held_load (begun_with (newborn process child) h) ≤ held_load h + left
-  begun_load (Runs q) = omega arith
-  begun_load (Rolls q counts births) = omega arith
   begun_load (Waits w) = by_none (is_none (w.kept).state)
     where
       by_none : (b : Bool) → held_load (cond b (going_held (with_mail_of w.kept (newborn process child)) (w.kept).counts (w.kept).births) (Waits w)) ≤ held_load (Waits w) + left
       by_none true = omega (arith, going_load (with_mail_of w.kept (newborn process child)) (w.kept).counts (w.kept).births)
       by_none false = omega arith
+  begun_load _ = omega arith
 
   none_begun : (here : List (Pid × Held)) → list_any (λ m. eqb m child.0) (pids_in here) ≡ false → sum_held (with_begun child (newborn process child) here) ≡ sum_held here
   none_begun [] none = refl

@@ -46,8 +46,7 @@ page_post k pid index bytes = record { by = Cluster k; what = PageIs pid index b
 -- it moves no process, and asks for no page
 held_answered : (system : System) (log : List Entry) (k : ClusterNo) (pid : Pid) (index : ℕ) (bytes : List ℕ) (q : Pid) (h : Held) → IsHeldAs system log [] q h → IsHeldAs system log (page_post k pid index bytes ∷ []) q h
 held_answered system log k pid index bytes q (Runs s) held = held
-held_answered system log k pid index bytes q (Rolls s counts births) held = held
-held_answered system log k pid index bytes q (Waits waiting) held = held
+held_answered system log k pid index bytes q _ held = held
 
 -- its first fetch is the earliest of the log
 first_is : (fs : List (Pid × ℕ)) → first_of fs ≡ slice_get fs 0

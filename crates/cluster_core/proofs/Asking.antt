@@ -78,16 +78,14 @@ less_before m n less = grind (arith, nat_tests)
 
 -- one that lacks a page after it asked for one lacked one before
 asked_lacks : (h : Held) → is_some (page_lacked (asked_held h)) ≡ true → is_some (page_lacked h) ≡ true
-asked_lacks (Runs p) some = some
-asked_lacks (Rolls p counts births) some = some
 asked_lacks (Waits w) some =
     some_test (ltb w.asked (length w.come)) w.asked ∙ less_before w.asked (length w.come) (sym (some_test (ltb (w.asked + 1) (length w.come)) (w.asked + 1)) ∙ some)
+asked_lacks _ some = some
 
 -- and it moves no more than before
 asked_acts : (limits : Limits) (h : Held) → can_act limits (asked_held h) ≡ can_act limits h
 asked_acts limits (Runs p) = refl
-asked_acts limits (Rolls p counts births) = refl
-asked_acts limits (Waits w) = refl
+asked_acts limits _ = refl
 
 pub after_ask_lacks : (was now : Held) (r : Option ℕ) → now ≡ cond (is_some r) (asked_held was) was → is_some (page_lacked now) ≡ true → is_some (page_lacked was) ≡ true
 after_ask_lacks was now None is some = ap (λ (h : Held). is_some (page_lacked h)) (sym is) ∙ some

@@ -24,40 +24,33 @@ HoldsMarksOf which system log c = (p : Pid) (h : Held) → held_at c p ≡ Some 
 -- what is held of a process is what the log says; of one that runs this is asked where it passes the test
 abbrev pub HeldOf : (Pid → Bool) → System → List Entry → List Post → Pid → Held → Type 0
 HeldOf which system log queue p (Runs process) = which p ≡ true → IsHeldAs system log queue p (Runs process)
-HeldOf which system log queue p (Rolls process counts births) = IsHeldAs system log queue p (Rolls process counts births)
-HeldOf which system log queue p (Waits waiting) = IsHeldAs system log queue p (Waits waiting)
+HeldOf which system log queue p held = IsHeldAs system log queue p held
 
 pub any_of : (which : Pid → Bool) (system : System) (log : List Entry) (queue : List Post) (p : Pid) (h : Held) → IsHeldAs system log queue p h → HeldOf which system log queue p h
 any_of which system log queue p (Runs process) held = λ passes. held
-any_of which system log queue p (Rolls process counts births) held = held
-any_of which system log queue p (Waits waiting) held = held
+any_of which system log queue p _ held = held
 
 pub one_of_them : (which : Pid → Bool) (system : System) (log : List Entry) (queue : List Post) (p : Pid) (h : Held) → which p ≡ true → HeldOf which system log queue p h → IsHeldAs system log queue p h
 one_of_them which system log queue p (Runs process) passes held = held passes
-one_of_them which system log queue p (Rolls process counts births) passes held = held
-one_of_them which system log queue p (Waits waiting) passes held = held
+one_of_them which system log queue p _ passes held = held
 
 -- what follows for each that is what the log says follows for those
 pub of_them : (which : Pid → Bool) (system : System) (log later : List Entry) (before after : List Post) (p : Pid) (h : Held) → (IsHeldAs system log before p h → IsHeldAs system later after p h) → HeldOf which system log before p h → HeldOf which system later after p h
 of_them which system log later before after p (Runs process) follows held = λ passes. follows (held passes)
-of_them which system log later before after p (Rolls process counts births) follows held = follows held
-of_them which system log later before after p (Waits waiting) follows held = follows held
+of_them which system log later before after p _ follows held = follows held
 
 -- one that waits is held as the log says
 abbrev pub WaitsAs : System → List Entry → List Post → Pid → Held → Type 0
-WaitsAs system log queue p (Runs process) = ⊤
-WaitsAs system log queue p (Rolls process counts births) = ⊤
 WaitsAs system log queue p (Waits waiting) = IsHeldAs system log queue p (Waits waiting)
+WaitsAs system log queue p _ = ⊤
 
 pub told_waits : (system : System) (log : List Entry) (queue : List Post) (p : Pid) (h : Held) → IsHeldAs system log queue p h → WaitsAs system log queue p h
-told_waits system log queue p (Runs process) held = tt
-told_waits system log queue p (Rolls process counts births) held = tt
 told_waits system log queue p (Waits waiting) held = held
+told_waits system log queue p _ held = tt
 
 pub waits_as : (which : Pid → Bool) (system : System) (log : List Entry) (queue : List Post) (p : Pid) (h : Held) → HeldOf which system log queue p h → WaitsAs system log queue p h
-waits_as which system log queue p (Runs process) held = tt
-waits_as which system log queue p (Rolls process counts births) held = tt
 waits_as which system log queue p (Waits waiting) held = held
+waits_as which system log queue p _ held = tt
 
 -- each process at home here that has not ended stands here once, and those as the log and the queue say
 pub record HoldsThem (which : Pid → Bool) (system : System) (log : List Entry) (c : ClusterView) : Type 0 where

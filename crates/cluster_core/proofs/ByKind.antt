@@ -63,18 +63,15 @@ abbrev pub OneOf : What → Type 0
 OneOf w = (tells_or_closes w ≡ true) ⊎ (is_of_page w ≡ true) ⊎ IsLoss w ⊎ (is_of_sync w ≡ true) ⊎ IsBirth w
 
 pub kind_is : (w : What) → is_built w ≡ true → OneOf w
-kind_is (Mail at letter) built = inl refl
-kind_is (Exit pid at end) built = inl refl
 kind_is (Fetch pid index) built = inr (inl refl)
 kind_is (PageIs pid index bytes) built = inr (inl refl)
 kind_is (Crash k cause) built = inr (inr (inl (record { lost = k; cause = cause; same = refl })))
-kind_is (Done rests) built = inl refl
-kind_is Stop built = inl refl
 kind_is (Birth parent at child end) built = inr (inr (inr (inr (record { parent = parent; at = at; child = child; end = end; same = refl }))))
 kind_is (Page pid at index bytes) built = inr (inr (inr (inl refl)))
 kind_is (Sync pid small read took) built = inr (inr (inr (inl refl)))
 kind_is (Return k) built = absurd (true≢false (sym built))
 kind_is (Rebackup to fresh recs) built = absurd (true≢false (sym built))
+kind_is _ built = inl refl
 
 -- what is sent alone tells, or is of a page
 pub lone_is : (w : What) → is_lone w ≡ true → (tells_or_closes w ≡ true) ⊎ (is_of_page w ≡ true)

@@ -38,8 +38,7 @@ comes_acts limits (Runs p) comes = by_due (is_due limits p) comes
     by_due : (b : Bool) → (b || is_exit (next_step (state_of p))) ≡ true → (has_step (next_step (state_of p)) || b) ≡ true
     by_due true comes = or_right (has_step (next_step (state_of p))) true refl
     by_due false comes = or_left (has_step (next_step (state_of p))) false (exit_has (next_step (state_of p)) comes)
-comes_acts limits (Rolls p counts births) comes = absurd (true≢false (sym comes))
-comes_acts limits (Waits waiting) comes = absurd (true≢false (sym comes))
+comes_acts limits _ comes = absurd (true≢false (sym comes))
 
 -- one that has just synchronised is due only where it was
 due_still : (limits : Limits) (p : Process) → is_due limits (synced p) ≡ true → is_due limits p ≡ true

@@ -52,8 +52,7 @@ no_end_of letter to tty here is = (λ i. map (λ (e : Pid × Held). cond (is_end
 -- one that lacks a page still when a letter came lacked it before
 pub arrived_lacks : (h : Held) (letter : Letter) → page_lacked (arrived_held h letter) ≡ page_lacked h
 arrived_lacks (Runs p) letter = refl
-arrived_lacks (Rolls p counts births) letter = refl
-arrived_lacks (Waits waiting) letter = refl
+arrived_lacks _ letter = refl
 
 -- where the letter was refused nothing has changed
 pub still_lacks : (was now : Held) (letter : Letter) (r : Result (Unit {0}) NoMemory) → OnOk r (now ≡ arrived_held was letter) → OnErr r (now ≡ was) → is_some (page_lacked now) ≡ true → is_some (page_lacked was) ≡ true
@@ -85,7 +84,6 @@ going_on_lacks w some = by_tests (is_whole w) (rolling_of w) some
 
 -- one that lacks a page still when one came lacked it before
 pub come_lacks : (i : ℕ) (bytes : List ℕ) (h : Held) → is_some (page_lacked (page_held i bytes h)) ≡ true → is_some (page_lacked h) ≡ true
-come_lacks i bytes (Runs p) some = some
-come_lacks i bytes (Rolls p counts births) some = some
 come_lacks i bytes (Waits w) some =
     ap (λ n. is_some (cond (ltb w.asked n) (Some w.asked) None)) (sym (length-set w.come i (Some bytes))) ∙ going_on_lacks (with_page i bytes w) some
+come_lacks i bytes _ some = some

@@ -40,9 +40,8 @@ pub record LacksAt (h : Held) (index : ℕ) : Type 0 where
   pub next : next_page waiting ≡ Some index
 
 pub who_lacks : (h : Held) (index : ℕ) → page_lacked h ≡ Some index → LacksAt h index
-who_lacks (Runs s) index lacks = cc
-who_lacks (Rolls s counts births) index lacks = cc
 who_lacks (Waits waiting) index lacks = record { waiting = waiting; is = refl; next = lacks }
+who_lacks _ index lacks = cc
 
 numbers_turned : (m n : ℕ) → eqb m n ≡ eqb n m
 numbers_turned m n = grind (arith, nat_tests)
@@ -75,10 +74,9 @@ module _ (c : ClusterView) (p : Pid) (index : ℕ) (waiting : WaitingState) (emp
   others log q h other held = by_held h (subst (λ queue. IsHeldAs c.system log queue q h) empty held)
     where
       by_held : (h : Held) → IsHeldAs c.system log [] q h → IsHeldAs c.system log (fetch_post c.number p index ∷ []) q h
-      by_held (Runs s) held = held
-      by_held (Rolls s counts births) held = held
       by_held (Waits w) held =
           (refl, so_alike c.system log q none_queued (is_fetch_queued q (fetch_post c.number p index ∷ [])) w (λ i. sym (fetch_elsewhere c.number p q index i (turned p q other))) held.1)
+      by_held _ held = held
 
   module _ (valid : is_system c.system ≡ true) (log : List Entry) (go : IsOpen BuiltMayFollow c.system log) (f : FollowsBuilt c.system log c) where
     -- it waits as the log says

@@ -29,22 +29,12 @@ use Rattle.cluster_core.specs.Work.{is_first_server}
 -- ---- an entry
 
 pub same_pager : (w : What) (places : Places) → is_built w ≡ true → (placed_after places w).pager ≡ places.pager
-same_pager (Mail at letter) places built = refl
 same_pager (Birth parent at child end) places built = by_parent (placed_at places parent)
   where
     by_parent : (o : Option Placed) → (with_birth places child o).pager ≡ places.pager
     by_parent None = refl
     by_parent (Some q) = refl
-same_pager (Exit pid at end) places built = refl
-same_pager (Page pid at index bytes) places built = refl
-same_pager (Sync pid small read took) places built = refl
-same_pager (Fetch pid index) places built = refl
-same_pager (PageIs pid index bytes) places built = refl
-same_pager (Crash k cause) places built = refl
-same_pager (Return k) places built = refl
-same_pager (Rebackup to fresh recs) places built = refl
-same_pager (Done rests) places built = refl
-same_pager Stop places built = refl
+same_pager _ places built = refl
 
 abbrev was_never : Option ClusterPlace → Bool
 was_never o = option_map_or (λ (c : ClusterPlace). not c.was_lost) o false
@@ -71,13 +61,7 @@ pub record NeverBefore (places : Places) (w : What) (k : ClusterNo) : Type 0 whe
   pub no_loss : is_crash_of k w ≡ false
 
 never_before : (w : What) (places : Places) (k : ClusterNo) → is_built w ≡ true → never_lost (placed_after places w) k ≡ true → NeverBefore places w k
-never_before (Mail at letter) places k built never = record { before = never; no_loss = refl }
 never_before (Birth parent at child end) places k built never = record { before = sym (birth_keeps (λ (c : ClusterPlace). not c.was_lost) (λ c. refl) places child (placed_at places parent) k) ∙ never; no_loss = refl }
-never_before (Exit pid at end) places k built never = record { before = never; no_loss = refl }
-never_before (Page pid at index bytes) places k built never = record { before = never; no_loss = refl }
-never_before (Sync pid small read took) places k built never = record { before = never; no_loss = refl }
-never_before (Fetch pid index) places k built never = record { before = never; no_loss = refl }
-never_before (PageIs pid index bytes) places k built never = record { before = never; no_loss = refl }
 never_before (Crash j cause) places k built never = by_number (eqb j.0 k.0) refl
   where
     by_number : (b : Bool) → eqb j.0 k.0 ≡ b → NeverBefore places (Crash j cause) k
@@ -87,8 +71,7 @@ never_before (Crash j cause) places k built never = by_number (eqb j.0 k.0) refl
     by_number false apart = record { before = ap was_never (sym (lost_other places.clusters j.0 k.0 apart)) ∙ never; no_loss = apart }
 never_before (Return j) places k built never = absurd (true≢false (sym built))
 never_before (Rebackup to fresh recs) places k built never = absurd (true≢false (sym built))
-never_before (Done rests) places k built never = record { before = never; no_loss = refl }
-never_before Stop places k built never = record { before = never; no_loss = refl }
+never_before _ places k built never = record { before = never; no_loss = refl }
 
 -- ---- a log
 

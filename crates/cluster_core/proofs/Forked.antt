@@ -22,8 +22,7 @@ use Rattle.cluster_core.proofs.Slots.{nobody_held, one_key, process_there, writt
 -- one that forks lacks no page that it did not lack before
 fork_lacks : (child : Pid) (was now : Held) (born : Option Process) → HasForked child was born now → is_some (page_lacked now) ≡ true → is_some (page_lacked was) ≡ true
 fork_lacks child (Runs p) now born f some = absurd (true≢false (sym some ∙ ap (λ (h : Held). is_some (page_lacked h)) f.1))
-fork_lacks child (Rolls p counts births) now born f some = ap (λ (h : Held). is_some (page_lacked h)) (sym f.1) ∙ some
-fork_lacks child (Waits waiting) now born f some = ap (λ (h : Held). is_some (page_lacked h)) (sym f.1) ∙ some
+fork_lacks child _ now born f some = ap (λ (h : Held). is_some (page_lacked h)) (sym f.1) ∙ some
 
 pub still_lacks_forked : (child : Pid) (was now : Held) (r : Result (Option Process) NoMemory) → IfOk r (λ born. HasForked child was born now) → OnErr r (now ≡ was) → is_some (page_lacked now) ≡ true → is_some (page_lacked was) ≡ true
 still_lacks_forked child was now (Ok born) forks same some = fork_lacks child was now born forks some
@@ -49,8 +48,7 @@ module _ (limits : Limits) (slots new : Slab Held) (n key : ℕ) (keys : List (�
     where
       by_held : (h : Held) → was ≡ h → HasForked child h born now → ForksFrom (pid_of n) child old (Some h) born (stands_in new keys)
       by_held (Runs p) at f = (f.0, changed (Runs (forked p child)) f.1)
-      by_held (Rolls p counts births) at f = (f.0, stays (f.1 ∙ sym at))
-      by_held (Waits waiting) at f = (f.0, stays (f.1 ∙ sym at))
+      by_held _ at f = (f.0, stays (f.1 ∙ sym at))
 
   pub forks_at : (child : Pid) (r : Result (Option Process) NoMemory) → IfOk r (λ born. HasForked child was born now) → IfOk r (λ born. ForksAt (pid_of n) child old born (stands_in new keys))
   forks_at child (Ok born) f = forks_so child born f
@@ -79,8 +77,7 @@ borne p child old born new f = by_found (held_of old p) refl f
     by_found : (o : Option Held) → held_of old p ≡ o → ForksFrom p child old o (Some born) new → Borne p child old born new
     by_found None there f = let none : Some born ≡ None = f.0 in cc
     by_found (Some (Runs process)) there f = record { process = process; there = there; born_is = let one : Some born ≡ Some (newborn process child) = f.0 in cc; new_is = f.1 }
-    by_found (Some (Rolls process counts births)) there f = let none : Some born ≡ None = f.0 in cc
-    by_found (Some (Waits waiting)) there f = let none : Some born ≡ None = f.0 in cc
+    by_found (Some _) there f = let none : Some born ≡ None = f.0 in cc
 
 any_pids : (p : Pid) (here : List (Pid × Held)) → list_any (λ (e : Pid × Held). same_pid e.0 p) here ≡ list_any (λ n. eqb n p.0) (pids_in here)
 any_pids p [] = refl

@@ -48,20 +48,18 @@ going_bears process counts (b ∷ bs) c = refl
 
 -- one that begins where it waited has those of its record to make, as before
 begun_bears : (process : Process) (child c : Pid) (was : Held) → ((w : WaitingState) → was ≡ Waits w → list_any (same_pid c) (w.kept).births ≡ true) → has_to_bear c (begun_with (newborn process child) was) ≡ has_to_bear c was
-begun_bears process child c (Runs s) among = refl
-begun_bears process child c (Rolls s counts births) among = refl
 begun_bears process child c (Waits w) among = by_state (is_none (w.kept).state)
   where
     by_state : (b : Bool) → has_to_bear c (cond b (going_held (with_mail_of w.kept (newborn process child)) (w.kept).counts (w.kept).births) (Waits w)) ≡ true
     by_state true = going_bears (with_mail_of w.kept (newborn process child)) (w.kept).counts (w.kept).births c ∙ among w refl
     by_state false = refl
+begun_bears process child c _ among = refl
 
 -- where its record has no state it waits no more
 begun_waits : (process : Process) (child : Pid) (was : Held) → ((w : WaitingState) → was ≡ Waits w → (w.kept).state ≡ None) → is_waiting (begun_with (newborn process child) was) ≡ false
-begun_waits process child (Runs s) none = refl
-begun_waits process child (Rolls s counts births) none = refl
 begun_waits process child (Waits w) none =
     ap (λ (o : Option SmallState). is_waiting (cond (is_none o) (going_held (with_mail_of w.kept (newborn process child)) (w.kept).counts (w.kept).births) (Waits w))) (none w refl) ∙ going_waits (with_mail_of w.kept (newborn process child)) (w.kept).counts (w.kept).births
+begun_waits process child _ none = refl
 
 module _ (system : System) (log : List Entry) (p : Pid) (process : Process) (counts : Counts) (child : Pid) (births : List Pid) (here : List (Pid × Held)) (valid : is_system system ≡ true) (legal : IsLegalBy Stands system log) (unended : IsUnended system log p)
     (behind : RollsBehind system log p (state_of process) counts (child ∷ births)) (there : held_of here p ≡ Some (Rolls process counts (child ∷ births))) (held : (q : Pid) (h : Held) → held_of here q ≡ Some h → IsHeldAs system log [] q h) where

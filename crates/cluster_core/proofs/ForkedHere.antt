@@ -84,13 +84,12 @@ begun_once parent child process counts births = by_left (nothing_left counts bir
 
 -- what holds of a process, and of one that begins where it waits without a state in its record, holds where that has begun
 pub kept_at_begin : (Holds : Held → Type 0) (parent : Process) (child : Pid) (h : Held) → Holds h → ((w : WaitingState) → h ≡ Waits w → (w.kept).state ≡ None → Holds (going_held (with_mail_of w.kept (newborn parent child)) (w.kept).counts (w.kept).births)) → Holds (begun_with (newborn parent child) h)
-kept_at_begin Holds parent child (Runs s) holds begins = holds
-kept_at_begin Holds parent child (Rolls s counts births) holds begins = holds
 kept_at_begin Holds parent child (Waits w) holds begins = by_state (w.kept).state refl
   where
     by_state : (o : Option SmallState) → (w.kept).state ≡ o → Holds (cond (is_none o) (going_held (with_mail_of w.kept (newborn parent child)) (w.kept).counts (w.kept).births) (Waits w))
     by_state None none = begins w refl none
     by_state (Some small) stated = holds
+kept_at_begin Holds parent child _ holds begins = holds
 
 -- ---- all that are here
 
@@ -151,19 +150,17 @@ module _ (p : Pid) (process : Process) (counts : Counts) (child : Pid) (births :
 
 -- the state in the record of one that waits
 abbrev state_kept : Held → Option SmallState
-state_kept (Runs p) = None
-state_kept (Rolls p counts births) = None
 state_kept (Waits w) = (w.kept).state
+state_kept _ = None
 
 -- one that has begun waits no more without a state in its record
 begun_stated : (process : Process) (child : Pid) (was : Held) (w : WaitingState) → Waits w ≡ begun_with (newborn process child) was → (w.kept).state ≡ None → ⊥
-begun_stated process child (Runs s) w is none = true≢false (ap is_waiting is)
-begun_stated process child (Rolls s counts births) w is none = true≢false (ap is_waiting is)
 begun_stated process child (Waits v) w is none = by_state (v.kept).state refl is
   where
     by_state : (o : Option SmallState) → (v.kept).state ≡ o → Waits w ≡ cond (is_none o) (going_held (with_mail_of v.kept (newborn process child)) (v.kept).counts (v.kept).births) (Waits v) → ⊥
     by_state None stateless same = true≢false (ap is_waiting same ∙ going_waits (with_mail_of v.kept (newborn process child)) (v.kept).counts (v.kept).births)
     by_state (Some small) stated same = let both : Some small ≡ None = sym stated ∙ sym (ap state_kept same) ∙ none in cc
+begun_stated process child _ w is none = true≢false (ap is_waiting is)
 
 -- where one changed that does not wait then, whoever could begin again can do so
 pub begins_beside : (p : Pid) (now : Held) (here : List (Pid × Held)) (s : ProcState) (q : Pid) → is_waiting now ≡ false → CanBeginAgain here s q → CanBeginAgain (with_changed p now here) s q

@@ -40,14 +40,12 @@ pub same_forks : (h : Held) → SameForks h h
 same_forks h = record { waits = refl; bears = λ child. refl }
 
 pub asked_forks : (h : Held) → SameForks h (asked_held h)
-asked_forks (Runs p) = same_forks (Runs p)
-asked_forks (Rolls p counts births) = same_forks (Rolls p counts births)
 asked_forks (Waits w) = record { waits = refl; bears = λ child. refl }
+asked_forks held = same_forks held
 
 arrived_forks : (h : Held) (letter : Letter) → SameForks h (arrived_held h letter)
 arrived_forks (Runs p) letter = record { waits = refl; bears = λ child. refl }
-arrived_forks (Rolls p counts births) letter = record { waits = refl; bears = λ child. refl }
-arrived_forks (Waits w) letter = record { waits = refl; bears = λ child. refl }
+arrived_forks _ letter = record { waits = refl; bears = λ child. refl }
 
 -- ---- a turn
 

@@ -94,11 +94,10 @@ module _ (system : System) (valid : is_system system ≡ true) (log : List Entry
   child_stays child was held none = by_page (λ w. what e ≡ w → is_waiting (page_at w child was) ≡ is_waiting was) (λ pid index is. refl) (λ pid index bytes is. by_pid pid index bytes is (same_pid pid child) refl) (what e) of refl
     where
       by_held : (index : ℕ) (bytes : List ℕ) → what e ≡ PageIs child index bytes → (was : Held) → WaitsAs system log queue child was → is_waiting (page_held index bytes was) ≡ is_waiting was
-      by_held index bytes is (Runs p) held = refl
-      by_held index bytes is (Rolls p counts births) held = refl
       by_held index bytes is (Waits w) held =
           let waits = page_for system log e child index bytes (is_fetch_queued child queue) w legal is held.1 in
           absurd (true≢false (sym (moved_stated system log child (built_stands system log before) waits.moved) ∙ none))
+      by_held index bytes is _ held = refl
 
       by_pid : (pid : Pid) (index : ℕ) (bytes : List ℕ) → what e ≡ PageIs pid index bytes → (b : Bool) → same_pid pid child ≡ b → is_waiting (cond b (page_held index bytes was) was) ≡ is_waiting was
       by_pid pid index bytes is true own = by_held index bytes (is ∙ ap (λ q. PageIs q index bytes) (pid_same pid child (eqb-true pid.0 child.0 own))) was held
@@ -109,9 +108,8 @@ module _ (system : System) (valid : is_system system ≡ true) (log : List Entry
   parent_stays parent child was among = by_page (λ w. has_to_bear child (page_at w parent was) ≡ has_to_bear child was) (λ pid index. refl) (λ pid index bytes. by_pid index bytes (same_pid pid parent)) (what e) of
     where
       by_held : (index : ℕ) (bytes : List ℕ) (h : Held) → was ≡ h → has_to_bear child (page_held index bytes h) ≡ has_to_bear child h
-      by_held index bytes (Runs p) is = refl
-      by_held index bytes (Rolls p counts births) is = refl
       by_held index bytes (Waits w) is = bears_going_on (with_page index bytes w) child (among w is)
+      by_held index bytes _ is = refl
 
       by_pid : (index : ℕ) (bytes : List ℕ) (b : Bool) → has_to_bear child (cond b (page_held index bytes was) was) ≡ has_to_bear child was
       by_pid index bytes true = by_held index bytes was refl

@@ -201,18 +201,11 @@ module _ (c : ClusterView) (log : List Entry) (e : Entry) (server : Option Pager
   -- it is another cluster that an entry loses
   asks_stay : (t : ClusterPlace → Bool) → ((c : ClusterPlace) → t (raised_serial c) ≡ t c) → (w : What) → is_built w ≡ true → is_crash_of k w ≡ false
       → option_map_or t (slice_get (placed_after places w).clusters k.0) false ≡ option_map_or t (slice_get places.clusters k.0) false
-  asks_stay t same (Mail at letter) is other = refl
   asks_stay t same (Birth parent at child end) is other = birth_keeps t same places child (placed_at places parent) k
-  asks_stay t same (Exit pid at end) is other = refl
-  asks_stay t same (Page pid at index bytes) is other = refl
-  asks_stay t same (Sync pid small read took) is other = refl
-  asks_stay t same (Fetch pid index) is other = refl
-  asks_stay t same (PageIs pid index bytes) is other = refl
   asks_stay t same (Crash lost cause) is other = ap (λ o. option_map_or t o false) (lost_other places.clusters lost.0 k.0 other)
   asks_stay t same (Return j) is other = absurd (true≢false (sym is))
   asks_stay t same (Rebackup to fresh more) is other = absurd (true≢false (sym is))
-  asks_stay t same (Done rests) is other = refl
-  asks_stay t same Stop is other = refl
+  asks_stay t same _ is other = refl
 
   asked_later : (t : ClusterPlace → Bool) → ((c : ClusterPlace) → t (raised_serial c) ≡ t c)
       → option_map_or t (slice_get (placement c.system later).clusters k.0) false ≡ option_map_or t (slice_get places.clusters k.0) false
@@ -340,7 +333,6 @@ module _ (c : ClusterView) (log : List Entry) (e : Entry) (server : Option Pager
           ∙ sym (concerns_alike c.system k c.places places (f.log).places (child, parent))
 
   family_kept : (w : What) → what e ≡ w → is_built w ≡ true → is_crash_of k w ≡ false → Kept w
-  family_kept (Mail at letter) is kind other = alike_here (Mail at letter) is refl (λ b. refl)
   family_kept (Birth parent at child end) is kind other = birth_kept parent at child end is
   family_kept (Exit pid at end) is kind other =
       ap (filter (λ (b : Pid × Pid). not (same_pid b.1 pid))) f.family
@@ -348,19 +340,15 @@ module _ (c : ClusterView) (log : List Entry) (e : Entry) (server : Option Pager
       (λ b apart. ap (λ ps. concerns ps k b) (there (Exit pid at end) is)
       ∙ ap (λ o. option_map_or of_here o false) (unended_exit pid b.1 places.placed (λ same. true≢false (sym (eq-eqb (b.1).0 pid.0 same) ∙ apart))))
       ∙ ap (filter (concerns (placement c.system later) k)) (sym (ended_goes c.system log e pid at end is))
-  family_kept (Page pid at index bytes) is kind other = alike_here (Page pid at index bytes) is refl (λ b. refl)
   family_kept (Sync pid small read took) is kind other =
       ap (filter (λ (b : Pid × Pid). not (same_pid b.1 pid))) f.family
       ∙ without_child (concerns places k) (concerns (placement c.system later) k) pid (unsynced_births c.system log) (λ b apart. ap (λ ps. concerns ps k b) (there (Sync pid small read took) is)
       ∙ sync_keeps_concerns places k pid small read took b)
       ∙ ap (filter (concerns (placement c.system later) k)) (sym (synced_goes c.system log e pid small read took is))
-  family_kept (Fetch pid index) is kind other = alike_here (Fetch pid index) is refl (λ b. refl)
-  family_kept (PageIs pid index bytes) is kind other = alike_here (PageIs pid index bytes) is refl (λ b. refl)
   family_kept (Crash lost cause) is kind other = alike_here (Crash lost cause) is refl (loss_concerns lost cause other)
   family_kept (Return j) is kind other = absurd (true≢false (sym kind))
   family_kept (Rebackup to fresh more) is kind other = absurd (true≢false (sym kind))
-  family_kept (Done rests) is kind other = alike_here (Done rests) is refl (λ b. refl)
-  family_kept Stop is kind other = alike_here Stop is refl (λ b. refl)
+  family_kept w is kind other = alike_here w is refl (λ b. refl)
 
   -- ---- the whole
 

@@ -169,8 +169,7 @@ arrival_within limits w p h tells within = by_kind (λ w. IsHeldWithin limits (a
   where
     by_held : (letter : Letter) (h : Held) → IsHeldWithin limits h → IsHeldWithin limits (arrived_held h letter)
     by_held letter (Runs s) within = within
-    by_held letter (Rolls s counts births) within = tt
-    by_held letter (Waits waiting) within = tt
+    by_held letter _ within = tt
 
     by_end : (letter : Letter) (b : Bool) → IsHeldWithin limits (cond b (arrived_held h letter) h)
     by_end letter true = by_held letter h within

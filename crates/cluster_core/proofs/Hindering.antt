@@ -76,8 +76,7 @@ module _ (c : ClusterView) (valid : is_system c.system ≡ true) (some : Follows
           let child = home_found (placement c.system some.log) x c.number (home.placed).home (lives_with_parent c.system some.log p x valid legal among ∙ ap (option_map (λ (q : Placed). q.home)) home.found) home.home in
           let held = held_at_home (placement c.system some.log) c.number c.here x (f.processes).each_once child in
           by_child process held.0 at held.1
-      by_held (Rolls q counts births) at runs = absurd (true≢false (sym runs))
-      by_held (Waits w) at runs = absurd (true≢false (sym runs))
+      by_held _ at runs = absurd (true≢false (sym runs))
 
       by_parent : (o : Option Held) → held_at c p ≡ o → option_map_or is_running o false ≡ true → runs_at c.here x ≡ true
       by_parent None at runs = absurd (true≢false (sym runs))
@@ -92,8 +91,7 @@ module _ (c : ClusterView) (valid : is_system c.system ≡ true) (some : Follows
     where
       runs : (h : Held) → comes_after_children limits h ≡ true → is_running h ≡ true
       runs (Runs process) comes = refl
-      runs (Rolls process counts births) comes = absurd (true≢false (sym comes))
-      runs (Waits w) comes = absurd (true≢false (sym comes))
+      runs _ comes = absurd (true≢false (sym comes))
 
   unhindered : (p : Pid) → is_hindered limits c.family c.here p ≡ false
   unhindered p = by_child (child_before limits c.family c.here p) refl

@@ -18,17 +18,15 @@ use Rattle.cluster_core.proofs.RollingParts.{fork_there}
 
 -- what is held can make its forks again among these, where it rolls forward
 abbrev ForksOn : List (Pid × Held) → Held → Type 0
-ForksOn here (Runs p) = Unit {0}
 ForksOn here (Rolls p counts births) = (n : ℕ) → AtForks (CanBeginAgain here) n (state_of p) counts births
-ForksOn here (Waits w) = Unit {0}
+ForksOn here _ = Unit {0}
 
 on_there : (here : List (Pid × Held)) (p : Pid) (h : Held) → held_of here p ≡ Some h → ForksOn here h → CanForkAgainAt here p
 on_there here p h there on process counts births at = subst (ForksOn here) (some_same h (Rolls process counts births) (sym there ∙ at)) on
 
 on_less : (old new : List (Pid × Held)) (h : Held) → ((s : ProcState) (q : Pid) → CanBeginAgain old s q → CanBeginAgain new s q) → ForksOn old h → ForksOn new h
-on_less old new (Runs p) less on = tt
 on_less old new (Rolls p counts births) less on = λ n. at_forks_less (CanBeginAgain old) (CanBeginAgain new) less n (state_of p) counts births (on n)
-on_less old new (Waits w) less on = tt
+on_less old new _ less on = tt
 
 -- after steps
 rolled_on_forks : (old : List (Pid × Held)) (p : Pid) (n : ℕ) (was now : Held) → held_of old p ≡ Some was → RollsTo n was now → CanForkAgainAt old p → ForksOn old now

@@ -187,17 +187,13 @@ birth_known system k child known places (Some r) (Some q) knows found = by_found
 -- what is known before an entry of a kind that is built leads to what is known after it
 pub known_after : (system : System) (k : ClusterNo) (known places : Places) (w : What) → is_built w ≡ true → KnowsPlaces system k known places
     → KnowsPlaces system k (placed_after known w) (placed_after places w)
-known_after system k known places (Mail at letter) built knows = knows
 known_after system k known places (Birth parent at child end) built knows =
     birth_known system k child known places (placed_at known parent) (placed_at places parent) knows
     (found_known system k (λ (q : Placed). same_pid q.pid parent) (λ q. refl) known.placed places.placed knows.placed)
 known_after system k known places (Exit pid at end) built knows =
     record { clusters = knows.clusters; pager = knows.pager; placed = goes_each system k (after_exit pid) (exit_goes system k pid) known.placed places.placed knows.placed }
-known_after system k known places (Page pid at index bytes) built knows = knows
 known_after system k known places (Sync pid small read took) built knows =
     record { clusters = knows.clusters; pager = knows.pager; placed = sync_knows system k pid known.placed places.placed knows.placed }
-known_after system k known places (Fetch pid index) built knows = knows
-known_after system k known places (PageIs pid index bytes) built knows = knows
 known_after system k known places (Crash lost cause) built knows = record {
   clusters = ap (λ cs. changed_at lost.0 lost_cluster (slice_get cs lost.0) cs) knows.clusters;
   pager = knows.pager;
@@ -205,8 +201,7 @@ known_after system k known places (Crash lost cause) built knows = record {
 }
 known_after system k known places (Return j) built knows = absurd (true≢false (sym built))
 known_after system k known places (Rebackup to fresh recs) built knows = absurd (true≢false (sym built))
-known_after system k known places (Done rests) built knows = knows
-known_after system k known places Stop built knows = knows
+known_after system k known places _ built knows = knows
 
 -- ---- the records that move
 

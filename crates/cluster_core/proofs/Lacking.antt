@@ -119,9 +119,8 @@ waits_there here p is = by_found (held_of here p) refl is
   where
     by_found : (o : Option Held) → held_of here p ≡ o → option_map_or is_waiting o false ≡ true → WaitsThere here p
     by_found None there is = absurd (true≢false (sym is))
-    by_found (Some (Runs s)) there is = absurd (true≢false (sym is))
-    by_found (Some (Rolls s counts births)) there is = absurd (true≢false (sym is))
     by_found (Some (Waits w)) there is = record { waiting = w; there = there }
+    by_found (Some _) there is = absurd (true≢false (sym is))
 
 module _ (c : ClusterView) (valid : is_system c.system ≡ true) (empty : c.queue ≡ []) (own : AllOwn c.cursor c.here) (stuck : are_stuck (limits_of c.system) c.here ≡ true) (lacks : any_lacks c.here ≡ false) (log : List Entry)
     (go : IsOpen BuiltMayFollow c.system log) (f : FollowsBuilt c.system log c) where
@@ -183,9 +182,8 @@ waited c valid empty own stuck waits lacks log go f = by_held one.held one.there
     one = found_any is_waiting c.here (pids_apart c log valid go.0 f) waits
 
     by_held : (h : Held) → held_at c one.pid ≡ Some h → is_waiting h ≡ true → waiting_fetches c.system log ≢ []
-    by_held (Runs s) there is = absurd (true≢false (sym is))
-    by_held (Rolls s counts births) there is = absurd (true≢false (sym is))
     by_held (Waits w) there is = fetch_awaited c valid empty own stuck lacks log go f one.pid w there
+    by_held _ there is = absurd (true≢false (sym is))
 
 -- ---- no answer is owed
 

@@ -150,8 +150,7 @@ batch_lightens old new valid f one =
 -- a page that is asked for is no step
 asked_load : (h : Held) → held_load (asked_held h) ≡ held_load h
 asked_load (Runs p) = refl
-asked_load (Rolls p counts births) = refl
-asked_load (Waits waiting) = refl
+asked_load _ = refl
 
 asked_lightens : (old new : ClusterView) → is_system old.system ≡ true → FollowsSome old → QueuesFetch old new → load new ≤ load old
 asked_lightens old new valid f one =

@@ -42,18 +42,10 @@ use Rattle.cluster_core.proofs.Unheard.{page_goes}
 
 -- what is sent changes nothing at once that is no new backup
 head_stays : (c : ClusterView) (w : What) → is_unlost w ≡ true → after_head c w ≡ c
-head_stays c (Mail at letter) unlost = refl
-head_stays c (Birth parent at child end) unlost = refl
-head_stays c (Exit pid at end) unlost = refl
-head_stays c (Page pid at index bytes) unlost = refl
-head_stays c (Sync pid small read took) unlost = refl
-head_stays c (Fetch pid index) unlost = refl
-head_stays c (PageIs pid index bytes) unlost = refl
 head_stays c (Crash lost cause) unlost = absurd (true≢false (sym unlost))
 head_stays c (Return j) unlost = absurd (true≢false (sym unlost))
 head_stays c (Rebackup to fresh recs) unlost = absurd (true≢false (sym unlost))
-head_stays c (Done rests) unlost = refl
-head_stays c Stop unlost = refl
+head_stays c _ unlost = refl
 
 module _ (c : ClusterView) (log : List Entry) (e : Entry) (valid : is_system c.system ≡ true) (now : IsOpen BuiltMayFollow c.system log) (next : IsOpen BuiltMayFollow c.system (log ++ e ∷ []))
     (away : goes_to e.dests c.number ≡ false) (f : FollowsHeard c.system log c) (tried : c.tried ≡ true) (post : Post) (rest : List Post) (queue : c.queue ≡ post ∷ rest)

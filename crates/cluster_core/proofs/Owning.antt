@@ -58,8 +58,7 @@ has_room cursor here own room p h there = by_held h (own_at cursor here p h own 
   where
     by_held : (h : Held) → IsHeldOwn cursor p h → next_number h < 2 ^ 64 - 1
     by_held (Runs s) o = omega (arith, o.arrived, room)
-    by_held (Rolls s counts births) o = omega (arith, o.arrived, room)
-    by_held (Waits waiting) o = omega (arith, o.arrived, room)
+    by_held _ o = omega (arith, o.arrived, room)
 
 -- ---- none of them can move
 
@@ -73,8 +72,7 @@ one_rest limits (Runs s) = alike (has_step (next_step (state_of s))) (can_take (
     alike false true false = refl
     alike false false true = refl
     alike false false false = refl
-one_rest limits (Rolls s counts births) = refl
-one_rest limits (Waits waiting) = refl
+one_rest limits _ = refl
 
 pub settled_rest : (limits : Limits) (here : List (Pid × Held)) → are_at_rest limits here ≡ are_settled limits here
 settled_rest limits [] = refl
@@ -108,8 +106,7 @@ waiting_rests_not limits (e ∷ here) waits = by_held e.1 waits (waiting_rests_n
 
     by_held : (h : Held) → (is_waiting h || any_waits here) ≡ true → (any_waits here ≡ true → are_at_rest limits here ≡ false) → (is_at_rest limits h && are_at_rest limits here) ≡ false
     by_held (Runs s) waits more = ap (λ b. is_at_rest limits (Runs s) && b) (more waits) ∙ none_of (is_at_rest limits (Runs s))
-    by_held (Rolls s counts births) waits more = refl
-    by_held (Waits waiting) waits more = refl
+    by_held _ waits more = refl
 
 -- ---- a turn
 
@@ -179,14 +176,13 @@ own_changed cursor pid now (e ∷ here) own mine = (by_test (same_pid e.0 pid), 
 -- ---- an entry
 
 one_later : (cursor : ℕ) (pid : Pid) (h : Held) → IsHeldOwn cursor pid h → IsHeldOwn (cursor + 1) pid h
-one_later cursor pid (Runs s) own = record { pid_is = own.pid_is; arrived = omega (arith, own.arrived) }
-one_later cursor pid (Rolls s counts births) own = record { pid_is = own.pid_is; arrived = omega (arith, own.arrived) }
 one_later cursor pid (Waits waiting) own = record {
   pid_is = own.pid_is;
   state = own.state;
   arrived = omega (arith, own.arrived);
   lacks = own.lacks;
 }
+one_later cursor pid _ own = record { pid_is = own.pid_is; arrived = omega (arith, own.arrived) }
 
 pub own_later : (cursor : ℕ) (here : List (Pid × Held)) → AllOwn cursor here → AllOwn (cursor + 1) here
 own_later cursor [] own = tt
@@ -256,9 +252,8 @@ own_going_on cursor pid w o state_is small_is pid_is arrived =
         by_whole false lacks = waits_on (Some small) is own (λ some. lacks)
 
 one_page : (cursor : ℕ) (pid : Pid) (i : ℕ) (bytes : List ℕ) (h : Held) → IsHeldOwn cursor pid h → IsHeldOwn cursor pid (page_held i bytes h)
-one_page cursor pid i bytes (Runs s) own = own
-one_page cursor pid i bytes (Rolls s counts births) own = own
 one_page cursor pid i bytes (Waits waiting) own = own_going_on cursor pid (with_page i bytes waiting) (waiting.kept).state refl own.state own.pid_is own.arrived
+one_page cursor pid i bytes _ own = own
 
 pub own_page : (cursor : ℕ) (p : Pid) (i : ℕ) (bytes : List ℕ) (here : List (Pid × Held)) → AllOwn cursor here → AllOwn cursor (with_page_come p i bytes here)
 own_page cursor p i bytes [] own = tt
@@ -271,6 +266,5 @@ own_page cursor p i bytes (e ∷ here) own = (by_test (same_pid e.0 p), own_page
 -- ---- a page is asked for
 
 pub own_asked : (cursor : ℕ) (pid : Pid) (h : Held) → IsHeldOwn cursor pid h → IsHeldOwn cursor pid (asked_held h)
-own_asked cursor pid (Runs s) own = own
-own_asked cursor pid (Rolls s counts births) own = own
 own_asked cursor pid (Waits waiting) own = record { pid_is = own.pid_is; state = own.state; arrived = own.arrived; lacks = own.lacks }
+own_asked cursor pid _ own = own

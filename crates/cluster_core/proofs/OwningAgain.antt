@@ -21,13 +21,12 @@ own_going cursor pid p counts births own = by_left (nothing_left counts births)
     by_left false = own
 
 own_begun : (cursor : ℕ) (pid child : Pid) (process : Process) (h : Held) → child ≡ pid → IsHeldOwn cursor pid h → IsHeldOwn cursor pid (begun_with (newborn process child) h)
-own_begun cursor pid child process (Runs p) same own = own
-own_begun cursor pid child process (Rolls p counts births) same own = own
 own_begun cursor pid child process (Waits w) same own = by_none (is_none (w.kept).state)
   where
     by_none : (b : Bool) → IsHeldOwn cursor pid (cond b (going_held (with_mail_of w.kept (newborn process child)) (w.kept).counts (w.kept).births) (Waits w))
     by_none true = own_going cursor pid (with_mail_of w.kept (newborn process child)) (w.kept).counts (w.kept).births (record { pid_is = same; arrived = own.arrived })
     by_none false = own
+own_begun cursor pid child process _ same own = own
 
 all_begun : (cursor : ℕ) (child : Pid) (process : Process) (here : List (Pid × Held)) → AllOwn cursor here → AllOwn cursor (with_begun child (newborn process child) here)
 all_begun cursor child process [] own = tt

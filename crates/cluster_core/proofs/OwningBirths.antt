@@ -22,8 +22,7 @@ own_born cursor p child here own = by_found (held_of here p) refl
   where
     by_held : (h : Held) → IsHeldOwn cursor p h → AllOwn cursor (with_fork p child h here)
     by_held (Runs process) mine = own_more cursor child (Runs (newborn process child)) _ (own_newborn cursor child process) (own_changed cursor p (Runs (forked process child)) here own (own_forked cursor p child process mine))
-    by_held (Rolls process counts births) mine = own
-    by_held (Waits waiting) mine = own
+    by_held _ mine = own
 
     by_found : (o : Option Held) → held_of here p ≡ o → AllOwn cursor (option_map_or (λ (h : Held). with_fork p child h here) o here)
     by_found None none = own

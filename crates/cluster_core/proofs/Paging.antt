@@ -238,8 +238,7 @@ module _ (system : System) (valid : is_system system ≡ true) (log : List Entry
   -- so it is for those of which it is asked
   held_of_them : (which : Pid → Bool) (before after : List Post) (p : Pid) (was : Held) → IsUnended system log p → QueuesAlike before after p → HeldOf which system log before p was → HeldOf which system later after p (page_at (what e) p was)
   held_of_them which before after p (Runs s) unended alike held = subst (HeldOf which system later after p) (sym (still_runs p s)) (λ passes. runs_still before after p s alike (held passes))
-  held_of_them which before after p (Rolls s counts births) unended alike held = any_of which system later after p (page_at (what e) p (Rolls s counts births)) (held_after before after p (Rolls s counts births) unended alike held)
-  held_of_them which before after p (Waits waiting) unended alike held = any_of which system later after p (page_at (what e) p (Waits waiting)) (held_after before after p (Waits waiting) unended alike held)
+  held_of_them which before after p h unended alike held = any_of which system later after p (page_at (what e) p h) (held_after before after p h unended alike held)
 
   -- who runs or rolls forward then has its pages
   has_after : (before : List Post) (k : ClusterNo) (p : Pid) (was : Held) → HomeHere (placement system log) p k → WaitsAs system log before p was → (is_some (process_in was) ≡ true → has_its_pages system log p ≡ true) → is_some (process_in (page_at (what e) p was)) ≡ true
@@ -277,9 +276,8 @@ module _ (system : System) (valid : is_system system ≡ true) (log : List Entry
       by_page (λ w. what e ≡ w → MarkedIfThere CarriesMarks system later p (unended_process (page_at w p was))) (λ pid index is. m) (λ pid index bytes is. by_pid pid index bytes is (same_pid pid p) refl) (what e) of refl
     where
       come : (index : ℕ) (bytes : List ℕ) → what e ≡ PageIs p index bytes → (h : Held) → IsHeldAs system log before p h → MarkedIfThere CarriesMarks system later p (unended_process h) → MarkedIfThere CarriesMarks system later p (unended_process (page_held index bytes h))
-      come index bytes is (Runs s) held m = m
-      come index bytes is (Rolls s counts births) held m = m
       come index bytes is (Waits waiting) held m = come_marked system log e before p index bytes waiting valid next.0 unended (unended_later p unended) is held.1
+      come index bytes is _ held m = m
 
       by_pid : (pid : Pid) (index : ℕ) (bytes : List ℕ) → what e ≡ PageIs pid index bytes → (b : Bool) → same_pid pid p ≡ b → MarkedIfThere CarriesMarks system later p (unended_process (cond b (page_held index bytes was) was))
       by_pid pid index bytes is true own = come index bytes (is ∙ ap (λ q. PageIs q index bytes) (pid_same pid p (eqb-true pid.0 p.0 own))) was held m

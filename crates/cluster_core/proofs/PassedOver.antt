@@ -83,9 +83,8 @@ own_upto m n [] order own = tt
 own_upto m n (e ∷ here) order own = (one e.1 own.0, own_upto m n here order own.1)
   where
     one : (h : Held) → IsHeldOwn m e.0 h → IsHeldOwn n e.0 h
-    one (Runs p) o = record { pid_is = o.pid_is; arrived = omega (arith, o.arrived, order) }
-    one (Rolls p counts births) o = record { pid_is = o.pid_is; arrived = omega (arith, o.arrived, order) }
     one (Waits w) o = record { pid_is = o.pid_is; state = o.state; arrived = omega (arith, o.arrived, order); lacks = o.lacks }
+    one _ o = record { pid_is = o.pid_is; arrived = omega (arith, o.arrived, order) }
 
 -- ---- the law
 

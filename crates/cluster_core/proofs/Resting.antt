@@ -65,8 +65,7 @@ apart (n ∷ ns) h = let parts = and_parts (list_all (λ m. ltb n m) ns) (are_ri
 -- what is at rest runs, and is so in each log in which it is found after silent steps
 rest_idle : (system : System) (limits : Limits) (log : List Entry) (p : Pid) (h : Held) → ((s : Process) → h ≡ Runs s → silent_upto system log p (s.small).steps ≡ Some (state_of s)) → is_at_rest limits h ≡ true → is_idle_at system log (p, steps_of_held h) ≡ true
 rest_idle system limits log p (Runs s) there rest = idle_at system log p (state_of s) (there s refl) (and_parts (is_idle (state_of s)) (not (is_due limits s)) rest).0
-rest_idle system limits log p (Rolls s counts births) there rest = absurd (true≢false (sym rest))
-rest_idle system limits log p (Waits waiting) there rest = absurd (true≢false (sym rest))
+rest_idle system limits log p _ there rest = absurd (true≢false (sym rest))
 
 -- each that is at rest here is so in each log that the cluster follows
 each_idle : (c : ClusterView) (log : List Entry) (here : List (Pid × Held)) → ((p : Pid) (s : Process) → held_of here p ≡ Some (Runs s) → silent_upto c.system log p (s.small).steps ≡ Some (state_of s)) → NoTwo (pids_in here)

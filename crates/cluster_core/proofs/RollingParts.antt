@@ -121,9 +121,8 @@ begun_none child born (e ∷ here) rise none = by_test (same_pid e.0 child) refl
         λ i. cond (above_apart (e.0).0 (pids_in rest) child both.1 is (f.0).0 both.0 i) (f.0, begun_with born f.1) f ∷ none_after rest both.1 is i
 
     stays : (h : Held) → waits_for_fork h ≡ false → begun_with born h ≡ h
-    stays (Runs q) none = refl
-    stays (Rolls q counts births) none = refl
     stays (Waits w) none = ap (λ b. cond b (going_held (with_mail_of w.kept born) (w.kept).counts (w.kept).births) (Waits w)) none
+    stays _ none = refl
 
     by_test : (b : Bool) → same_pid e.0 child ≡ b → option_map_or waits_for_fork (option_map (λ (e : Pid × Held). e.1) (cond b (Some e) (find (λ (e : Pid × Held). same_pid e.0 child) here))) false ≡ false → (waits_for_fork_at here child ≡ false → with_begun child born here ≡ here)
         → cond b (e.0, begun_with born e.1) e ∷ with_begun child born here ≡ e ∷ here
@@ -195,9 +194,8 @@ pub rolls_there : (p : Pid) (here : List (Pid × Held)) → rolls_at here p ≡ 
 rolls_there p here rolls = by_found (held_of here p) refl rolls
   where
     by_held : (h : Held) → held_of here p ≡ Some h → is_rolling h ≡ true → RollsThere p here
-    by_held (Runs q) at rolls = absurd (true≢false (sym rolls))
     by_held (Rolls q counts births) at rolls = record { process = q; counts = counts; births = births; there = at }
-    by_held (Waits w) at rolls = absurd (true≢false (sym rolls))
+    by_held _ at rolls = absurd (true≢false (sym rolls))
 
     by_found : (o : Option Held) → held_of here p ≡ o → option_map_or is_rolling o false ≡ true → RollsThere p here
     by_found None at rolls = absurd (true≢false (sym rolls))
@@ -240,9 +238,8 @@ going_unwaiting p counts births = by_left (nothing_left counts births)
 
 -- the child of the next fork of what is held can begin again
 abbrev BeginsAt : List (Pid × Held) → Held → Type 0
-BeginsAt here (Runs q) = Unit {0}
 BeginsAt here (Rolls q counts births) = AtFront (CanBeginAgain here) (state_of q) births
-BeginsAt here (Waits w) = Unit {0}
+BeginsAt here _ = Unit {0}
 
 module _ (p : Pid) (old mid : List (Pid × Held)) (made : Bool) (born : Option Process) (b : BearsAgain made p old born mid) where
   abbrev f : HasForkedAgain made b.was born b.now
@@ -333,9 +330,8 @@ module _ (p : Pid) (old mid : List (Pid × Held)) (made : Bool) (born : Option P
           none_is (Some x) is = absurd (true≢false (sym is))
 
       by_held : (k : Held) → k ≡ h → held_of old child ≡ Some k → waits_for_fork k ≡ true → CanBeginWith (newborn (f.stood).process child) k
-      by_held (Runs x) is at_old waits = absurd (true≢false (sym waits))
-      by_held (Rolls x counts births) is at_old waits = absurd (true≢false (sym waits))
       by_held (Waits w) is at_old waits = (stateless w waits, refl, refl, refl, can w at_old (stateless w waits))
+      by_held _ is at_old waits = absurd (true≢false (sym waits))
 
       by_old : (o : Option Held) → held_of old child ≡ o → option_map_or waits_for_fork o false ≡ true → CanBeginWith q h
       by_old None at_old waits = absurd (true≢false (sym waits))

@@ -56,13 +56,12 @@ forked_again_lacks made was now (Err fault) f same some = ap (λ (h : Held). is_
 
 -- where a child begins
 pub begun_lacks : (born : Process) (h : Held) → is_some (page_lacked (begun_with born h)) ≡ true → is_some (page_lacked h) ≡ true
-begun_lacks born (Runs p) some = some
-begun_lacks born (Rolls p counts births) some = some
 begun_lacks born (Waits w) some = by_state (w.kept).state some
   where
     by_state : {X : Type 0} → (o : Option X) → is_some (page_lacked (cond (is_none o) (going_held (with_mail_of w.kept born) (w.kept).counts (w.kept).births) (Waits w))) ≡ true → is_some (page_lacked (Waits w)) ≡ true
     by_state None some = absurd (false≢true (sym (going_lacks (with_mail_of w.kept born) (w.kept).counts (w.kept).births) ∙ some))
     by_state (Some x) some = some
+begun_lacks born _ some = some
 
 -- ---- what is here
 

@@ -17,9 +17,8 @@ use Rattle.cluster_core.proofs.Working.{held_beside, held_between, limits_beside
 
 -- who makes such steps is no one that waits
 rolled_in : (n : ℕ) (was now : Held) → RollsTo n was now → is_some (process_in was) ≡ true
-rolled_in n (Runs s) now rolls = refl
-rolled_in n (Rolls s counts births) now rolls = refl
 rolled_in n (Waits w) now rolls = absurd rolls
+rolled_in n _ now rolls = refl
 
 pub rolls_again_follows : (c : ClusterView) (log : List Entry) (p : Pid) (n : ℕ) (was now : Held) → is_system c.system ≡ true → c.queue ≡ [] → IsOpen BuiltMayFollow c.system log → FollowsBuilt c.system log c → held_at c p ≡ Some was → 1 ≤ n → RollsTo n was now
     → FollowsBuilt c.system log (record c { here = with_changed p now c.here })

@@ -65,17 +65,7 @@ serial_born places child k (Some q) = by_place (slice_get (with_birth places chi
 
 serial_more : (w : What) (places : Places) (k : ClusterNo) → next_serial_in (placed_after places w) k ≤ next_serial_in places k + length (born w)
 serial_more (Birth parent at child end) places k = omega (arith, serial_born places child k (placed_at places parent))
-serial_more (Mail at letter) places k = omega (arith, serial_kept (Mail at letter) refl places k)
-serial_more (Exit pid at end) places k = omega (arith, serial_kept (Exit pid at end) refl places k)
-serial_more (Page pid at index bytes) places k = omega (arith, serial_kept (Page pid at index bytes) refl places k)
-serial_more (Sync pid small read took) places k = omega (arith, serial_kept (Sync pid small read took) refl places k)
-serial_more (Fetch pid index) places k = omega (arith, serial_kept (Fetch pid index) refl places k)
-serial_more (PageIs pid index bytes) places k = omega (arith, serial_kept (PageIs pid index bytes) refl places k)
-serial_more (Crash j cause) places k = omega (arith, serial_kept (Crash j cause) refl places k)
-serial_more (Return j) places k = omega (arith, serial_kept (Return j) refl places k)
-serial_more (Rebackup to fresh recs) places k = omega (arith, serial_kept (Rebackup to fresh recs) refl places k)
-serial_more (Done rests) places k = omega (arith, serial_kept (Done rests) refl places k)
-serial_more Stop places k = omega (arith, serial_kept Stop refl places k)
+serial_more w places k = omega (arith, serial_kept w refl places k)
 
 numbered_length : (earlier roots : List Root) → length (with_pids earlier roots) ≡ length roots
 numbered_length earlier [] = refl

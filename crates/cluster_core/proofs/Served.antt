@@ -111,18 +111,8 @@ calls_of o = option_map_or (λ (s : PagerState). (s.counts).calls) o 0
 
 -- an entry that brings a page calls the disk once, and no other does
 note_calls : (w : What) (old new : Counts) → CountsAfterNote w old new (Ok tt) → new.calls ≡ cond (is_page_entry w) (one_more old.calls) old.calls
-note_calls (Mail at letter) old new after = ap (λ (c : Counts). c.calls) after
-note_calls (Birth parent at child end) old new after = ap (λ (c : Counts). c.calls) after
-note_calls (Exit pid at end) old new after = ap (λ (c : Counts). c.calls) after
 note_calls (Page pid at index bytes) old new after = after.calls
-note_calls (Sync pid small read took) old new after = ap (λ (c : Counts). c.calls) after
-note_calls (Fetch pid index) old new after = ap (λ (c : Counts). c.calls) after
-note_calls (PageIs pid index bytes) old new after = ap (λ (c : Counts). c.calls) after
-note_calls (Crash k cause) old new after = ap (λ (c : Counts). c.calls) after
-note_calls (Return k) old new after = ap (λ (c : Counts). c.calls) after
-note_calls (Rebackup to fresh recs) old new after = ap (λ (c : Counts). c.calls) after
-note_calls (Done rests) old new after = ap (λ (c : Counts). c.calls) after
-note_calls Stop old new after = ap (λ (c : Counts). c.calls) after
+note_calls _ old new after = ap (λ (c : Counts). c.calls) after
 
 -- so a least number of them rises with them
 least_called : (n before after : ℕ) (b : Bool) → after ≡ cond b (one_more before) before → capped n ≤ before → capped (n + cond b 1 0) ≤ after
@@ -239,18 +229,8 @@ accounts_answered system log c d post a number empty queue f = record {
 
 -- by the calls of an entry that was noted those that fail are still to come, and are the same
 after_note : (w : What) (old new : Counts) → CountsAfterNote w old new (Ok tt) → (IsAhead old → IsAhead new) × (new.failing ≡ old.failing)
-after_note (Mail at letter) old new after = (subst IsAhead (sym after), ap (λ (c : Counts). c.failing) after)
-after_note (Birth parent at child end) old new after = (subst IsAhead (sym after), ap (λ (c : Counts). c.failing) after)
-after_note (Exit pid at end) old new after = (subst IsAhead (sym after), ap (λ (c : Counts). c.failing) after)
 after_note (Page pid at index bytes) old new after = (ahead_passed old new after, after.failing)
-after_note (Sync pid small read took) old new after = (subst IsAhead (sym after), ap (λ (c : Counts). c.failing) after)
-after_note (Fetch pid index) old new after = (subst IsAhead (sym after), ap (λ (c : Counts). c.failing) after)
-after_note (PageIs pid index bytes) old new after = (subst IsAhead (sym after), ap (λ (c : Counts). c.failing) after)
-after_note (Crash k cause) old new after = (subst IsAhead (sym after), ap (λ (c : Counts). c.failing) after)
-after_note (Return k) old new after = (subst IsAhead (sym after), ap (λ (c : Counts). c.failing) after)
-after_note (Rebackup to fresh recs) old new after = (subst IsAhead (sym after), ap (λ (c : Counts). c.failing) after)
-after_note (Done rests) old new after = (subst IsAhead (sym after), ap (λ (c : Counts). c.failing) after)
-after_note Stop old new after = (subst IsAhead (sym after), ap (λ (c : Counts). c.failing) after)
+after_note _ old new after = (subst IsAhead (sym after), ap (λ (c : Counts). c.failing) after)
 
 -- an entry that was taken in leaves the calls that fail to come
 pub ahead_after : (before : Places) (e : Entry) (old new : Option PagerState) → Serves before e old new → IsAheadThere old → IsAheadThere new

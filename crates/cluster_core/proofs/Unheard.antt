@@ -42,13 +42,9 @@ by_unheard P mail page cut fetch come places k lives (Page pid at index bytes) b
 by_unheard P mail page cut fetch come places k lives (Sync pid small read took) built away = cut pid small read took
 by_unheard P mail page cut fetch come places k lives (Fetch pid index) built away = fetch pid index
 by_unheard P mail page cut fetch come places k lives (PageIs pid index bytes) built away = come pid index bytes
-by_unheard P mail page cut fetch come places k lives (Birth parent at child end) built away = absurd (true≢false (sym (all_hear places k lives) ∙ away))
-by_unheard P mail page cut fetch come places k lives (Exit pid at end) built away = absurd (true≢false (sym (all_hear places k lives) ∙ away))
-by_unheard P mail page cut fetch come places k lives (Crash lost cause) built away = absurd (true≢false (sym (all_hear places k lives) ∙ away))
-by_unheard P mail page cut fetch come places k lives (Done rests) built away = absurd (true≢false (sym (all_hear places k lives) ∙ away))
-by_unheard P mail page cut fetch come places k lives Stop built away = absurd (true≢false (sym (all_hear places k lives) ∙ away))
 by_unheard P mail page cut fetch come places k lives (Return j) built away = absurd (true≢false (sym built))
 by_unheard P mail page cut fetch come places k lives (Rebackup to fresh recs) built away = absurd (true≢false (sym built))
+by_unheard P mail page cut fetch come places k lives _ built away = absurd (true≢false (sym (all_hear places k lives) ∙ away))
 
 -- ---- who is at home, and whose backup is here
 

@@ -235,8 +235,7 @@ some_moves limits (e ∷ here) p h there can = by_test (same_pid e.0 p) there (s
 
     moves : (h : Held) → can_act limits h ≡ true → is_at_rest limits h ≡ false
     moves (Runs s) can = busy (has_step (next_step (state_of s))) (can_take (state_of s)) (is_due limits s) can
-    moves (Rolls s counts births) can = refl
-    moves (Waits waiting) can = refl
+    moves _ can = refl
 
     by_test : (b : Bool) → option_map (λ (e : Pid × Held). e.1) (cond b (Some e) (find (λ (e : Pid × Held). same_pid e.0 p) here)) ≡ Some h
         → (held_of here p ≡ Some h → can_act limits h ≡ true → are_at_rest limits here ≡ false) → are_at_rest limits (e ∷ here) ≡ false
@@ -267,9 +266,8 @@ held_beside c log p now queue f mine others q h at = by_pid (same_pid q p) refl
 
 -- who makes steps runs or rolls forward
 runs_in : (m : ℕ) (was now : Held) → RunsTo m was now → is_some (process_in was) ≡ true
-runs_in m (Runs s) now runs = refl
-runs_in m (Rolls s counts births) now runs = refl
 runs_in m (Waits waiting) now runs = absurd runs
+runs_in m _ now runs = refl
 
 -- the others have their pages as before
 pub pages_beside : (c : ClusterView) (log : List Entry) (p : Pid) (now : Held) → HoldsPages c.system log c → (is_some (process_in now) ≡ true → has_its_pages c.system log p ≡ true)

@@ -103,13 +103,7 @@ birth_served places child (Some q) served = (λ i. kept (places.pager).0 i || ke
     kept = birth_keeps (λ (c : ClusterPlace). not c.was_lost) (λ c. refl) places child (Some q)
 
 more_served : (places : Places) (w : What) → is_built w ≡ true → ends_run places w ≡ false → is_served places ≡ true → is_served (placed_after places w) ≡ true
-more_served places (Mail at letter) built goes served = served
 more_served places (Birth parent at child end) built goes served = birth_served places child (placed_at places parent) served
-more_served places (Exit pid at end) built goes served = served
-more_served places (Page pid at index bytes) built goes served = served
-more_served places (Sync pid small read took) built goes served = served
-more_served places (Fetch pid index) built goes served = served
-more_served places (PageIs pid index bytes) built goes served = served
 more_served places (Crash k cause) built goes served = loss_served places k cause (not_not (is_covered places k) goes)
   where
     not_not : (b : Bool) → not b ≡ false → b ≡ true
@@ -117,8 +111,7 @@ more_served places (Crash k cause) built goes served = loss_served places k caus
     not_not false h = absurd (true≢false h)
 more_served places (Return k) built goes served = absurd (true≢false (sym built))
 more_served places (Rebackup to fresh recs) built goes served = absurd (true≢false (sym built))
-more_served places (Done rests) built goes served = served
-more_served places Stop built goes served = served
+more_served places _ built goes served = served
 
 log_served : (system : System) (log : List Entry) → is_system system ≡ true → IsLegalBy BuiltMayFollow system log → is_over system log ≡ false → is_served (placement system log) ≡ true
 log_served system log valid legal =

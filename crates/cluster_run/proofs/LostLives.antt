@@ -76,18 +76,8 @@ ends_with_log log k unlost = by_first (position (λ (e : Entry). is_crash_of k (
 
 -- a crash is not the end of the run
 crash_undone : (k : ClusterNo) (w : What) → is_crash_of k w ≡ true → is_done w ≡ false
-crash_undone k (Mail at letter) h = refl
-crash_undone k (Birth parent at child end) h = refl
-crash_undone k (Exit pid at end) h = refl
-crash_undone k (Page pid at index bytes) h = refl
-crash_undone k (Sync pid small read took) h = refl
-crash_undone k (Fetch pid index) h = refl
-crash_undone k (PageIs pid index bytes) h = refl
-crash_undone k (Crash j cause) h = refl
-crash_undone k (Return j) h = refl
-crash_undone k (Rebackup to fresh recs) h = refl
 crash_undone k (Done rests) h = absurd (true≢false (sym h))
-crash_undone k Stop h = refl
+crash_undone k _ h = refl
 
 -- a life that ends with the run is one of a cluster that was never lost
 pub done_unlost : (log : List Entry) (k : ClusterNo) → ends_at_done log k 0 ≡ true → was_lost_in log k ≡ false
@@ -122,18 +112,8 @@ lost_undone log k lost = by_test (ends_at_done log k 0) refl
 -- ---- by what it ends
 
 no_cause : (k : ClusterNo) (w : What) → is_done w ≡ true → cause_in k w ≡ None
-no_cause k (Mail at letter) h = refl
-no_cause k (Birth parent at child end) h = refl
-no_cause k (Exit pid at end) h = refl
-no_cause k (Page pid at index bytes) h = refl
-no_cause k (Sync pid small read took) h = refl
-no_cause k (Fetch pid index) h = refl
-no_cause k (PageIs pid index bytes) h = refl
 no_cause k (Crash j cause) h = absurd (true≢false (sym h))
-no_cause k (Return j) h = refl
-no_cause k (Rebackup to fresh recs) h = refl
-no_cause k (Done rests) h = refl
-no_cause k Stop h = refl
+no_cause k _ h = refl
 
 done_cause : (k : ClusterNo) (o : Option Entry) → option_map_or (λ (e : Entry). is_done (what e)) o false ≡ true → option_and_then (λ (e : Entry). cause_in k (what e)) o ≡ None
 done_cause k None h = absurd (true≢false (sym h))

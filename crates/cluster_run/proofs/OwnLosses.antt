@@ -85,18 +85,8 @@ abbrev told_by_bus : Entry → Bool
 told_by_bus e = is_bus (e.post).by || not (is_loss (what e))
 
 loss_by_bus : (places : Places) (by : By) (w : What) → is_by_right places by w ≡ true → (is_bus by || not (is_loss w)) ≡ true
-loss_by_bus places by (Mail at letter) h = or_right (is_bus by) true refl
-loss_by_bus places by (Birth parent at child end) h = or_right (is_bus by) true refl
-loss_by_bus places by (Exit pid at end) h = or_right (is_bus by) true refl
-loss_by_bus places by (Page pid at index bytes) h = or_right (is_bus by) true refl
-loss_by_bus places by (Sync pid small read took) h = or_right (is_bus by) true refl
-loss_by_bus places by (Fetch pid index) h = or_right (is_bus by) true refl
-loss_by_bus places by (PageIs pid index bytes) h = or_right (is_bus by) true refl
 loss_by_bus places by (Crash k cause) h = ap (λ t. t || false) h
-loss_by_bus places by (Return k) h = or_right (is_bus by) true refl
-loss_by_bus places by (Rebackup to fresh recs) h = or_right (is_bus by) true refl
-loss_by_bus places by (Done rests) h = or_right (is_bus by) true refl
-loss_by_bus places by Stop h = or_right (is_bus by) true refl
+loss_by_bus places by _ h = or_right (is_bus by) true refl
 
 losses_by_bus : (system : System) (log : List Entry) → IsLegalBy BuiltMayFollow system log → list_all told_by_bus log ≡ true
 losses_by_bus system log legal =
@@ -108,38 +98,17 @@ other_cluster : (k j : ClusterNo) → is_author k.0 (Some j.0) ≡ false → sam
 other_cluster k j none = told_sent k (Cluster j) Stop none
 
 own_told : (k : ClusterNo) (by : By) (w : What) → (is_bus by || not (is_loss w)) ≡ true → is_author k.0 (author by w) ≡ false → is_own_loss k w ≡ false
-own_told k by (Mail at letter) right none = refl
-own_told k by (Birth parent at child end) right none = refl
-own_told k by (Exit pid at end) right none = refl
-own_told k by (Page pid at index bytes) right none = refl
-own_told k by (Sync pid small read took) right none = refl
-own_told k by (Fetch pid index) right none = refl
-own_told k by (PageIs pid index bytes) right none = refl
 own_told k Bus (Crash j Place) right none = refl
 own_told k Bus (Crash j (Step n)) right none = other_cluster k j none
 own_told k Bus (Crash j (Disk n)) right none = other_cluster k j none
 own_told k (Cluster i) (Crash j cause) right none = absurd (true≢false (sym right))
-own_told k by (Return j) right none = refl
-own_told k by (Rebackup to fresh recs) right none = refl
-own_told k by (Done rests) right none = refl
-own_told k by Stop right none = refl
+own_told k by _ right none = refl
 
 -- nor is one that loses another cluster
 own_living : (k : ClusterNo) (w : What) → is_crash_of k w ≡ false → is_own_loss k w ≡ false
-own_living k (Mail at letter) none = refl
-own_living k (Birth parent at child end) none = refl
-own_living k (Exit pid at end) none = refl
-own_living k (Page pid at index bytes) none = refl
-own_living k (Sync pid small read took) none = refl
-own_living k (Fetch pid index) none = refl
-own_living k (PageIs pid index bytes) none = refl
-own_living k (Crash j Place) none = refl
 own_living k (Crash j (Step n)) none = none
 own_living k (Crash j (Disk n)) none = none
-own_living k (Return j) none = refl
-own_living k (Rebackup to fresh recs) none = refl
-own_living k (Done rests) none = refl
-own_living k Stop none = refl
+own_living k _ none = refl
 
 -- what a cluster did not tell, of a legal log from a place on, is no loss of its own
 pub none_own_told : (system : System) (log : List Entry) (n : ℕ) (k : ClusterNo) → IsLegalBy BuiltMayFollow system log → list_any (is_told_by k) (drop n log) ≡ false → list_any (λ (e : Entry). is_own_loss k (what e)) (drop n log) ≡ false
@@ -159,13 +128,6 @@ none_own system log n k legal lives none =
 -- ---- how a life ends where the cluster told no loss
 
 ends_by_other : (k : ClusterNo) (w : What) (c : ClusterView) → is_own_loss k w ≡ false → EndsBy (cause_in k w) c
-ends_by_other k (Mail at letter) c none = tt
-ends_by_other k (Birth parent at child end) c none = tt
-ends_by_other k (Exit pid at end) c none = tt
-ends_by_other k (Page pid at index bytes) c none = tt
-ends_by_other k (Sync pid small read took) c none = tt
-ends_by_other k (Fetch pid index) c none = tt
-ends_by_other k (PageIs pid index bytes) c none = tt
 ends_by_other k (Crash j Place) c none = by_same (same_cluster j k)
   where
     by_same : (b : Bool) → EndsBy (cond b (Some Place) None) c
@@ -181,10 +143,7 @@ ends_by_other k (Crash j (Disk n)) c none = by_same (same_cluster j k) none
     by_same : (b : Bool) → b ≡ false → EndsBy (cond b (Some (Disk n)) None) c
     by_same true is = absurd (true≢false is)
     by_same false is = tt
-ends_by_other k (Return j) c none = tt
-ends_by_other k (Rebackup to fresh recs) c none = tt
-ends_by_other k (Done rests) c none = tt
-ends_by_other k Stop c none = tt
+ends_by_other k _ c none = tt
 
 -- an entry of the log then ends its life by nothing that it has to show
 pub ends_there : (log : List Entry) (k : ClusterNo) (c : ClusterView) (n : ℕ) (e : Entry) → list_any (λ (e : Entry). is_own_loss k (what e)) log ≡ false → slice_get log n ≡ Some e → EndsBy (cause_in k (what e)) c
@@ -193,13 +152,6 @@ ends_there log k c n e none at = ends_by_other k (what e) c (none_of_them (λ (e
 -- ---- the words for its steps and its disk calls
 
 own_step : (k : ClusterNo) (n : ℕ) (w : What) → is_own_loss k w ≡ false → is_step_crash k n w ≡ false
-own_step k n (Mail at letter) none = refl
-own_step k n (Birth parent at child end) none = refl
-own_step k n (Exit pid at end) none = refl
-own_step k n (Page pid at index bytes) none = refl
-own_step k n (Sync pid small read took) none = refl
-own_step k n (Fetch pid index) none = refl
-own_step k n (PageIs pid index bytes) none = refl
 own_step k n (Crash j Place) none = by_same (same_cluster j k)
   where
     by_same : (b : Bool) → (b && false) ≡ false
@@ -207,19 +159,9 @@ own_step k n (Crash j Place) none = by_same (same_cluster j k)
     by_same false = refl
 own_step k n (Crash j (Step m)) none = ap (λ b. b && m == n) none
 own_step k n (Crash j (Disk m)) none = ap (λ b. b && false) none
-own_step k n (Return j) none = refl
-own_step k n (Rebackup to fresh recs) none = refl
-own_step k n (Done rests) none = refl
-own_step k n Stop none = refl
+own_step k n _ none = refl
 
 own_disk : (k : ClusterNo) (n : ℕ) (w : What) → is_own_loss k w ≡ false → is_disk_crash k n w ≡ false
-own_disk k n (Mail at letter) none = refl
-own_disk k n (Birth parent at child end) none = refl
-own_disk k n (Exit pid at end) none = refl
-own_disk k n (Page pid at index bytes) none = refl
-own_disk k n (Sync pid small read took) none = refl
-own_disk k n (Fetch pid index) none = refl
-own_disk k n (PageIs pid index bytes) none = refl
 own_disk k n (Crash j Place) none = by_same (same_cluster j k)
   where
     by_same : (b : Bool) → (b && false) ≡ false
@@ -227,10 +169,7 @@ own_disk k n (Crash j Place) none = by_same (same_cluster j k)
     by_same false = refl
 own_disk k n (Crash j (Step m)) none = ap (λ b. b && false) none
 own_disk k n (Crash j (Disk m)) none = ap (λ b. b && m == n) none
-own_disk k n (Return j) none = refl
-own_disk k n (Rebackup to fresh recs) none = refl
-own_disk k n (Done rests) none = refl
-own_disk k n Stop none = refl
+own_disk k n _ none = refl
 
 own_loss : (k : ClusterNo) (cause : Cause) (w : What) → is_own_loss k w ≡ false → is_loss_for k cause w ≡ false
 own_loss k Place w none = refl

@@ -15,18 +15,8 @@ use Rattle.bus_order.proofs.OverLaws.{finished_some}
 
 -- the end brings no page
 end_no_page : (w : What) → is_done w ≡ true → is_page_entry w ≡ false
-end_no_page (Mail at letter) h = refl
-end_no_page (Birth parent at child end) h = refl
-end_no_page (Exit pid at end) h = refl
 end_no_page (Page pid at index bytes) h = absurd (true≢false (sym h))
-end_no_page (Sync pid small read took) h = refl
-end_no_page (Fetch pid index) h = refl
-end_no_page (PageIs pid index bytes) h = refl
-end_no_page (Crash k cause) h = refl
-end_no_page (Return k) h = refl
-end_no_page (Rebackup to fresh recs) h = refl
-end_no_page (Done rests) h = refl
-end_no_page Stop h = refl
+end_no_page _ h = refl
 
 -- so as many pages stand before it as in the whole
 pub pages_heard : (log : List Entry) (n : ℕ) → is_finished log ≡ true → n ≡ length log - 1 → count_by (λ (e : Entry). is_page_entry (what e)) log ≡ count_by (λ (e : Entry). is_page_entry (what e)) (take n log)

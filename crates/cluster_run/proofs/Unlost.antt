@@ -28,9 +28,7 @@ by_unlost P mail birth exit fetch page changed cut done stop Stop unlost = stop
 by_unlost P mail birth exit fetch page changed cut done stop (Birth parent at child end) unlost = birth parent at child end
 by_unlost P mail birth exit fetch page changed cut done stop (Page pid at index bytes) unlost = changed pid at index bytes
 by_unlost P mail birth exit fetch page changed cut done stop (Sync pid small read took) unlost = cut pid small read took
-by_unlost P mail birth exit fetch page changed cut done stop (Crash k cause) unlost = absurd (true≢false (sym unlost))
-by_unlost P mail birth exit fetch page changed cut done stop (Return k) unlost = absurd (true≢false (sym unlost))
-by_unlost P mail birth exit fetch page changed cut done stop (Rebackup to fresh recs) unlost = absurd (true≢false (sym unlost))
+by_unlost P mail birth exit fetch page changed cut done stop _ unlost = absurd (true≢false (sym unlost))
 
 -- where the head of a queue was sent, nothing else changed
 pub same_after : (w : What) (c : ClusterView) → is_unlost w ≡ true → after_head c w ≡ c

@@ -97,18 +97,9 @@ upto_living k log lives = let short = less_of (is_closed log) (length log) in om
 
 -- a loss closes no log
 not_closing : (k : ClusterNo) (w : What) → is_crash_of k w ≡ true → closes w ≡ false
-not_closing k (Mail at letter) h = refl
-not_closing k (Birth parent at child end) h = refl
-not_closing k (Exit pid at end) h = refl
-not_closing k (Page pid at index bytes) h = refl
-not_closing k (Sync pid small read took) h = refl
-not_closing k (Fetch pid index) h = refl
-not_closing k (PageIs pid index bytes) h = refl
-not_closing k (Crash j cause) h = refl
-not_closing k (Return j) h = refl
-not_closing k (Rebackup to fresh recs) h = refl
 not_closing k (Done rests) h = absurd (true≢false (sym h))
 not_closing k Stop h = absurd (true≢false (sym h))
+not_closing k _ h = refl
 
 -- one that was lost follows up to its loss
 pub upto_first : (k : ClusterNo) (log : List Entry) (at : ℕ) (e : Entry) → slice_get log at ≡ Some e → is_crash_of k (what e) ≡ true → was_lost_in (take at log) k ≡ false → upto k log ≡ at

@@ -39,20 +39,12 @@ pids_told (r ∷ rs) = ap (λ (t : List ℕ). spaced (r.pid).0 ++ t) (pids_told 
 
 what_told : (w : What) → entry_text w ≡ what_text (told_what w)
 what_told (Mail at letter) = ap (λ (t : List ℕ). codes "mail " ++ (decimal (letter.from).0 ++ (codes " at " ++ (decimal at ++ t)))) (letter_told letter letter.to)
-what_told (Birth parent at child end) = refl
 what_told (Exit pid at end) = ap (λ (t : List ℕ). codes "exit " ++ (decimal pid.0 ++ (codes " at " ++ (decimal at ++ (codes " " ++ t))))) (end_told end)
-what_told (Page pid at index bytes) = refl
-what_told (Sync pid small read None) = refl
 what_told (Sync pid small read (Some g)) = refl
-what_told (Fetch pid index) = refl
-what_told (PageIs pid index bytes) = refl
-what_told (Crash k cause) = refl
-what_told (Return k) = refl
 what_told (Rebackup to true recs) =
     ap (λ (t : List ℕ). codes "rebackup" ++ (t ++ (codes " at " ++ (decimal (first_steps recs) ++ (codes " to " ++ (decimal to.0 ++ codes " fresh")))))) (pids_told recs)
 what_told (Rebackup to false recs) = ap (λ (t : List ℕ). codes "rebackup" ++ (t ++ (codes " to " ++ (decimal to.0 ++ codes " standing")))) (pids_told recs)
-what_told (Done rests) = refl
-what_told Stop = refl
+what_told _ = refl
 
 by_told : (b : By) → entry_by b ≡ by_text (told_by b)
 by_told (Cluster k) = refl

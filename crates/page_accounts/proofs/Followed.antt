@@ -131,11 +131,7 @@ makes_follows places (Crash k cause) old new m = record {
   accounts = λ p. m.accounts p;
   fetches = m.fetches ∙ sym (append-nil _);
 }
-makes_follows places (Mail at letter) old new m = nothing_changes places (Mail at letter) old new (λ p a. refl) (λ f. refl) refl m
-makes_follows places (Birth parent at child end) old new m = nothing_changes places (Birth parent at child end) old new (λ p a. refl) (λ f. refl) refl m
-makes_follows places (Return k) old new m = nothing_changes places (Return k) old new (λ p a. refl) (λ f. refl) refl m
-makes_follows places (Done rests) old new m = nothing_changes places (Done rests) old new (λ p a. refl) (λ f. refl) refl m
-makes_follows places Stop old new m = nothing_changes places Stop old new (λ p a. refl) (λ f. refl) refl m
+makes_follows places w old new m = nothing_changes places w old new (λ p a. refl) (λ f. refl) refl m
 
 -- ---- the whole
 

@@ -41,18 +41,13 @@ use Rattle.script_laws.proofs.CrashLaws.{crashes_within}
 -- ---- a log with no loss
 
 no_loss_unlost : (w : What) → is_built w ≡ true → is_loss w ≡ false → is_unlost w ≡ true
-no_loss_unlost (Mail at letter) h none = refl
 no_loss_unlost (Birth parent at child end) h none = h
-no_loss_unlost (Exit pid at end) h none = refl
-no_loss_unlost (Page pid at index bytes) h none = refl
-no_loss_unlost (Sync pid small read took) h none = refl
 no_loss_unlost (Fetch pid index) h none = h
 no_loss_unlost (PageIs pid index bytes) h none = h
 no_loss_unlost (Crash k cause) h none = absurd (true≢false none)
 no_loss_unlost (Return k) h none = h
 no_loss_unlost (Rebackup to fresh recs) h none = h
-no_loss_unlost (Done rests) h none = refl
-no_loss_unlost Stop h none = refl
+no_loss_unlost _ h none = refl
 
 uncounted : (b : Bool) → cond b 1 0 ≤ 0 → b ≡ false
 uncounted true h = absurd (omega (arith, h))
@@ -79,18 +74,8 @@ birth_pager places child None = refl
 birth_pager places child (Some q) = refl
 
 same_pager : (w : What) (places : Places) → is_unlost w ≡ true → (placed_after places w).pager ≡ places.pager
-same_pager (Mail at letter) places h = refl
 same_pager (Birth parent at child end) places h = birth_pager places child (placed_at places parent)
-same_pager (Exit pid at end) places h = refl
-same_pager (Page pid at index bytes) places h = refl
-same_pager (Sync pid small read took) places h = refl
-same_pager (Fetch pid index) places h = refl
-same_pager (PageIs pid index bytes) places h = refl
-same_pager (Crash k cause) places h = refl
-same_pager (Return k) places h = refl
-same_pager (Rebackup to fresh recs) places h = refl
-same_pager (Done rests) places h = refl
-same_pager Stop places h = refl
+same_pager _ places h = refl
 
 unlost_pager : (system : System) (log : List Entry) → IsLegalBy UnlostMayFollow system log → (placement system log).pager ≡ system.pager
 unfolding placement
@@ -109,18 +94,10 @@ booted n placed h within =
 -- what a raised serial leaves of a cluster an entry that is no loss leaves of each
 same_cluster_after : (t : ClusterPlace → Bool) → ((c : ClusterPlace) → t (raised_serial c) ≡ t c) → (w : What) (places : Places) (k : ClusterNo) → is_unlost w ≡ true
     → option_map_or t (slice_get (placed_after places w).clusters k.0) false ≡ option_map_or t (slice_get places.clusters k.0) false
-same_cluster_after t same (Mail at letter) places k h = refl
 same_cluster_after t same (Birth parent at child end) places k h = birth_keeps t same places child (placed_at places parent) k
-same_cluster_after t same (Exit pid at end) places k h = refl
-same_cluster_after t same (Page pid at index bytes) places k h = refl
-same_cluster_after t same (Sync pid small read took) places k h = refl
-same_cluster_after t same (Fetch pid index) places k h = refl
-same_cluster_after t same (PageIs pid index bytes) places k h = refl
 same_cluster_after t same (Crash j cause) places k h = absurd (true≢false (sym h))
 same_cluster_after t same (Return j) places k h = absurd (true≢false (sym h))
-same_cluster_after t same (Rebackup to fresh recs) places k h = refl
-same_cluster_after t same (Done rests) places k h = refl
-same_cluster_after t same Stop places k h = refl
+same_cluster_after t same _ places k h = refl
 
 as_at_boot : (t : ClusterPlace → Bool) → ((c : ClusterPlace) → t (raised_serial c) ≡ t c) → (system : System) (log : List Entry) (k : ClusterNo) → IsLegalBy UnlostMayFollow system log
     → option_map_or t (slice_get (placement system log).clusters k.0) false ≡ option_map_or t (slice_get (places_at_boot system).clusters k.0) false
@@ -160,18 +137,13 @@ birth_backups t places parent child (Some q) found all =
 
 -- what holds of each backup holds of each after an entry that is no loss
 backups_after : (t : Option ClusterNo → Bool) (w : What) (places : Places) → is_unlost w ≡ true → list_all (λ (q : Placed). t q.backup) places.placed ≡ true → list_all (λ (q : Placed). t q.backup) (placed_after places w).placed ≡ true
-backups_after t (Mail at letter) places h all = all
 backups_after t (Birth parent at child end) places h all = birth_backups t places parent child (placed_at places parent) refl all
 backups_after t (Exit pid at end) places h all = same_backups t (after_exit pid) (λ q. backup_if (same_pid q.pid pid) q (record q { ended = true }) refl) places.placed ∙ all
-backups_after t (Page pid at index bytes) places h all = all
 backups_after t (Sync pid small read took) places h all = same_backups t (after_sync pid) (λ q. backup_if (same_pid q.pid pid) q (record q { synced = true }) refl) places.placed ∙ all
-backups_after t (Fetch pid index) places h all = all
-backups_after t (PageIs pid index bytes) places h all = all
 backups_after t (Crash k cause) places h all = absurd (true≢false (sym h))
 backups_after t (Return k) places h all = absurd (true≢false (sym h))
 backups_after t (Rebackup to fresh recs) places h all = absurd (true≢false (sym h))
-backups_after t (Done rests) places h all = all
-backups_after t Stop places h all = all
+backups_after t _ places h all = all
 
 roots_backed : (s : System) (places : Places) → ((h : ClusterNo) → h.0 < s.clusters → lives_in places h ≡ true) → s.clusters ≤ 16 → (earlier roots : List Root) → list_all (is_root s.clusters (length s.images)) roots ≡ true
     → list_all (is_backed places) (map placed_root (with_pids earlier roots)) ≡ true
@@ -234,20 +206,12 @@ record Ends (system : System) (log : List Entry) : Type 0 where
   pub closed : crashes log ≤ 1 → is_over system log ≡ true → is_closed log ≡ true
 
 ends_closed : (system : System) (log : List Entry) (w : What) → is_system system ≡ true → IsLegalBy BuiltMayFollow system log → crashes log + cond (is_loss w) 1 0 ≤ 1 → ends_run (placement system log) w ≡ true → closes w ≡ true
-ends_closed system log (Mail at letter) valid legal few h = h
-ends_closed system log (Birth parent at child end) valid legal few h = h
-ends_closed system log (Exit pid at end) valid legal few h = h
-ends_closed system log (Page pid at index bytes) valid legal few h = h
-ends_closed system log (Sync pid small read took) valid legal few h = h
-ends_closed system log (Fetch pid index) valid legal few h = h
-ends_closed system log (PageIs pid index bytes) valid legal few h = h
 ends_closed system log (Crash k cause) valid legal few h =
     let covered = unlost_covered system log k valid (crashless_unlost system log legal (omega (arith, few))) in
     absurd (true≢false (sym h ∙ ap not covered))
-ends_closed system log (Return k) valid legal few h = h
-ends_closed system log (Rebackup to fresh recs) valid legal few h = h
 ends_closed system log (Done rests) valid legal few h = refl
 ends_closed system log Stop valid legal few h = refl
+ends_closed system log _ valid legal few h = h
 
 -- such a log ends only by Done or Stop
 pub few_losses_close : (system : System) (log : List Entry) → is_system system ≡ true → IsLegalBy BuiltMayFollow system log → crashes log ≤ 1 → is_over system log ≡ true → is_closed log ≡ true

@@ -27,20 +27,11 @@ given_in log = count_by (λ (e : Entry). is_given (what e)) log
 
 -- an entry that a word gave comes by a look at that word
 given_waits : (w : What) → is_given w ≡ true → (waits_for_no_word w ≡ false) × (waits_for_words w ≡ false)
-given_waits (Mail at letter) h = absurd (true≢false (sym h))
-given_waits (Birth parent at child end) h = absurd (true≢false (sym h))
-given_waits (Exit pid at end) h = absurd (true≢false (sym h))
-given_waits (Page pid at index bytes) h = absurd (true≢false (sym h))
-given_waits (Sync pid small read took) h = absurd (true≢false (sym h))
-given_waits (Fetch pid index) h = absurd (true≢false (sym h))
-given_waits (PageIs pid index bytes) h = absurd (true≢false (sym h))
 given_waits (Crash k Place) h = (refl, refl)
 given_waits (Crash k (Step n)) h = absurd (true≢false (sym h))
 given_waits (Crash k (Disk n)) h = absurd (true≢false (sym h))
 given_waits (Return k) h = (refl, refl)
-given_waits (Rebackup to fresh recs) h = absurd (true≢false (sym h))
-given_waits (Done rests) h = absurd (true≢false (sym h))
-given_waits Stop h = absurd (true≢false (sym h))
+given_waits _ h = absurd (true≢false (sym h))
 
 -- one more entry that no word for a place gave
 same_given : (log : List Entry) (e : Entry) (waits : Bool) → (is_given (what e) ≡ true → waits ≡ false) → waits ≡ true → given_in (log ++ e ∷ []) ≡ given_in log
@@ -92,20 +83,9 @@ words_parted (w ∷ words) = by_word w (words_parted words)
 
 -- each is given by a word for a place, or names a step or a disk call
 loss_parts : (w : What) → cond (is_loss w) 1 0 ≤ cond (is_given w) 1 0 + length (key_of w)
-loss_parts (Mail at letter) = omega arith
-loss_parts (Birth parent at child end) = omega arith
-loss_parts (Exit pid at end) = omega arith
-loss_parts (Page pid at index bytes) = omega arith
-loss_parts (Sync pid small read took) = omega arith
-loss_parts (Fetch pid index) = omega arith
-loss_parts (PageIs pid index bytes) = omega arith
-loss_parts (Crash k Place) = omega arith
 loss_parts (Crash k (Step n)) = omega arith
 loss_parts (Crash k (Disk n)) = omega arith
-loss_parts (Return k) = omega arith
-loss_parts (Rebackup to fresh recs) = omega arith
-loss_parts (Done rests) = omega arith
-loss_parts Stop = omega arith
+loss_parts _ = omega arith
 
 crash_parts : (log : List Entry) → crashes log ≤ given_in log + length (keys_of log)
 crash_parts [] = omega arith

@@ -72,18 +72,8 @@ least_before system log k cursor none =
 
 -- a page is no answer
 page_no_answer : (w : What) → is_page_entry w ≡ true → is_page_is_entry w ≡ false
-page_no_answer (Mail at letter) page = refl
-page_no_answer (Birth parent at child end) page = refl
-page_no_answer (Exit pid at end) page = refl
-page_no_answer (Page pid at index bytes) page = refl
-page_no_answer (Sync pid small read took) page = refl
-page_no_answer (Fetch pid index) page = refl
 page_no_answer (PageIs pid index bytes) page = absurd (true≢false (sym page))
-page_no_answer (Crash j cause) page = refl
-page_no_answer (Return j) page = refl
-page_no_answer (Rebackup to fresh recs) page = refl
-page_no_answer (Done rests) page = refl
-page_no_answer Stop page = refl
+page_no_answer _ page = refl
 
 -- of one that sent nothing behind the page at its cursor
 least_at : (system : System) (log : List Entry) (k : ClusterNo) (cursor : ℕ) (e : Entry) → slice_get log cursor ≡ Some e → is_page_entry (what e) ≡ true → list_any (is_by_cluster k) (drop (cursor + 1) log) ≡ false

@@ -101,20 +101,10 @@ counted_crashes log k cause = counted (λ (e : Entry). key_of (what e)) (λ (e :
     at_call (Disk n) j m = refl
 
     each : (w : What) → cond (is_loss_for k cause w) 1 0 ≡ count_by (is_key k cause) (key_of w)
-    each (Mail at letter) = as_said (no_loss_for k cause (Mail at letter) refl)
-    each (Birth parent at child end) = as_said (no_loss_for k cause (Birth parent at child end) refl)
-    each (Exit pid at end) = as_said (no_loss_for k cause (Exit pid at end) refl)
-    each (Page pid at index bytes) = as_said (no_loss_for k cause (Page pid at index bytes) refl)
-    each (Sync pid small read took) = as_said (no_loss_for k cause (Sync pid small read took) refl)
-    each (Fetch pid index) = as_said (no_loss_for k cause (Fetch pid index) refl)
-    each (PageIs pid index bytes) = as_said (no_loss_for k cause (PageIs pid index bytes) refl)
     each (Crash j Place) = as_said (no_place_loss k j cause)
     each (Crash j (Step m)) = one_key k cause (j, Step m) (at_step cause j m)
     each (Crash j (Disk m)) = one_key k cause (j, Disk m) (at_call cause j m)
-    each (Return j) = as_said (no_loss_for k cause (Return j) refl)
-    each (Rebackup to fresh recs) = as_said (no_loss_for k cause (Rebackup to fresh recs) refl)
-    each (Done rests) = as_said (no_loss_for k cause (Done rests) refl)
-    each Stop = as_said (no_loss_for k cause Stop refl)
+    each w = as_said (no_loss_for k cause w refl)
 
 -- ---- no more of each, so no more in all
 

@@ -62,18 +62,8 @@ lost-snoc log e k = list_any-append (λ (e : Entry). is_crash_of k (what e)) log
 
 -- of the kinds that are built only a loss turns a cluster off or on
 turns_lost : (k : ClusterNo) (w : What) → is_built w ≡ true → turns k w ≡ is_crash_of k w
-turns_lost k (Mail at letter) built = refl
-turns_lost k (Birth parent at child end) built = refl
-turns_lost k (Exit pid at end) built = refl
-turns_lost k (Page pid at index bytes) built = refl
-turns_lost k (Sync pid small read took) built = refl
-turns_lost k (Fetch pid index) built = refl
-turns_lost k (PageIs pid index bytes) built = refl
-turns_lost k (Crash j cause) built = refl
 turns_lost k (Return j) built = absurd (true≢false (sym built))
-turns_lost k (Rebackup to fresh recs) built = refl
-turns_lost k (Done rests) built = refl
-turns_lost k Stop built = refl
+turns_lost k _ built = refl
 
 off_after : (log : List Entry) (e : Entry) (k : ClusterNo) → is_built (what e) ≡ true → off_at (log ++ e ∷ []) k ≡ cond (is_crash_of k (what e)) (Some e.place) (off_at log k)
 off_after log e k built =
@@ -123,18 +113,8 @@ lives_unless_lost system log k legal within = by_off (off_at log k) refl
 
 -- what loses a cluster loses one that lived
 lost_lived : (system : System) (log : List Entry) (e : Entry) (k : ClusterNo) (w : What) → KindHolds system log e w → is_crash_of k w ≡ true → lives_in (placement system log) k ≡ true
-lost_lived system log e k (Mail at letter) kind h = absurd (true≢false (sym h))
-lost_lived system log e k (Birth parent at child end) kind h = absurd (true≢false (sym h))
-lost_lived system log e k (Exit pid at end) kind h = absurd (true≢false (sym h))
-lost_lived system log e k (Page pid at index bytes) kind h = absurd (true≢false (sym h))
-lost_lived system log e k (Sync pid small read took) kind h = absurd (true≢false (sym h))
-lost_lived system log e k (Fetch pid index) kind h = absurd (true≢false (sym h))
-lost_lived system log e k (PageIs pid index bytes) kind h = absurd (true≢false (sym h))
 lost_lived system log e k (Crash j cause) kind h = subst (λ c. lives_in (placement system log) c ≡ true) (λ i. record { 0 = eqb-true j.0 k.0 h i }) kind
-lost_lived system log e k (Return j) kind h = absurd (true≢false (sym h))
-lost_lived system log e k (Rebackup to fresh recs) kind h = absurd (true≢false (sym h))
-lost_lived system log e k (Done rests) kind h = absurd (true≢false (sym h))
-lost_lived system log e k Stop kind h = absurd (true≢false (sym h))
+lost_lived system log e k _ kind h = absurd (true≢false (sym h))
 
 record Losses (system : System) (k : ClusterNo) (at : ℕ) (log : List Entry) : Type 0 where
   pub legal : IsLegalBy BuiltMayFollow system log
@@ -193,18 +173,13 @@ off_is_its_loss system log k at legal =
 
 -- only a cluster that lives sends
 sends_living : (places : Places) (k : ClusterNo) → (never_lost places k ≡ true → lives_in places k ≡ true) → (w : What) → is_built w ≡ true → is_by_right places (Cluster k) w ≡ true → lives_in places k ≡ true
-sends_living places k serves (Mail at letter) built right = (and_parts (lives_in places k) _ right).0
-sends_living places k serves (Birth parent at child end) built right = (and_parts (lives_in places k) _ right).0
-sends_living places k serves (Exit pid at end) built right = (and_parts (lives_in places k) _ right).0
-sends_living places k serves (Page pid at index bytes) built right = (and_parts (lives_in places k) _ right).0
-sends_living places k serves (Sync pid small read took) built right = (and_parts (lives_in places k) _ right).0
-sends_living places k serves (Fetch pid index) built right = (and_parts (lives_in places k) _ right).0
 sends_living places k serves (PageIs pid index bytes) built right = serves (first_server places k right)
 sends_living places k serves (Crash j cause) built right = absurd (true≢false (sym right))
 sends_living places k serves (Return j) built right = absurd (true≢false (sym built))
 sends_living places k serves (Rebackup to fresh recs) built right = absurd (true≢false (sym built))
 sends_living places k serves (Done rests) built right = absurd (true≢false (sym right))
 sends_living places k serves Stop built right = absurd (true≢false (sym right))
+sends_living places k serves _ built right = (and_parts (lives_in places k) _ right).0
 
 sender_lives : (places : Places) → ((k : ClusterNo) → never_lost places k ≡ true → lives_in places k ≡ true) → (by : By) (k : ClusterNo) (w : What) → is_built w ≡ true → is_by_right places by w ≡ true → is_from k by ≡ true → lives_in places k ≡ true
 sender_lives places serve (Cluster j) k w built right from = subst (λ c. lives_in places c ≡ true) (λ i. record { 0 = eqb-true j.0 k.0 from i }) (sends_living places j (serve j) w built right)

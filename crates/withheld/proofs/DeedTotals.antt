@@ -66,12 +66,4 @@ total_more p deeds (Exit q at end) leaves = by_pid (same_pid q p)
     by_pid : (b : Bool) → total_in (deeds ++ cond b (Sends (Ended end) ∷ []) []) ≡ total_in deeds + 0
     by_pid true = exit_same deeds end ∙ omega arith
     by_pid false = none_more deeds
-total_more p deeds (Page q at index bytes) leaves = none_more deeds
-total_more p deeds (Sync q small read took) leaves = none_more deeds
-total_more p deeds (Fetch q index) leaves = none_more deeds
-total_more p deeds (PageIs q index bytes) leaves = none_more deeds
-total_more p deeds (Crash k cause) leaves = none_more deeds
-total_more p deeds (Return k) leaves = none_more deeds
-total_more p deeds (Rebackup to fresh recs) leaves = none_more deeds
-total_more p deeds (Done rests) leaves = none_more deeds
-total_more p deeds Stop leaves = none_more deeds
+total_more p deeds _ leaves = none_more deeds

@@ -31,16 +31,7 @@ at_most_one false = omega arith
 one_deed : (p : Pid) (w : What) → deeds_told p w ≤ 1
 one_deed p (Mail at letter) = at_most_one (same_pid letter.from p)
 one_deed p (Birth parent at child end) = at_most_one (same_pid parent p)
-one_deed p (Exit q at end) = omega arith
-one_deed p (Page q at index bytes) = omega arith
-one_deed p (Sync q small read took) = omega arith
-one_deed p (Fetch q index) = omega arith
-one_deed p (PageIs q index bytes) = omega arith
-one_deed p (Crash k cause) = omega arith
-one_deed p (Return k) = omega arith
-one_deed p (Rebackup to fresh recs) = omega arith
-one_deed p (Done rests) = omega arith
-one_deed p Stop = omega arith
+one_deed p _ = omega arith
 
 one_higher : (p : Pid) (w : What) (n : ℕ) → count_after p w n ≤ n + 1
 one_higher p w n = by_start (is_cut p w || is_birth_of p w)

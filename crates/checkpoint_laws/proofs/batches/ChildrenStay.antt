@@ -63,22 +63,16 @@ beside_birth p child places (Some q) other =
 
 -- so who is not born by an entry, and never synchronised after it, had not before it
 pub unsynced_before : (w : What) (places : Places) (p : Pid) → is_birth_of p w ≡ false → is_unsynced (placed_after places w) p ≡ true → is_unsynced places p ≡ true
-unsynced_before (Mail at letter) places p other h = h
 unsynced_before (Birth parent at child end) places p other h = sym (beside_birth p child places (placed_at places parent) other) ∙ h
 unsynced_before (Exit r at end) places p other h = by_pid (same_pid p r) refl
   where
     by_pid : (b : Bool) → same_pid p r ≡ b → is_unsynced places p ≡ true
     by_pid true same = absurd (true≢false (sym h ∙ ap (λ o. option_map_or (λ (q : Placed). not q.synced) o false) (exit_there places r p at end same)))
     by_pid false apart = sym (ap (λ o. option_map_or (λ (q : Placed). not q.synced) o false) (exit_elsewhere places r p at end apart)) ∙ h
-unsynced_before (Page q at index bytes) places p other h = h
 unsynced_before (Sync q small read took) places p other h = by_change (after_sync q) (sync_keeps q) (sync_synced q) places (placed_after places (Sync q small read took)) refl p h
-unsynced_before (Fetch q index) places p other h = h
-unsynced_before (PageIs q index bytes) places p other h = h
 unsynced_before (Crash k cause) places p other h = by_change (after_loss k) (loss_keeps k) (λ q none. sym (loss_synced k q) ∙ none) places (placed_after places (Crash k cause)) refl p h
-unsynced_before (Return k) places p other h = h
 unsynced_before (Rebackup to fresh recs) places p other h = by_change (after_rebackup to fresh recs) (backup_keeps to fresh recs) (backup_synced to fresh recs) places (placed_after places (Rebackup to fresh recs)) refl p h
-unsynced_before (Done rests) places p other h = h
-unsynced_before Stop places p other h = h
+unsynced_before _ places p other h = h
 
 -- ---- the children of a process
 
@@ -103,17 +97,7 @@ no_deed q p d none = by_test (same_pid q p) none
 -- an entry that tells no deed of the process tells of no child of it
 none_more : (p : Pid) (t : Pid → Bool) (w : What) → deeds_in p w ≡ [] → list_any (λ (b : Pair). same_pid b.0 p && t b.1) (born w) ≡ false
 none_more p t (Birth parent at child end) none = ap (λ b. (b && t child) || false) (no_deed parent p (Bears child) none)
-none_more p t (Mail at letter) none = refl
-none_more p t (Exit q at end) none = refl
-none_more p t (Page q at index bytes) none = refl
-none_more p t (Sync q small read took) none = refl
-none_more p t (Fetch q index) none = refl
-none_more p t (PageIs q index bytes) none = refl
-none_more p t (Crash k cause) none = refl
-none_more p t (Return k) none = refl
-none_more p t (Rebackup to fresh recs) none = refl
-none_more p t (Done rests) none = refl
-none_more p t Stop none = refl
+none_more p t _ none = refl
 
 -- who is placed is not born
 placed_not_born : (system : System) (log : List Entry) (e : Entry) (p : Pid) → is_system system ≡ true → IsLegalBy Stands system log → Stands system log e → In p.0 (placement system log) → is_birth_of p (what e) ≡ false

@@ -74,17 +74,10 @@ raises_other p w no_cut none r raises = by_what w no_cut none raises
     by_what (Mail at letter) no_cut none same = of letter.from at same (no_deed letter.from p (Sends (Sent letter)) none)
     by_what (Birth parent at child end) no_cut none same = of parent at same (no_deed parent p (Bears child) none)
     by_what (Exit q at end) no_cut none same = of q at same (no_deed q p (Sends (Ended end)) none)
-    by_what (Page q at index bytes) no_cut none same = cc
     by_what (Sync q small read took) no_cut none same = of q small.steps same no_cut
-    by_what (Fetch q index) no_cut none same = cc
-    by_what (PageIs q index bytes) no_cut none same = cc
-    by_what (Crash k cause) no_cut none same = cc
-    by_what (Return k) no_cut none same = cc
     by_what (Rebackup to true []) no_cut none same = cc
     by_what (Rebackup to true (s ∷ rs)) no_cut none same = of s.pid (steps_in s.state) same no_cut
-    by_what (Rebackup to false recs) no_cut none same = cc
-    by_what (Done rests) no_cut none same = cc
-    by_what Stop no_cut none same = cc
+    by_what _ no_cut none same = cc
 
 count_stays : (system : System) (log : List Entry) (e : Entry) (p : Pid) → is_done (what e) ≡ false → is_some (plain_after system (log ++ e ∷ [])) ≡ true → is_cut p (what e) ≡ false → deeds_in p (what e) ≡ []
     → done_after system (log ++ e ∷ []) p ≡ done_after system log p

@@ -69,15 +69,9 @@ module _ (places : Places) (by : By) (k : ClusterNo) (p : Pid) (foreign : is_fro
   tells_none (Exit q at end) right = record { no_cut = refl; no_exit = apart q right; no_page = refl; no_deeds = none_sent q p (Sends (Ended end)) (apart q right) }
   tells_none (Page q at index bytes) right = record { no_cut = refl; no_exit = refl; no_page = apart q right; no_deeds = refl }
   tells_none (Sync q small read took) right = record { no_cut = apart q right; no_exit = refl; no_page = refl; no_deeds = refl }
-  tells_none (Fetch q index) right = record { no_cut = refl; no_exit = refl; no_page = refl; no_deeds = refl }
-  tells_none (PageIs q index bytes) right = record { no_cut = refl; no_exit = refl; no_page = refl; no_deeds = refl }
-  tells_none (Crash j cause) right = record { no_cut = refl; no_exit = refl; no_page = refl; no_deeds = refl }
-  tells_none (Return j) right = record { no_cut = refl; no_exit = refl; no_page = refl; no_deeds = refl }
   tells_none (Rebackup to true []) right = record { no_cut = refl; no_exit = refl; no_page = refl; no_deeds = refl }
   tells_none (Rebackup to true (r ∷ rs)) right = record { no_cut = apart r.pid right; no_exit = refl; no_page = refl; no_deeds = refl }
-  tells_none (Rebackup to false recs) right = record { no_cut = refl; no_exit = refl; no_page = refl; no_deeds = refl }
-  tells_none (Done rests) right = record { no_cut = refl; no_exit = refl; no_page = refl; no_deeds = refl }
-  tells_none Stop right = record { no_cut = refl; no_exit = refl; no_page = refl; no_deeds = refl }
+  tells_none _ right = record { no_cut = refl; no_exit = refl; no_page = refl; no_deeds = refl }
 
 -- ---- the entry
 

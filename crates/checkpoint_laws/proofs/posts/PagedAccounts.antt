@@ -83,17 +83,7 @@ module _ (system : System) (p : Pid) where
         by_test : (b : Bool) → same_pid q p ≡ b → ArePaged (page_count system log p) (cond b (put nat_cmp index bytes pages) pages)
         by_test true is = put_paged (page_count system log p) index bytes pages (subst (λ n. index < n) (ap (page_count system log) (same_of q p is)) kind.within) paged
         by_test false is = paged
-    put_of (Mail at letter) kind pages paged = paged
-    put_of (Birth parent at child end) kind pages paged = paged
-    put_of (Exit q at end) kind pages paged = paged
-    put_of (Sync q small read took) kind pages paged = paged
-    put_of (Fetch q index) kind pages paged = paged
-    put_of (PageIs q index bytes) kind pages paged = paged
-    put_of (Crash k cause) kind pages paged = paged
-    put_of (Return k) kind pages paged = paged
-    put_of (Rebackup to fresh recs) kind pages paged = paged
-    put_of (Done rests) kind pages paged = paged
-    put_of Stop kind pages paged = paged
+    put_of _ kind pages paged = paged
 
     by_tests : (exits cuts moved : Bool) (n : ℕ) (a : Account) (now : List (ℕ × List ℕ)) → BothPaged n a → ArePaged n now
         → BothPaged n (cond exits no_pages (cond cuts (committed a) (cond moved (reverted a) (record { now = now; kept = a.kept }))))

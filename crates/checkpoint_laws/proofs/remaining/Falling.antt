@@ -141,25 +141,14 @@ module _ (system : System) (log : List Entry) (e : Entry) (valid : is_system sys
   falls_by (Sync p small read took) is new from = sync_falls p small read took is
   falls_by (Fetch p index) is new from = by_pages (left_fetch system log e p index stands is) (still_most (Fetch p index) is refl refl refl (λ r. refl) (λ r. refl))
   falls_by (PageIs p index bytes) is new from = by_pages (left_page_is system log e p index bytes stands is) (still_most (PageIs p index bytes) is refl refl refl (λ r. refl) (λ r. refl))
-  falls_by (Crash k cause) is new from = absurd (true≢false (sym from))
-  falls_by (Return k) is new from = absurd (true≢false (sym from))
-  falls_by (Rebackup to fresh recs) is new from = absurd (true≢false (sym from))
-  falls_by (Done rests) is new from = absurd (true≢false (sym from))
-  falls_by Stop is new from = absurd (true≢false (sym from))
+  falls_by _ is new from = absurd (true≢false (sym from))
 
   syncs_by : (w : What) → what e ≡ w → tells_or_closes w ≡ true → left_of_syncs system (log ++ e ∷ []) + 2 * log_load system (log ++ e ∷ []) ≤ left_of_syncs system log + 2 * log_load system log
   syncs_by (Mail at letter) is tells = still_most (Mail at letter) is refl refl refl (λ r. refl) (λ r. refl)
-  syncs_by (Birth parent at child end) is tells = absurd (true≢false (sym tells))
   syncs_by (Exit p at end) is tells = exit_most p at end is
-  syncs_by (Page p at index bytes) is tells = absurd (true≢false (sym tells))
-  syncs_by (Sync p small read took) is tells = absurd (true≢false (sym tells))
-  syncs_by (Fetch p index) is tells = absurd (true≢false (sym tells))
-  syncs_by (PageIs p index bytes) is tells = absurd (true≢false (sym tells))
-  syncs_by (Crash k cause) is tells = absurd (true≢false (sym tells))
-  syncs_by (Return k) is tells = absurd (true≢false (sym tells))
-  syncs_by (Rebackup to fresh recs) is tells = absurd (true≢false (sym tells))
   syncs_by (Done rests) is tells = still_most (Done rests) is refl refl refl (λ r. refl) (λ r. refl)
   syncs_by Stop is tells = still_most Stop is refl refl refl (λ r. refl) (λ r. refl)
+  syncs_by _ is tells = absurd (true≢false (sym tells))
 
 pub to_send_falls : (system : System) (log : List Entry) (e : Entry) → is_system system ≡ true → IsLegalBy Stands system log → Stands system log e → is_new_page system log (what e) ≡ true → is_from_cluster (what e) ≡ true → left_to_send system (log ++ e ∷ []) < left_to_send system log
 unfolding Falls

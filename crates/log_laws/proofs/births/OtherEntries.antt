@@ -98,15 +98,10 @@ pub others_leave : (system : System) (log : List Entry) (e : Entry) → is_built
 others_leave system log e = by_what (what e) refl
   where
     by_what : (w : What) → what e ≡ w → is_built w ≡ true → changes_unsynced w ≡ false → unsynced_births system (log ++ e ∷ []) ≡ unsynced_births system log
-    by_what (Mail at letter) is built other = births_stay system log e (Mail at letter) is refl (λ p. refl)
     by_what (Birth parent at child end) is built other = absurd (true≢false other)
     by_what (Exit pid at end) is built other = absurd (true≢false other)
-    by_what (Page pid at index bytes) is built other = births_stay system log e (Page pid at index bytes) is refl (λ p. refl)
     by_what (Sync pid small read took) is built other = absurd (true≢false other)
-    by_what (Fetch pid index) is built other = births_stay system log e (Fetch pid index) is refl (λ p. refl)
-    by_what (PageIs pid index bytes) is built other = births_stay system log e (PageIs pid index bytes) is refl (λ p. refl)
     by_what (Crash k cause) is built other = births_stay system log e (Crash k cause) is refl (unsynced_after_loss (placement system log) k cause)
     by_what (Return k) is built other = absurd (true≢false (sym built))
     by_what (Rebackup to fresh recs) is built other = absurd (true≢false (sym built))
-    by_what (Done rests) is built other = births_stay system log e (Done rests) is refl (λ p. refl)
-    by_what Stop is built other = births_stay system log e Stop is refl (λ p. refl)
+    by_what w is built other = births_stay system log e w is refl (λ p. refl)

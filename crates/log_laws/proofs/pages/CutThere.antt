@@ -41,16 +41,7 @@ module _ (system : System) (log : List Entry) where
       by_what (Rebackup to true (r ∷ rs)) is kind cut =
           to_pid r.pid p cut (silent_there r.pid (steps_in r.state) (silent_upto system log r.pid (steps_in r.state)) refl (ap (λ w. is_some (after_items system log w)) (sym is) ∙ kind.silent))
       by_what (Rebackup to false recs) is kind cut = absurd (true≢false (sym cut))
-      by_what (Mail at letter) is kind cut = absurd (true≢false (sym cut))
-      by_what (Birth parent at child end) is kind cut = absurd (true≢false (sym cut))
-      by_what (Exit q at end) is kind cut = absurd (true≢false (sym cut))
-      by_what (Page q at index bytes) is kind cut = absurd (true≢false (sym cut))
-      by_what (Fetch q index) is kind cut = absurd (true≢false (sym cut))
-      by_what (PageIs q index bytes) is kind cut = absurd (true≢false (sym cut))
-      by_what (Crash k cause) is kind cut = absurd (true≢false (sym cut))
-      by_what (Return k) is kind cut = absurd (true≢false (sym cut))
-      by_what (Done rests) is kind cut = absurd (true≢false (sym cut))
-      by_what Stop is kind cut = absurd (true≢false (sym cut))
+      by_what _ is kind cut = absurd (true≢false (sym cut))
 
 pub birth_no_cut : (p : Pid) (w : What) → is_birth_of p w ≡ true → is_cut p w ≡ false
 birth_no_cut p (Birth parent at child end) born = refl

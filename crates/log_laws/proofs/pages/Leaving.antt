@@ -263,17 +263,10 @@ module _ (system : System) (log : List Entry) (e : Entry) (stands : Stands syste
 
   by_what : (w : What) → what e ≡ w → tells_or_closes w ≡ true → left_of_pages system (log ++ e ∷ []) ≤ left_of_pages system log
   by_what (Mail at letter) is tells = left_still (Mail at letter) is refl (λ r. refl) refl (after_other (Mail at letter) refl (placement system log) (waiting_fetches system log))
-  by_what (Birth parent at child end) is tells = absurd (true≢false (sym tells))
   by_what (Exit p at end) is tells = left_exit p at end is
-  by_what (Page p at index bytes) is tells = absurd (true≢false (sym tells))
-  by_what (Sync p small read took) is tells = absurd (true≢false (sym tells))
-  by_what (Fetch p index) is tells = absurd (true≢false (sym tells))
-  by_what (PageIs p index bytes) is tells = absurd (true≢false (sym tells))
-  by_what (Crash k cause) is tells = absurd (true≢false (sym tells))
-  by_what (Return k) is tells = absurd (true≢false (sym tells))
-  by_what (Rebackup to fresh recs) is tells = absurd (true≢false (sym tells))
   by_what (Done rests) is tells = left_still (Done rests) is refl (λ r. refl) refl (after_other (Done rests) refl (placement system log) (waiting_fetches system log))
   by_what Stop is tells = left_still Stop is refl (λ r. refl) refl (after_other Stop refl (placement system log) (waiting_fetches system log))
+  by_what _ is tells = absurd (true≢false (sym tells))
 
   pub left_most : tells_or_closes (what e) ≡ true → left_of_pages system (log ++ e ∷ []) ≤ left_of_pages system log
   left_most tells = by_what (what e) refl tells

@@ -174,18 +174,11 @@ pub after_crash : (places : Places) (k : ClusterNo) (cause : Cause) (waits : Lis
 after_crash places k cause waits = append-nil _
 
 pub after_other : (w : What) → leaves_waits w ≡ true → (places : Places) (waits : List (Pid × ℕ)) → waits_after places w waits ≡ waits
-after_other (Mail at letter) other places waits = append-nil _ ∙ all_go_on waits
-after_other (Birth parent at child end) other places waits = append-nil _ ∙ all_go_on waits
 after_other (Exit pid at end) other places waits = absurd (true≢false (sym other))
-after_other (Page pid at index bytes) other places waits = append-nil _ ∙ all_go_on waits
-after_other (Sync pid small read took) other places waits = append-nil _ ∙ all_go_on waits
 after_other (Fetch pid index) other places waits = absurd (true≢false (sym other))
 after_other (PageIs pid index bytes) other places waits = absurd (true≢false (sym other))
 after_other (Crash k cause) other places waits = absurd (true≢false (sym other))
-after_other (Return k) other places waits = append-nil _ ∙ all_go_on waits
-after_other (Rebackup to fresh recs) other places waits = append-nil _ ∙ all_go_on waits
-after_other (Done rests) other places waits = append-nil _ ∙ all_go_on waits
-after_other Stop other places waits = append-nil _ ∙ all_go_on waits
+after_other _ other places waits = append-nil _ ∙ all_go_on waits
 
 -- ---- one page of one process
 
@@ -213,18 +206,8 @@ any_filter p i t (f ∷ fs) = by_tests (is_wait_for p i f) (t f) refl refl (any_
     by_tests false false is passes more = more
 
 any_added : (p : Pid) (i : ℕ) (w : What) → list_any (is_wait_for p i) (added (fetched w)) ≡ is_fetch p i w
-any_added p i (Mail at letter) = refl
-any_added p i (Birth parent at child end) = refl
-any_added p i (Exit pid at end) = refl
-any_added p i (Page pid at index bytes) = refl
-any_added p i (Sync pid small read took) = refl
 any_added p i (Fetch pid index) = or_nothing (same_pid pid p && eqb index i)
-any_added p i (PageIs pid index bytes) = refl
-any_added p i (Crash k cause) = refl
-any_added p i (Return k) = refl
-any_added p i (Rebackup to fresh recs) = refl
-any_added p i (Done rests) = refl
-any_added p i Stop = refl
+any_added p i _ = refl
 
 -- a page is waited for after an entry where it was and the entry does not end the wait, or the entry asks for it
 pub is_waited-snoc : (system : System) (log : List Entry) (e : Entry) (p : Pid) (i : ℕ) → is_waited system (log ++ e ∷ []) p i ≡ ((is_waited system log p i && not (ends_wait_next system log e p i)) || is_fetch p i (what e))

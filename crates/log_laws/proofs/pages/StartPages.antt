@@ -218,13 +218,8 @@ cut_awaits p (Birth parent at child end) cut = refl
 cut_awaits p (Exit q at end) cut = refl
 cut_awaits p (Page q at index bytes) cut = refl
 cut_awaits p (Sync q small read took) cut = refl
-cut_awaits p (Fetch q index) cut = absurd (true≢false (sym cut))
-cut_awaits p (PageIs q index bytes) cut = absurd (true≢false (sym cut))
-cut_awaits p (Crash k cause) cut = absurd (true≢false (sym cut))
-cut_awaits p (Return k) cut = absurd (true≢false (sym cut))
 cut_awaits p (Rebackup to fresh recs) cut = (and_parts fresh (is_first p recs) cut).0
-cut_awaits p (Done rests) cut = absurd (true≢false (sym cut))
-cut_awaits p Stop cut = absurd (true≢false (sym cut))
+cut_awaits p _ cut = absurd (true≢false (sym cut))
 
 -- who is cut has its pages
 pub cut_has_pages : (system : System) (log : List Entry) (e : Entry) (p : Pid) → KeepsWaits system log e → is_cut p (what e) ≡ true → has_its_pages system log p ≡ true

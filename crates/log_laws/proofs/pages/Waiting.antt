@@ -31,17 +31,7 @@ pub fetch_is : (w : What) (p : Pid) (i : ℕ) → is_fetch p i w ≡ true → w 
 fetch_is (Fetch q j) p i is =
     let both = and_parts (same_pid q p) (eqb j i) is in
     λ k. Fetch (record { 0 = eqb-true q.0 p.0 both.0 k }) (eqb-true j i both.1 k)
-fetch_is (Mail at letter) p i is = absurd (true≢false (sym is))
-fetch_is (Birth parent at child end) p i is = absurd (true≢false (sym is))
-fetch_is (Exit q at end) p i is = absurd (true≢false (sym is))
-fetch_is (Page q at index bytes) p i is = absurd (true≢false (sym is))
-fetch_is (Sync q small read took) p i is = absurd (true≢false (sym is))
-fetch_is (PageIs q index bytes) p i is = absurd (true≢false (sym is))
-fetch_is (Crash k cause) p i is = absurd (true≢false (sym is))
-fetch_is (Return k) p i is = absurd (true≢false (sym is))
-fetch_is (Rebackup to fresh recs) p i is = absurd (true≢false (sym is))
-fetch_is (Done rests) p i is = absurd (true≢false (sym is))
-fetch_is Stop p i is = absurd (true≢false (sym is))
+fetch_is _ p i is = absurd (true≢false (sym is))
 
 -- the entry is this very page, with some bytes
 pub record PageCame (w : What) (p : Pid) (i : ℕ) : Type 0 where
@@ -52,17 +42,7 @@ pub page_came : (w : What) (p : Pid) (i : ℕ) → is_page_is p i w ≡ true →
 page_came (PageIs q j bytes) p i is =
     let both = and_parts (same_pid q p) (eqb j i) is in
     record { bytes = bytes; is = λ k. PageIs (record { 0 = eqb-true q.0 p.0 both.0 k }) (eqb-true j i both.1 k) bytes }
-page_came (Mail at letter) p i is = absurd (true≢false (sym is))
-page_came (Birth parent at child end) p i is = absurd (true≢false (sym is))
-page_came (Exit q at end) p i is = absurd (true≢false (sym is))
-page_came (Page q at index bytes) p i is = absurd (true≢false (sym is))
-page_came (Sync q small read took) p i is = absurd (true≢false (sym is))
-page_came (Fetch q index) p i is = absurd (true≢false (sym is))
-page_came (Crash k cause) p i is = absurd (true≢false (sym is))
-page_came (Return k) p i is = absurd (true≢false (sym is))
-page_came (Rebackup to fresh recs) p i is = absurd (true≢false (sym is))
-page_came (Done rests) p i is = absurd (true≢false (sym is))
-page_came Stop p i is = absurd (true≢false (sym is))
+page_came _ p i is = absurd (true≢false (sym is))
 
 pub fetch_holds : (system : System) (log : List Entry) (e : Entry) (p : Pid) (i : ℕ) → Stands system log e → what e ≡ Fetch p i → FetchHolds system log p i
 fetch_holds system log e p i stands is = subst (KindHolds system log e) is stands.kind

@@ -85,17 +85,7 @@ one_arrives_at p letter (Tty t) = omega arith
 
 one_arrives : (p : Pid) (w : What) → length (letter_for p w) ≤ 1
 one_arrives p (Mail at letter) = one_arrives_at p letter letter.to
-one_arrives p (Birth parent at child end) = omega arith
-one_arrives p (Exit pid at end) = omega arith
-one_arrives p (Page pid at index bytes) = omega arith
-one_arrives p (Sync pid small read took) = omega arith
-one_arrives p (Fetch pid index) = omega arith
-one_arrives p (PageIs pid index bytes) = omega arith
-one_arrives p (Crash k cause) = omega arith
-one_arrives p (Return k) = omega arith
-one_arrives p (Rebackup to fresh recs) = omega arith
-one_arrives p (Done rests) = omega arith
-one_arrives p Stop = omega arith
+one_arrives p _ = omega arith
 
 letters_to_fit : (p : Pid) (log : List Entry) → length (letters_to p log) ≤ length log
 letters_to_fit p [] = omega arith

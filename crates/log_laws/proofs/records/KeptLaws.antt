@@ -176,15 +176,10 @@ module _ (system : System) (log : List Entry) (e : Entry) (k : ClusterNo) (recs 
   by_kind (Mail at letter) is h = in_place (Mail at letter) is refl (λ p. refl) (λ p. record_mapped (record_after (Mail at letter)) (letter_pid letter) recs p)
   by_kind (Birth parent at child end) is h = births_kept system log e valid legal parent at child end is k recs keeps
   by_kind (Exit q at end) is h = after_end q at end is
-  by_kind (Page pid at index bytes) is h = in_place (Page pid at index bytes) is refl (λ p. refl) (λ p. all_same recs p)
   by_kind (Sync q small read took) is h = in_place (Sync q small read took) is refl (synced_backed q small read took) (λ p. record_mapped (record_after (Sync q small read took)) (cut_pid q small read) recs p)
-  by_kind (Fetch pid index) is h = in_place (Fetch pid index) is refl (λ p. refl) (λ p. all_same recs p)
-  by_kind (PageIs pid index bytes) is h = in_place (PageIs pid index bytes) is refl (λ p. refl) (λ p. all_same recs p)
   by_kind (Crash k cause) is h = absurd (true≢false (sym h))
-  by_kind (Return k) is h = in_place (Return k) is refl (λ p. refl) (λ p. all_same recs p)
   by_kind (Rebackup to fresh more) is h = absurd (true≢false (sym h))
-  by_kind (Done rests) is h = in_place (Done rests) is refl (λ p. refl) (λ p. all_same recs p)
-  by_kind Stop is h = in_place Stop is refl (λ p. refl) (λ p. all_same recs p)
+  by_kind w is h = in_place w is refl (λ p. refl) (λ p. all_same recs p)
 
 -- the records stay those of the log
 pub records_kept : (system : System) (log : List Entry) (e : Entry) (k : ClusterNo) (recs : List BackRec) → is_system system ≡ true → IsLegalBy Stands system (log ++ e ∷ []) → changes_in_place (what e) ≡ true → KeepsRecords system log k recs
@@ -298,16 +293,8 @@ note_by system log e k recs valid legal room keeps can = by_what (what e) refl
     by_what : (w : What) → what e ≡ w → CanNote w recs
     by_what (Mail at letter) is = letter_fits at letter is
     by_what (Birth parent at child end) is = none_yet system log e valid legal parent at child end is k recs keeps
-    by_what (Exit q at end) is = tt
-    by_what (Page pid at index bytes) is = tt
     by_what (Sync q small read took) is = cut_fits q small read took is
-    by_what (Fetch pid index) is = tt
-    by_what (PageIs pid index bytes) is = tt
-    by_what (Crash k cause) is = tt
-    by_what (Return k) is = tt
-    by_what (Rebackup to fresh more) is = tt
-    by_what (Done rests) is = tt
-    by_what Stop is = tt
+    by_what _ is = tt
 
 -- each entry of a legal log may be noted
 pub can_note : (system : System) (log : List Entry) (e : Entry) (k : ClusterNo) (recs : List BackRec) → is_system system ≡ true → IsLegal system (log ++ e ∷ []) → length log < 2 ^ 64 - 1 → KeepsRecords system log k recs → CanNote (what e) recs

@@ -293,15 +293,9 @@ module _ (system : System) (log : List Entry) (e : Entry) (p : Pid) (valid : is_
   by_kind now stands other rolls (Mail at letter) is none = after_letter at letter now is stands rolls
   by_kind now stands other rolls (Birth parent at child end) is none = after_birth_of parent at child end is other
   by_kind now stands other rolls (Exit q at end) is none = after_exit_of q at end is ∙ kept_by (record_after (Exit q at end)) (λ r. refl) (backup_record system log p)
-  by_kind now stands other rolls (Page pid at index bytes) is none = others_after (Page pid at index bytes) is refl refl refl refl ∙ kept_by (record_after (Page pid at index bytes)) (λ r. refl) (backup_record system log p)
   by_kind now stands other rolls (Sync q small read took) is none = after_sync q small read took now is stands rolls
-  by_kind now stands other rolls (Fetch pid index) is none = others_after (Fetch pid index) is refl refl refl refl ∙ kept_by (record_after (Fetch pid index)) (λ r. refl) (backup_record system log p)
-  by_kind now stands other rolls (PageIs pid index bytes) is none = others_after (PageIs pid index bytes) is refl refl refl refl ∙ kept_by (record_after (PageIs pid index bytes)) (λ r. refl) (backup_record system log p)
-  by_kind now stands other rolls (Crash k cause) is none = others_after (Crash k cause) is refl refl refl refl ∙ kept_by (record_after (Crash k cause)) (λ r. refl) (backup_record system log p)
-  by_kind now stands other rolls (Return k) is none = others_after (Return k) is refl refl refl refl ∙ kept_by (record_after (Return k)) (λ r. refl) (backup_record system log p)
   by_kind now stands other rolls (Rebackup to fresh recs) is none = others_after (Rebackup to fresh recs) is none refl refl refl ∙ kept_by (record_after (Rebackup to fresh recs)) (λ r. refl) (backup_record system log p)
-  by_kind now stands other rolls (Done rests) is none = others_after (Done rests) is refl refl refl refl ∙ kept_by (record_after (Done rests)) (λ r. refl) (backup_record system log p)
-  by_kind now stands other rolls Stop is none = others_after Stop is refl refl refl refl ∙ kept_by (record_after Stop) (λ r. refl) (backup_record system log p)
+  by_kind now stands other rolls w is none = others_after w is refl refl refl refl ∙ kept_by (record_after w) (λ r. refl) (backup_record system log p)
 
 -- an entry that is no new backup for a process after it has run makes of its record, where it has not ended, what `record_after` makes of it
 pub record_follows : (May : System → List Entry → Entry → Type 0) → IsStandingRule May → (system : System) (log : List Entry) (e : Entry) (p : Pid) → is_system system ≡ true → IsLegalBy May system (log ++ e ∷ []) → is_renewed p (what e) ≡ false → IsUnended system log p

@@ -52,17 +52,7 @@ exits_there system log e p stands = by_kind (what e) stands.kind
 
     by_kind : (w : What) → KindHolds system log e w → is_exit_of p w ≡ true → is_some (process_after system log p) ≡ true
     by_kind (Exit q at end) kind exit = subst (λ r. is_some (process_after system log r) ≡ true) (same_of q p exit) (sender_there q at end kind)
-    by_kind (Mail at letter) kind exit = absurd (true≢false (sym exit))
-    by_kind (Birth parent at child end) kind exit = absurd (true≢false (sym exit))
-    by_kind (Page pid at index bytes) kind exit = absurd (true≢false (sym exit))
-    by_kind (Sync pid small read took) kind exit = absurd (true≢false (sym exit))
-    by_kind (Fetch pid index) kind exit = absurd (true≢false (sym exit))
-    by_kind (PageIs pid index bytes) kind exit = absurd (true≢false (sym exit))
-    by_kind (Crash k cause) kind exit = absurd (true≢false (sym exit))
-    by_kind (Return k) kind exit = absurd (true≢false (sym exit))
-    by_kind (Rebackup to fresh recs) kind exit = absurd (true≢false (sym exit))
-    by_kind (Done rests) kind exit = absurd (true≢false (sym exit))
-    by_kind Stop kind exit = absurd (true≢false (sym exit))
+    by_kind _ kind exit = absurd (true≢false (sym exit))
 
 -- so who has exited is in the kernel
 exited_there : (system : System) (log : List Entry) (p : Pid) → IsLegalBy Stands system log → has_exited log p ≡ true → is_some (process_after system log p) ≡ true

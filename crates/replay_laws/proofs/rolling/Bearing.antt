@@ -25,17 +25,7 @@ pub record IsBirth (w : What) (p : Pid) : Type 0 where
 
 pub birth_is : (w : What) (p : Pid) → is_birth_of p w ≡ true → IsBirth w p
 birth_is (Birth parent at child end) p birth = record { parent = parent; at = at; end = end; is = ap (λ q. Birth parent at q end) (same_of child p birth) }
-birth_is (Mail at letter) p birth = absurd (true≢false (sym birth))
-birth_is (Exit pid at end) p birth = absurd (true≢false (sym birth))
-birth_is (Page pid at index bytes) p birth = absurd (true≢false (sym birth))
-birth_is (Sync pid small read took) p birth = absurd (true≢false (sym birth))
-birth_is (Fetch pid index) p birth = absurd (true≢false (sym birth))
-birth_is (PageIs pid index bytes) p birth = absurd (true≢false (sym birth))
-birth_is (Crash k cause) p birth = absurd (true≢false (sym birth))
-birth_is (Return k) p birth = absurd (true≢false (sym birth))
-birth_is (Rebackup to fresh recs) p birth = absurd (true≢false (sym birth))
-birth_is (Done rests) p birth = absurd (true≢false (sym birth))
-birth_is Stop p birth = absurd (true≢false (sym birth))
+birth_is _ p birth = absurd (true≢false (sym birth))
 
 -- the kernel makes a birth that stands
 pub stands_made : (system : System) (log : List Entry) (e : Entry) (parent : Pid) (at : ℕ) (child : Pid) (end : ℕ) → Stands system log e → what e ≡ Birth parent at child end → BirthMade system log e parent child

@@ -196,20 +196,17 @@ module _ (system : System) (log : List Entry) (e : Entry) where
   did (Mail at letter) is stands kind goes_on p no_cut unborn = mail_did at letter is kind p
   did (Birth parent at child end) is stands kind goes_on p no_cut unborn = birth_did parent at child end (stands_made system log e parent at child end stands is) p unborn
   did (Exit q at end) is stands kind goes_on p no_cut unborn = exit_did q at end is kind p
-  did (Page q at index bytes) is stands kind goes_on p no_cut unborn = quiet_did (Page q at index bytes) p is (λ k. refl) refl refl
   did (Sync q small read None) is stands kind goes_on p no_cut unborn =
       beside_did (Sync q small read None) q small.steps p is (λ k. append-nil (run_upto k q small.steps)) (mapped_some (λ s. (after_take None s).small) (silent_upto system log q small.steps) small kind.state) no_cut refl refl
   did (Sync q small read (Some g)) is stands kind goes_on p no_cut unborn = left_did (Sync q small read (Some g)) p ((sync_taken system log e q small read g is kind).made.others p no_cut) refl refl
-  did (Fetch q index) is stands kind goes_on p no_cut unborn = quiet_did (Fetch q index) p is (λ k. refl) refl refl
-  did (PageIs q index bytes) is stands kind goes_on p no_cut unborn = quiet_did (PageIs q index bytes) p is (λ k. refl) refl refl
   did (Crash k cause) is stands kind goes_on p no_cut unborn = quiet_did (Crash k cause) p is (λ n. refl) refl refl
   did (Return k) is stands kind goes_on p no_cut unborn = quiet_did (Return k) p is (λ n. refl) refl refl
   did (Rebackup to true []) is stands kind goes_on p no_cut unborn = absurd kind
   did (Rebackup to true (r ∷ rs)) is stands kind goes_on p no_cut unborn =
       beside_did (Rebackup to true (r ∷ rs)) r.pid (steps_in r.state) p is (λ k. refl) (ap (λ w. is_some (after_items system log w)) (sym is) ∙ kind.silent) no_cut refl refl
-  did (Rebackup to false recs) is stands kind goes_on p no_cut unborn = quiet_did (Rebackup to false recs) p is (λ k. refl) refl refl
   did (Done rests) is stands kind goes_on p no_cut unborn = absurd (true≢false goes_on)
   did Stop is stands kind goes_on p no_cut unborn = absurd (true≢false goes_on)
+  did w is stands kind goes_on p no_cut unborn = quiet_did w p is (λ k. refl) refl refl
 
 -- ---- the invariant
 

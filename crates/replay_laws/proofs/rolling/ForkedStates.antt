@@ -95,15 +95,7 @@ module _ (system : System) (log : List Entry) (e : Entry) (p : Pid) (legal : IsL
       by_what (Birth parent at child end) is = by_parent parent at child end is (same_pid parent p) refl
       by_what (Mail at letter) is = adds_none (ap (λ w. births_in (deeds_in p w)) is ∙ sent (Sends (Sent letter)) refl (same_pid letter.from p))
       by_what (Exit q at end) is = adds_none (ap (λ w. births_in (deeds_in p w)) is ∙ sent (Sends (Ended end)) refl (same_pid q p))
-      by_what (Page q at index bytes) is = adds_none (ap (λ w. births_in (deeds_in p w)) is)
-      by_what (Sync q small read took) is = adds_none (ap (λ w. births_in (deeds_in p w)) is)
-      by_what (Fetch q index) is = adds_none (ap (λ w. births_in (deeds_in p w)) is)
-      by_what (PageIs q index bytes) is = adds_none (ap (λ w. births_in (deeds_in p w)) is)
-      by_what (Crash k cause) is = adds_none (ap (λ w. births_in (deeds_in p w)) is)
-      by_what (Return k) is = adds_none (ap (λ w. births_in (deeds_in p w)) is)
-      by_what (Rebackup to fresh recs) is = adds_none (ap (λ w. births_in (deeds_in p w)) is)
-      by_what (Done rests) is = adds_none (ap (λ w. births_in (deeds_in p w)) is)
-      by_what Stop is = adds_none (ap (λ w. births_in (deeds_in p w)) is)
+      by_what _ is = adds_none (ap (λ w. births_in (deeds_in p w)) is)
 
   -- as they were born
   adds_are : (was now : ProcState) (g : Goes p (what e) was now) → Adds was now g → map Some (forked g.made was (deeds_in p (what e))) ≡ map (birth_state system (log ++ e ∷ [])) (births_in (deeds_in p (what e)))

@@ -54,15 +54,7 @@ others_by : (places : Places) (by : By) (p : Pid) (q : Placed) (w : What) → is
 others_by places by p q (Mail at letter) right there other = not_its_own places by p letter.from q (Sends (Sent letter)) there other right
 others_by places by p q (Birth parent at child end) right there other = not_its_own places by p parent q (Bears child) there other right
 others_by places by p q (Exit r at end) right there other = not_its_own places by p r q (Sends (Ended end)) there other right
-others_by places by p q (Page r at index bytes) right there other = refl
-others_by places by p q (Sync r small read took) right there other = refl
-others_by places by p q (Fetch r index) right there other = refl
-others_by places by p q (PageIs r index bytes) right there other = refl
-others_by places by p q (Crash k cause) right there other = refl
-others_by places by p q (Return k) right there other = refl
-others_by places by p q (Rebackup to fresh recs) right there other = refl
-others_by places by p q (Done rests) right there other = refl
-others_by places by p q Stop right there other = refl
+others_by places by p q _ right there other = refl
 
 pub others_tell_none : (system : System) (log : List Entry) (e : Entry) (p : Pid) (q : Placed) → Stands system log e → unended_at (placement system log) p ≡ Some q → is_from q.home (e.post).by ≡ false → deeds_in p (what e) ≡ []
 others_tell_none system log e p q stands = others_by (placement system log) (e.post).by p q (what e) stands.by_right

@@ -117,19 +117,13 @@ module _ (system : System) (log : List Entry) (e : Entry) (stands : Stands syste
       ∙ was
 
   fresh_by : (w : What) → what e ≡ w → is_cut p w ≡ false → IsFresh (unended_at (placed_after (placement system log) w) p)
-  fresh_by (Mail at letter) is no_cut = fresh
   fresh_by (Birth parent at child end) is no_cut = birth_fresh parent at child end is
   fresh_by (Exit r at end) is no_cut = exit_fresh r (Exit r at end) (exit_there (placement system log) r p at end) (exit_elsewhere (placement system log) r p at end)
-  fresh_by (Page r at index bytes) is no_cut = fresh
   fresh_by (Sync r small read took) is no_cut = mapped_fresh (after_sync r) (sync_keeps r) (placement system log) (placed_after (placement system log) (Sync r small read took)) refl p fresh (λ q pid was. sync_fresh q r pid no_cut was)
-  fresh_by (Fetch r index) is no_cut = fresh
-  fresh_by (PageIs r index bytes) is no_cut = fresh
   fresh_by (Crash k cause) is no_cut = mapped_fresh (after_loss k) (loss_keeps k) (placement system log) (placed_after (placement system log) (Crash k cause)) refl p fresh (λ q pid was. loss_synced k q ∙ was)
-  fresh_by (Return k) is no_cut = fresh
   fresh_by (Rebackup to anew recs) is no_cut =
       mapped_fresh (after_rebackup to anew recs) (backup_keeps to anew recs) (placement system log) (placed_after (placement system log) (Rebackup to anew recs)) refl p fresh (λ q pid was. backup_fresh to anew recs q is no_cut pid was)
-  fresh_by (Done rests) is no_cut = fresh
-  fresh_by Stop is no_cut = fresh
+  fresh_by _ is no_cut = fresh
 
 record Cut (log : List Entry) (e : Entry) (p : Pid) : Type 0 where
   pub before : was_cut_in log p ≡ false

@@ -26,14 +26,4 @@ birth_beside p child places (Some q) apart =
 -- who has not ended after an entry that does not bear it had not ended before, and the entry is not its exit
 pub before_unended : (w : What) (places : Places) (p : Pid) → is_birth_of p w ≡ false → is_some (unended_at (placed_after places w) p) ≡ true → (is_exit_of p w ≡ false) × (is_some (unended_at places p) ≡ true)
 before_unended (Birth parent at child end) places p unborn there = (refl, sym (ap is_some (birth_beside p child places (placed_at places parent) unborn)) ∙ there)
-before_unended (Mail at letter) places p unborn there = unended_before (Mail at letter) refl places p there
-before_unended (Exit q at end) places p unborn there = unended_before (Exit q at end) refl places p there
-before_unended (Page q at index bytes) places p unborn there = unended_before (Page q at index bytes) refl places p there
-before_unended (Sync q small read took) places p unborn there = unended_before (Sync q small read took) refl places p there
-before_unended (Fetch q index) places p unborn there = unended_before (Fetch q index) refl places p there
-before_unended (PageIs q index bytes) places p unborn there = unended_before (PageIs q index bytes) refl places p there
-before_unended (Crash k cause) places p unborn there = unended_before (Crash k cause) refl places p there
-before_unended (Return k) places p unborn there = unended_before (Return k) refl places p there
-before_unended (Rebackup to fresh recs) places p unborn there = unended_before (Rebackup to fresh recs) refl places p there
-before_unended (Done rests) places p unborn there = unended_before (Done rests) refl places p there
-before_unended Stop places p unborn there = unended_before Stop refl places p there
+before_unended w places p unborn there = unended_before w refl places p there
