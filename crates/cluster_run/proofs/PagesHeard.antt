@@ -9,7 +9,7 @@ use Rattle.bus_msg.specs.declared.entry.Entry.{Entry}
 use Rattle.bus_msg.specs.PlacedAfter.{what}
 use Rattle.cert_sched.specs.Losses.{is_page_entry}
 use Rattle.cert_sched.specs.Scripted.{is_done, is_finished}
-use Rattle.cluster_core.proofs.Counted.{count_by-snoc}
+use Rattle.cluster_core.proofs.absorbing.Counted.{count_by-snoc}
 use Rattle.bus_order.proofs.LogParts.{take_one}
 use Rattle.bus_order.proofs.OverLaws.{finished_some}
 

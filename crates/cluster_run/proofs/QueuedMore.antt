@@ -8,8 +8,8 @@ use Rattle.bus_msg.specs.declared.entry.Entry.{Entry}
 use Rattle.cert_sched.specs.Appended.{entry_of}
 use Rattle.cert_sched.specs.Losses.{capped, least_calls}
 use Rattle.cluster_core.specs.Queue.{is_rebackup, with_queue}
-use Rattle.cluster_core.proofs.Counted.{count_by-snoc}
-use Rattle.cluster_core.proofs.Served.{answers}
+use Rattle.cluster_core.proofs.absorbing.Counted.{count_by-snoc}
+use Rattle.cluster_core.proofs.absorbing.Served.{answers}
 
 -- no fewer pass a test with a queue
 pub queued_more : (test : Entry → Bool) (system : System) (log : List Entry) (queue : List Post) → count_by test log ≤ count_by test (with_queue system log queue)

@@ -49,9 +49,9 @@ use Rattle.cluster_core.specs.Holds.{IsHeldAs}
 use Rattle.cluster_core.specs.Calls.{FollowsSome}
 use Rattle.cluster_core.specs.Follows.{FollowsBuilt, IsOpen}
 use Rattle.cluster_core.specs.Queue.{Nothing, One, IsQueueLegal, is_move_of, state_by, AreTogether, IsQueued, Queued, is_lone, move_of, posts_of}
-use Rattle.cluster_core.proofs.Here.{same_itself, pid_same}
+use Rattle.cluster_core.proofs.here.Here.{same_itself, pid_same}
 use Rattle.cluster_core.specs.Residents.{pids_in}
-use Rattle.cluster_core.proofs.Lightening.{held_apart}
+use Rattle.cluster_core.proofs.working.Lightening.{held_apart}
 use Rattle.sys_calls.proofs.Counting.{last_sent}
 use Rattle.sys_calls.proofs.ForkLaws.{forks_can}
 use Rattle.sys_calls.proofs.Bearing.{emits_lightens, fork_lightens, silent_lightens, silently_lightens}
@@ -77,7 +77,7 @@ use Rattle.std.proofs.lemmas.Bool.{and_parts}
 use Rattle.plain_kernel.proofs.Entries.{some_same}
 use Rattle.cluster_core.specs.Syncing.{Synchronises}
 use Rattle.cluster_core.specs.Bearing.{BearsChild}
-use Rattle.cluster_core.proofs.BatchPosts.{batch_moves, batch_moves_other}
+use Rattle.cluster_core.proofs.syncs.BatchPosts.{batch_moves, batch_moves_other}
 use Rattle.checkpoint_laws.specs.batches.Underway.{posts_left}
 use Rattle.checkpoint_laws.proofs.posts.TakeLeaves.{takes_leave}
 use Rattle.bus_msg.specs.declared.entry.What.TheVariants.{Mail, Exit, Fetch, PageIs, Sync}

@@ -1,5 +1,5 @@
 use Rattle.std.proofs.Common.{sym, ◌∙◌}
-use Rattle.cluster_core.proofs.Arriving.{goes_elsewhere}
+use Rattle.cluster_core.proofs.absorbing.Arriving.{goes_elsewhere}
 use Rattle.cluster_core.proofs.absorb.tell.Goals as goal
 
 pub returns-else-goes_to-clause-ok : goal.returns-else-goes_to-clause-ok

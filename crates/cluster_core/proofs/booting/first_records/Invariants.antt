@@ -2,7 +2,7 @@ use Rattle.std.proofs.Common.{◌≡◌, ◌++◌, map}
 use Rattle.std.specs.List.Sorted.{IsStrictlySortedBy}
 use Rattle.std.specs.Ordering.{nat_cmp}
 use Rattle.cluster_core.specs.Booting.{AreFirstRecords}
-use Rattle.cluster_core.proofs.FirstRecords.{seen}
+use Rattle.cluster_core.proofs.boot.FirstRecords.{seen}
 use Rattle.cluster_core.proofs.booting.first_records.Given as goal
 
 abbrev pub invariant-loop-pid : goal.invariant-loop-pid

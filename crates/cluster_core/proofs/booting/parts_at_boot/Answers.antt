@@ -1,4 +1,4 @@
-use Rattle.cluster_core.proofs.FirstRecords.{first_kept}
+use Rattle.cluster_core.proofs.boot.FirstRecords.{first_kept}
 use Rattle.cluster_core.proofs.booting.parts_at_boot.Goals as goal
 
 pub returns-clause-records : goal.returns-clause-records

@@ -5,7 +5,7 @@ use Rattle.plain_kernel.specs.Starts.{starts_in}
 use Rattle.cluster_core.specs.Booting.{RunFrom}
 use Rattle.cluster_core.specs.Residents.{with_more}
 use Rattle.cluster_core.specs.View.{Held}
-use Rattle.cluster_core.proofs.Homing.{more_run, not_here}
+use Rattle.cluster_core.proofs.boot.Homing.{more_run, not_here}
 use Rattle.cluster_core.proofs.booting.residents_of.Goals as goal
 
 pub add-requires : goal.add-requires

@@ -1,4 +1,4 @@
-use Rattle.cluster_core.proofs.OwnChildren.{own_first}
+use Rattle.cluster_core.proofs.births.OwnChildren.{own_first}
 use Rattle.cluster_core.proofs.hearing.own_children_come_first.Goals as goal
 
 pub returns : goal.returns

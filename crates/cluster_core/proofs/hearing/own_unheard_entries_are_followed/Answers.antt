@@ -1,4 +1,4 @@
-use Rattle.cluster_core.proofs.OwnUnheard.{sent_unheard}
+use Rattle.cluster_core.proofs.heard.OwnUnheard.{sent_unheard}
 use Rattle.cluster_core.proofs.hearing.own_unheard_entries_are_followed.Goals as goal
 
 pub returns : goal.returns

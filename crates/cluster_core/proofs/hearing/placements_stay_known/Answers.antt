@@ -1,4 +1,4 @@
-use Rattle.cluster_core.proofs.KnownPlaces.{known_after, left_alike, moved_alike}
+use Rattle.cluster_core.proofs.absorbing.KnownPlaces.{known_after, left_alike, moved_alike}
 use Rattle.cluster_core.proofs.hearing.placements_stay_known.Goals as goal
 
 pub returns-clause-known : goal.returns-clause-known

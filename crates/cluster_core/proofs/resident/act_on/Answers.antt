@@ -1,6 +1,6 @@
 use Rattle.std.proofs.Common.{◌≡◌, ◌∙◌, sym, false}
 use Rattle.quanta.specs.Limited.{is_due}
-use Rattle.cluster_core.proofs.RestTold.{rest_told, runs_told}
+use Rattle.cluster_core.proofs.working.RestTold.{rest_told, runs_told}
 use Rattle.cluster_core.proofs.resident.act_on.Goals as goal
 use Rattle.cluster_core.proofs.resident.act_on.Goals.{else-made-eq0-via-then-made-eq0+else-ask, else-made-eq0-via-else-made-eq0}
 

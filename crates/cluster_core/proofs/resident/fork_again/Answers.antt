@@ -6,8 +6,8 @@ use Rattle.cluster_core.specs.declared.resident.Standing.{Standing}
 use Rattle.cluster_core.specs.declared.resident.Standing.TheVariants.{Runs as IsRunning, Rolls as IsRolling}
 use Rattle.cluster_core.specs.ForkingAgain.{born_by, HasForkedAgain, StandsAtForkAgain}
 use Rattle.cluster_core.specs.Resident.{StandsSo, held_standing}
-use Rattle.cluster_core.proofs.ForkStanding.{forked_rolls, forked_runs, stands_forked}
-use Rattle.cluster_core.proofs.Standing.{left_if}
+use Rattle.cluster_core.proofs.forks.ForkStanding.{forked_rolls, forked_runs, stands_forked}
+use Rattle.cluster_core.proofs.absorbing.Standing.{left_if}
 use Rattle.cluster_core.proofs.resident.fork_again.Goals as goal
 use Rattle.cluster_core.proofs.resident.fork_again.Goals.{then-caught_up, else-caught_up}
 

@@ -1,7 +1,7 @@
 use Rattle.std.proofs.Common.{◌≡◌, ◌∙◌, ap, subst, sym, Some}
 use Rattle.cluster_core.specs.declared.resident.Standing.TheVariants.{Waits as IsWaiting}
 use Rattle.cluster_core.specs.Resident.{CanGoOnFrom}
-use Rattle.cluster_core.proofs.Standing.{goes_on_runs_out}
+use Rattle.cluster_core.proofs.absorbing.Standing.{goes_on_runs_out}
 use Rattle.cluster_core.proofs.resident.go_on.Goals as goal
 
 pub standing_of-requires : goal.standing_of-requires

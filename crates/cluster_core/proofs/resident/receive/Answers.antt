@@ -2,7 +2,7 @@ use Rattle.std.proofs.Common.{◌≡◌, ◌∙◌, ap, subst, Some}
 use Rattle.roll_forward.specs.Rolling.{RollingState}
 use Rattle.cluster_core.specs.declared.resident.Standing.TheVariants.{Rolls as IsRolling}
 use Rattle.cluster_core.specs.Resident.{StandsSo}
-use Rattle.cluster_core.proofs.Standing.{delivered_stands}
+use Rattle.cluster_core.proofs.absorbing.Standing.{delivered_stands}
 use Rattle.cluster_core.proofs.resident.receive.Goals as goal
 
 pub returns-in-Some-Rolls-clause-stands : goal.returns-in-Some-Rolls-clause-stands

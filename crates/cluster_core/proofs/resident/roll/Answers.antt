@@ -4,7 +4,7 @@ use Rattle.cluster_core.specs.declared.resident.Standing.{Standing}
 use Rattle.cluster_core.specs.declared.resident.Standing.TheVariants.{Runs as IsRunning, Rolls as IsRolling}
 use Rattle.cluster_core.specs.ForkingAgain.{HasRolled}
 use Rattle.cluster_core.specs.Resident.{StandsSo, held_standing}
-use Rattle.cluster_core.proofs.Standing.{Rolled, caught_up, left_if, stands_still, still_rolls}
+use Rattle.cluster_core.proofs.absorbing.Standing.{Rolled, caught_up, left_if, stands_still, still_rolls}
 use Rattle.cluster_core.proofs.resident.roll.Goals as goal
 
 pub returns-else-caught_up-clause-stands : goal.returns-else-caught_up-clause-stands

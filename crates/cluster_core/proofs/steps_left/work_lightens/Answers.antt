@@ -1,4 +1,4 @@
-use Rattle.cluster_core.proofs.Lightening.{moved_lightens, queued_lightens}
+use Rattle.cluster_core.proofs.working.Lightening.{moved_lightens, queued_lightens}
 use Rattle.cluster_core.proofs.steps_left.work_lightens.Goals as goal
 
 pub returns-clause-moved : goal.returns-clause-moved

@@ -7,7 +7,7 @@ use Rattle.replay_laws.specs.pages.Waits.{first_wait}
 use Rattle.cluster_core.specs.Residents.{with_more}
 use Rattle.cluster_core.specs.Recovered.{CanWait, with_all_waiting}
 use Rattle.cluster_core.specs.View.{Held, Waits}
-use Rattle.cluster_core.proofs.BeginWaits.{first_waits, others_rise, others_wait}
+use Rattle.cluster_core.proofs.losses.BeginWaits.{first_waits, others_rise, others_wait}
 use Rattle.cluster_core.proofs.taking_over.begin_waits.Goals as goal
 
 pub records-init : goal.records-init

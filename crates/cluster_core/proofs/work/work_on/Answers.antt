@@ -1,5 +1,5 @@
 use Rattle.std.proofs.Common.{sym, ◌∙◌, ap, is_some}
-use Rattle.cluster_core.proofs.WorkedOn.{works_next}
+use Rattle.cluster_core.proofs.working.WorkedOn.{works_next}
 use Rattle.cluster_core.proofs.work.work_on.Goals as goal
 
 pub returns-clause-ok : goal.returns-clause-ok

@@ -7,7 +7,7 @@ use Rattle.cluster_core.specs.declared.worked.Worked.{Worked}
 use Rattle.cluster_core.specs.declared.worked.Worked.TheVariants.{Moved, Queued, Waits, Rests}
 use Rattle.cluster_core.specs.Calls.{FailsBy, GoesOn, HurtIs, KeepsPlace, WorkIs}
 use Rattle.cluster_core.specs.View.{ClusterView, head_of}
-use Rattle.cluster_core.proofs.Lightening.{moved_lightens}
+use Rattle.cluster_core.proofs.working.Lightening.{moved_lightens}
 use Rattle.cert_sched.specs.Losses.{was_lost_in}
 use Rattle.page_server.specs.declared.disk.DiskFault.{DiskFault}
 use Rattle.cluster_run.specs.Turns.{GoesOwn, LosesOwn, SendsAll, TurnsOwn}

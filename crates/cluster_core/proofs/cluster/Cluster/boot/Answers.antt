@@ -14,7 +14,7 @@ use Rattle.cluster_core.specs.Booting.{AreBooted}
 use Rattle.cluster_core.specs.Follows.{FollowsBuilt}
 use Rattle.cluster_core.specs.Parts.{AllOwn}
 use Rattle.cluster_core.specs.Serving.{BeginsToServe, IsFailing}
-use Rattle.cluster_core.proofs.Booted.{boot_view, boot_follows, boot_own, placed_at_boot}
+use Rattle.cluster_core.proofs.boot.Booted.{boot_view, boot_follows, boot_own, placed_at_boot}
 use Rattle.cluster_core.proofs.cluster.Cluster.boot.Goals as goal
 
 pub parts_at_boot-requires-clause-places : goal.parts_at_boot-requires-clause-places

@@ -7,12 +7,12 @@ use Rattle.cluster_core.specs.View.{ClusterView, limits_of}
 use Rattle.cluster_core.specs.Calls.{GoesOn, WorkIs}
 use Rattle.cluster_core.specs.ForkingAgain.{CanForkAgain}
 use Rattle.cluster_core.specs.Parts.{AllOwn}
-use Rattle.cluster_core.proofs.CanFork.{can_fork_again}
+use Rattle.cluster_core.proofs.forks.CanFork.{can_fork_again}
 use Rattle.cluster_core.specs.Serving.{CanAnswer}
 use Rattle.cluster_core.specs.Work.{WorksOn, next_pid}
-use Rattle.cluster_core.proofs.Answering.{can_answer}
-use Rattle.cluster_core.proofs.Serials.{next_fits}
-use Rattle.cluster_core.proofs.Turning.{worked_view, works}
+use Rattle.cluster_core.proofs.paging.Answering.{can_answer}
+use Rattle.cluster_core.proofs.absorbing.Serials.{next_fits}
+use Rattle.cluster_core.proofs.working.Turning.{worked_view, works}
 use Rattle.cluster_core.proofs.cluster.Cluster.do_work.Goals as goal
 
 pub work_on-requires-clause-queue : goal.work_on-requires-clause-queue

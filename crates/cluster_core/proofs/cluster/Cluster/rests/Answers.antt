@@ -5,7 +5,7 @@ use Rattle.cluster_core.specs.View.{ClusterView, limits_of}
 use Rattle.cluster_core.specs.Parts.{AllOwn}
 use Rattle.cluster_core.specs.Residents.{are_rising, are_settled, pids_in}
 use Rattle.cluster_core.specs.Calls.{rests_in}
-use Rattle.cluster_core.proofs.Resting.{told_rests, answered_rests}
+use Rattle.cluster_core.proofs.working.Resting.{told_rests, answered_rests}
 use Rattle.cluster_core.proofs.cluster.Cluster.rests.Goals as goal
 
 pub returns-clause-rests : goal.returns-clause-rests

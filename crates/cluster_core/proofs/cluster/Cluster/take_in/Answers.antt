@@ -5,7 +5,7 @@ use Rattle.sys_text.specs.Valid.{is_system}
 use Rattle.sys_text.proofs.Bounds.{system_bounds}
 use Rattle.channel_table.specs.Changes.{CanBeAbsorbed}
 use Rattle.backup_records.specs.Records.{CanNote, are_rising, records_after}
-use Rattle.cluster_core.proofs.Served.{failing_after}
+use Rattle.cluster_core.proofs.absorbing.Served.{failing_after}
 use Rattle.cluster_core.specs.View.{failing_in, ClusterView, next_count, with_server}
 use Rattle.cluster_core.specs.Serving.{Serves}
 use Rattle.cluster_core.specs.Parts.{AllOwn}
@@ -13,12 +13,12 @@ use Rattle.cluster_core.specs.Recovered.{CanWait, left_by, moved_by, with_all_wa
 use Rattle.cluster_core.specs.Calls.{Absorbs, absorbed, here_after}
 use Rattle.cluster_core.specs.Families.{CanJoin, family_after}
 use Rattle.cluster_core.specs.Absorbing.{CanBeBorn, CanCome, ComesHere, IsNotedHere}
-use Rattle.cluster_core.proofs.Arriving.{comes_here}
-use Rattle.cluster_core.proofs.Noting.{can_note_next, noted_next}
-use Rattle.cluster_core.proofs.Owning.{has_room}
-use Rattle.cluster_core.proofs.Absorbed.{absorbs, may_come, may_wait, own_either, ready_absorbable, ready_joins, ready_own}
-use Rattle.cluster_core.proofs.OwningWaits.{owns_waiting}
-use Rattle.cluster_core.proofs.Bearable.{may_be_born}
+use Rattle.cluster_core.proofs.absorbing.Arriving.{comes_here}
+use Rattle.cluster_core.proofs.absorbing.Noting.{can_note_next, noted_next}
+use Rattle.cluster_core.proofs.here.Owning.{has_room}
+use Rattle.cluster_core.proofs.absorbing.Absorbed.{absorbs, may_come, may_wait, own_either, ready_absorbable, ready_joins, ready_own}
+use Rattle.cluster_core.proofs.losses.OwningWaits.{owns_waiting}
+use Rattle.cluster_core.proofs.births.Bearable.{may_be_born}
 use Rattle.cluster_core.proofs.cluster.Cluster.take_in.Goals as goal
 
 pub tell-requires-clause-room : goal.tell-requires-clause-room

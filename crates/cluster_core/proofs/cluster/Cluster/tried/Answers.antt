@@ -1,7 +1,7 @@
 use Rattle.std.proofs.Common.{◌≡◌, subst, sym, ap, ◌∙◌, true}
 use Rattle.cluster_core.specs.View.{ClusterView, next_count, tried_once}
 use Rattle.cluster_core.specs.Calls.{GoesOn}
-use Rattle.cluster_core.proofs.Working.{goes_on_tried}
+use Rattle.cluster_core.proofs.working.Working.{goes_on_tried}
 use Rattle.cluster_core.proofs.cluster.Cluster.tried.Goals as goal
 
 pub returns-clause-follows : goal.returns-clause-follows

@@ -7,8 +7,8 @@ use Rattle.bus_msg.specs.Places.{same_pid}
 use Rattle.cluster_core.specs.View.{Held}
 use Rattle.cluster_core.specs.Residents.{ResidentsView, with_more}
 use Rattle.cluster_core.specs.Slots.{stands_in, IsKept}
-use Rattle.cluster_core.proofs.Slots.{others_stand}
-use Rattle.cluster_core.proofs.Kept.{asking_put, kept_added, kept_beside, more_room, none_here, ready_put, stands_put, unnamed}
+use Rattle.cluster_core.proofs.here.Slots.{others_stand}
+use Rattle.cluster_core.proofs.here.Kept.{asking_put, kept_added, kept_beside, more_room, none_here, ready_put, stands_put, unnamed}
 use Rattle.cluster_core.proofs.residents.Residents.add.Goals as goal
 
 pub invariant_of-self-in_err-insert-2 : goal.invariant_of-self-in_err-insert-2

@@ -4,10 +4,10 @@ use Rattle.slab.proofs.SlabLemmas.{Updates-with_value}
 use Rattle.t32_base.specs.declared.letter.Letter.{Letter}
 use Rattle.cluster_core.specs.Residents.{ResidentsView}
 use Rattle.cluster_core.specs.View.{arrived_held, held_of}
-use Rattle.cluster_core.proofs.Slots.{process_there}
-use Rattle.cluster_core.proofs.Kept.{kept_written, never_empty, ready_put}
-use Rattle.cluster_core.proofs.Coming.{arrival, no_arrival, on_ok, still_lacks}
-use Rattle.cluster_core.proofs.Asking.{lacks_listed}
+use Rattle.cluster_core.proofs.here.Slots.{process_there}
+use Rattle.cluster_core.proofs.here.Kept.{kept_written, never_empty, ready_put}
+use Rattle.cluster_core.proofs.paging.Coming.{arrival, no_arrival, on_ok, still_lacks}
+use Rattle.cluster_core.proofs.paging.Asking.{lacks_listed}
 use Rattle.cluster_core.proofs.residents.Residents.arrive.Goals as goal
 
 pub invariant_of-self-in_err-copy-in-Some-get_mut : goal.invariant_of-self-in_err-copy-in-Some-get_mut

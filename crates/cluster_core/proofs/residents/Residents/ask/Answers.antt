@@ -1,8 +1,8 @@
 use Rattle.std.proofs.Common.{◌∙◌, ap, sym}
 use Rattle.std.specs.List.{list_any}
 use Rattle.plain_kernel.specs.Maps.{at_key}
-use Rattle.cluster_core.proofs.Kept.{first_any}
-use Rattle.cluster_core.proofs.Asking.{next_asked}
+use Rattle.cluster_core.proofs.here.Kept.{first_any}
+use Rattle.cluster_core.proofs.paging.Asking.{next_asked}
 use Rattle.cluster_core.proofs.residents.Residents.ask.Goals as goal
 
 pub has_asked-requires-clause-there : goal.has_asked-requires-clause-there

@@ -4,9 +4,9 @@ use Rattle.slab.proofs.SlabLemmas.{Updates-with_value}
 use Rattle.plain_kernel.specs.Maps.{pid_of}
 use Rattle.cluster_core.specs.Residents.{ResidentsView, lacks_none_at}
 use Rattle.cluster_core.specs.View.{page_lacked}
-use Rattle.cluster_core.proofs.Slots.{nobody_fails, no_entry}
-use Rattle.cluster_core.proofs.Kept.{never_empty, kept_written}
-use Rattle.cluster_core.proofs.Asking.{able_listed, after_ask_acts, after_ask_lacks, asked_of, lacks_listed}
+use Rattle.cluster_core.proofs.here.Slots.{nobody_fails, no_entry}
+use Rattle.cluster_core.proofs.here.Kept.{never_empty, kept_written}
+use Rattle.cluster_core.proofs.paging.Asking.{able_listed, after_ask_acts, after_ask_lacks, asked_of, lacks_listed}
 use Rattle.cluster_core.proofs.residents.Residents.ask_of.Goals as goal
 
 pub unreachable-requires : goal.unreachable-requires

@@ -5,7 +5,7 @@ use Rattle.bus_msg.specs.Places.{same_pid}
 use Rattle.cluster_core.specs.View.{Held}
 use Rattle.cluster_core.specs.Bearing.{ForksAt}
 use Rattle.cluster_core.specs.Residents.{ResidentsView, with_more}
-use Rattle.cluster_core.proofs.Forked.{Borne, borne, born_beside, still_absent}
+use Rattle.cluster_core.proofs.forks.Forked.{Borne, borne, born_beside, still_absent}
 use Rattle.cluster_core.proofs.residents.Residents.bear.Goals.{in-Some-2, in-None-2}
 use Rattle.cluster_core.proofs.residents.Residents.bear.Goals as goal
 

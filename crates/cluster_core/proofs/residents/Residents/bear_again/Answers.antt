@@ -11,10 +11,10 @@ use Rattle.plain_kernel.specs.Maps.{at_key, pid_of}
 use Rattle.plain_kernel.proofs.Entries.{some_same}
 use Rattle.cluster_core.specs.ForkingAgain.{StandsAtForkAgain}
 use Rattle.cluster_core.specs.View.{held_of}
-use Rattle.cluster_core.proofs.Slots.{nobody_held, no_entry, process_there}
-use Rattle.cluster_core.proofs.Kept.{kept_written, never_empty, written_back}
-use Rattle.cluster_core.proofs.Asking.{lacks_listed}
-use Rattle.cluster_core.proofs.RollingSlots.{bears_at, forked_again_lacks}
+use Rattle.cluster_core.proofs.here.Slots.{nobody_held, no_entry, process_there}
+use Rattle.cluster_core.proofs.here.Kept.{kept_written, never_empty, written_back}
+use Rattle.cluster_core.proofs.paging.Asking.{lacks_listed}
+use Rattle.cluster_core.proofs.rolling.RollingSlots.{bears_at, forked_again_lacks}
 use Rattle.cluster_core.proofs.residents.Residents.bear_again.Goals as goal
 
 on_err : {A B : Type 0} → (r : Result (Option Process) NoMemory) → (A → B) → OnErr r A → OnErr r B

@@ -4,11 +4,11 @@ use Rattle.slab.proofs.SlabLemmas.{Updates-with_value}
 use Rattle.cluster_core.specs.Residents.{ResidentsView}
 use Rattle.std.specs.List.{list_any}
 use Rattle.plain_kernel.specs.Maps.{at_key}
-use Rattle.cluster_core.proofs.Kept.{kept_written, never_empty}
-use Rattle.cluster_core.proofs.Asking.{lacks_listed}
+use Rattle.cluster_core.proofs.here.Kept.{kept_written, never_empty}
+use Rattle.cluster_core.proofs.paging.Asking.{lacks_listed}
 use Rattle.cluster_core.specs.View.{Held, held_of, page_lacked}
-use Rattle.cluster_core.proofs.Slots.{process_there}
-use Rattle.cluster_core.proofs.RollingSlots.{begins_at, begun_lacks, none_begins}
+use Rattle.cluster_core.proofs.here.Slots.{process_there}
+use Rattle.cluster_core.proofs.rolling.RollingSlots.{begins_at, begun_lacks, none_begins}
 use Rattle.cluster_core.proofs.residents.Residents.begin_again.Goals as goal
 
 pub unreachable-requires : goal.unreachable-requires

@@ -3,10 +3,10 @@ use Rattle.slab.specs.Slab.{with_value}
 use Rattle.slab.proofs.SlabLemmas.{Updates-with_value}
 use Rattle.cluster_core.specs.Residents.{ResidentsView}
 use Rattle.cluster_core.specs.View.{held_of, page_lacked, Held}
-use Rattle.cluster_core.proofs.Slots.{process_there}
-use Rattle.cluster_core.proofs.Kept.{kept_written, never_empty, ready_put}
-use Rattle.cluster_core.proofs.Coming.{come_lacks, no_page_comes, page_comes}
-use Rattle.cluster_core.proofs.Asking.{lacks_listed}
+use Rattle.cluster_core.proofs.here.Slots.{process_there}
+use Rattle.cluster_core.proofs.here.Kept.{kept_written, never_empty, ready_put}
+use Rattle.cluster_core.proofs.paging.Coming.{come_lacks, no_page_comes, page_comes}
+use Rattle.cluster_core.proofs.paging.Asking.{lacks_listed}
 use Rattle.cluster_core.proofs.residents.Residents.come.Goals as goal
 
 pub come-requires : goal.come-requires

@@ -1,5 +1,5 @@
 use Rattle.std.proofs.Common.{sym}
-use Rattle.cluster_core.proofs.Coming.{no_end_of}
+use Rattle.cluster_core.proofs.paging.Coming.{no_end_of}
 use Rattle.cluster_core.proofs.residents.Residents.deliver.Goals as goal
 
 pub returns-in-Tty-clause-ok : goal.returns-in-Tty-clause-ok

@@ -3,10 +3,10 @@ use Rattle.slab.specs.Slab.{with_value}
 use Rattle.slab.proofs.SlabLemmas.{Updates-with_value}
 use Rattle.cluster_core.specs.Residents.{ResidentsView}
 use Rattle.cluster_core.specs.View.{held_of}
-use Rattle.cluster_core.proofs.Slots.{no_entry, process_there}
-use Rattle.cluster_core.proofs.Kept.{kept_written, never_empty, ready_put}
-use Rattle.cluster_core.proofs.Asking.{lacks_listed}
-use Rattle.cluster_core.proofs.Forked.{forks_at, nobody_forks, still_lacks_forked}
+use Rattle.cluster_core.proofs.here.Slots.{no_entry, process_there}
+use Rattle.cluster_core.proofs.here.Kept.{kept_written, never_empty, ready_put}
+use Rattle.cluster_core.proofs.paging.Asking.{lacks_listed}
+use Rattle.cluster_core.proofs.forks.Forked.{forks_at, nobody_forks, still_lacks_forked}
 use Rattle.cluster_core.proofs.residents.Residents.fork.Goals as goal
 
 pub fork-requires : goal.fork-requires

@@ -3,7 +3,7 @@ use Rattle.plain_kernel.specs.Maps.{pid_of}
 use Rattle.std.specs.Prelude.{option_and_then}
 use Rattle.cluster_core.specs.ForkingAgain.{child_again, waits_for_fork_at, CanForkAgainNow}
 use Rattle.cluster_core.specs.View.{held_of}
-use Rattle.cluster_core.proofs.RollingParts.{bears_next, begins_same, begins_with, fork_alone}
+use Rattle.cluster_core.proofs.rolling.RollingParts.{bears_next, begins_same, begins_with, fork_alone}
 use Rattle.cluster_core.proofs.residents.Residents.fork_again.Goals as goal
 
 pub returns-then-not-waits_for_fork-clause-ok : goal.returns-then-not-waits_for_fork-clause-ok

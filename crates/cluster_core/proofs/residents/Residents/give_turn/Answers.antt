@@ -1,6 +1,6 @@
 use Rattle.std.proofs.Common.{sym, ◌∙◌, ap, is_none}
 use Rattle.plain_kernel.specs.Maps.{pid_of}
-use Rattle.cluster_core.proofs.ChildFirst.{free_runs, last_childless, none_told}
+use Rattle.cluster_core.proofs.births.ChildFirst.{free_runs, last_childless, none_told}
 use Rattle.cluster_core.proofs.residents.Residents.give_turn.Goals as goal
 
 pub synchronise-requires : goal.synchronise-requires

@@ -2,7 +2,7 @@ use Rattle.std.proofs.Common.{◌+◌, ◌∙◌, ap, sym, cond, length}
 use Rattle.std.specs.List.{list_any}
 use Rattle.plain_kernel.specs.Maps.{at_key, pid_of}
 use Rattle.cluster_core.specs.Residents.{ResidentsView, lacks_none_at}
-use Rattle.cluster_core.proofs.Kept.{kept_asked}
+use Rattle.cluster_core.proofs.here.Kept.{kept_asked}
 use Rattle.cluster_core.proofs.residents.Residents.has_asked.Goals as goal
 
 pub invariant_of-self : goal.invariant_of-self

@@ -5,8 +5,8 @@ use Rattle.std.specs.Ordering.{nat_cmp}
 use Rattle.bus_msg.specs.Places.{same_pid}
 use Rattle.cluster_core.specs.Residents.{ResidentsView}
 use Rattle.cluster_core.specs.Slots.{stands_in, IsKept}
-use Rattle.cluster_core.proofs.Slots.{nobody_goes, no_entry}
-use Rattle.cluster_core.proofs.Kept.{kept_gone, goes}
+use Rattle.cluster_core.proofs.here.Slots.{nobody_goes, no_entry}
+use Rattle.cluster_core.proofs.here.Kept.{kept_gone, goes}
 use Rattle.cluster_core.proofs.residents.Residents.let_go.Goals as goal
 
 pub invariant_of-self : goal.invariant_of-self

@@ -1,7 +1,7 @@
 use Rattle.std.proofs.Common.{◌≡◌, []}
 use Rattle.std.specs.List.{AllByRecursion}
 use Rattle.cluster_core.specs.Slots.{stands_in, IsSlot}
-use Rattle.cluster_core.proofs.Kept.{rests_with}
+use Rattle.cluster_core.proofs.here.Kept.{rests_with}
 use Rattle.cluster_core.proofs.residents.Residents.listed.Given as goal
 
 -- what is still to come completes what rests so far, and each of it is in its slot

@@ -2,7 +2,7 @@ use Rattle.std.proofs.Common.{◌∙◌, ap}
 use Rattle.std.specs.List.{list_any}
 use Rattle.plain_kernel.specs.Maps.{at_key}
 use Rattle.cluster_core.specs.Residents.{ResidentsView}
-use Rattle.cluster_core.proofs.Kept.{puts_more, ready_put}
+use Rattle.cluster_core.proofs.here.Kept.{puts_more, ready_put}
 use Rattle.cluster_core.proofs.residents.Residents.make_ready.Goals as goal
 
 pub invariant_of-self-2 : goal.invariant_of-self-2

@@ -1,9 +1,9 @@
 use Rattle.std.proofs.Common.{rules, ◌≡◌, ◌∙◌, ap, sym, subst, length, filter}
 use Rattle.cluster_core.specs.ChildrenFirst.{is_free}
 use Rattle.cluster_core.specs.Residents.{ResidentsView, NextAble, are_rising, next_ready, none_has_turn}
-use Rattle.cluster_core.proofs.Kept.{rising_here}
-use Rattle.cluster_core.proofs.Choosing.{next_able, none_next}
-use Rattle.cluster_core.proofs.Free.{next_above_last, next_from_start, none_where_empty}
+use Rattle.cluster_core.proofs.here.Kept.{rising_here}
+use Rattle.cluster_core.proofs.here.Choosing.{next_able, none_next}
+use Rattle.cluster_core.proofs.here.Free.{next_above_last, next_from_start, none_where_empty}
 use Rattle.cluster_core.proofs.residents.Residents.next.Goals as goal
 
 pub returns-then-is_empty-clause-next : goal.returns-then-is_empty-clause-next

@@ -2,7 +2,7 @@ use Rattle.std.proofs.Common.{◌∙◌, ◌&&◌, ap, find, sym}
 use Rattle.std.specs.Prelude.{nat_lt}
 use Rattle.cluster_core.specs.ChildrenFirst.{is_free}
 use Rattle.cluster_core.specs.Residents.{ResidentsView, are_rising}
-use Rattle.cluster_core.proofs.Kept.{above_in, in_order}
+use Rattle.cluster_core.proofs.here.Kept.{above_in, in_order}
 use Rattle.cluster_core.proofs.residents.Residents.next_above.Goals as goal
 
 pub loop-pid-init : goal.loop-pid-init

@@ -3,8 +3,8 @@ use Rattle.cert_sched.specs.Parts.{first_of}
 use Rattle.cluster_core.specs.Residents.{ResidentsView}
 use Rattle.cluster_core.specs.Work.{any_lacks, is_lowest_lacking}
 use Rattle.plain_kernel.specs.Maps.{pid_of}
-use Rattle.cluster_core.proofs.Kept.{first_is}
-use Rattle.cluster_core.proofs.Asking.{lowest_asks, none_asks}
+use Rattle.cluster_core.proofs.here.Kept.{first_is}
+use Rattle.cluster_core.proofs.paging.Asking.{lowest_asks, none_asks}
 use Rattle.cluster_core.proofs.residents.Residents.next_asking.Goals as goal
 
 pub returns-clause-first : goal.returns-clause-first

@@ -3,8 +3,8 @@ use Rattle.std.specs.Option.{option_copied}
 use Rattle.plain_kernel.specs.Maps.{pid_of}
 use Rattle.cluster_core.specs.Residents.{ResidentsView, are_rising, pids_in}
 use Rattle.cluster_core.specs.View.{held_of}
-use Rattle.cluster_core.proofs.Slots.{nobody_held, no_entry, process_there}
-use Rattle.cluster_core.proofs.Kept.{never_empty, rising_here}
+use Rattle.cluster_core.proofs.here.Slots.{nobody_held, no_entry, process_there}
+use Rattle.cluster_core.proofs.here.Kept.{never_empty, rising_here}
 use Rattle.cluster_core.proofs.residents.Residents.resident.Goals as goal
 
 pub unreachable-requires : goal.unreachable-requires

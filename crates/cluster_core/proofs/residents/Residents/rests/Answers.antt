@@ -1,6 +1,6 @@
 use Rattle.std.proofs.Common.{◌≡◌, subst, true}
 use Rattle.cluster_core.specs.Residents.{ResidentsView, are_rising, pids_in}
-use Rattle.cluster_core.proofs.Kept.{rising_here}
+use Rattle.cluster_core.proofs.here.Kept.{rising_here}
 use Rattle.cluster_core.proofs.residents.Residents.rests.Goals as goal
 
 pub returns-in_err-copy-in-Some-clause-ordered : goal.returns-in_err-copy-in-Some-clause-ordered

@@ -1,7 +1,7 @@
 use Rattle.std.proofs.Common.{◌≡◌, ℕ, zero, suc, ◌-◌, ◌≤◌, ◌∙◌, refl, arith}
 use Rattle.plain_kernel.specs.Maps.{pid_of}
 use Rattle.cluster_core.specs.ForkingAgain.{NoPart}
-use Rattle.cluster_core.proofs.RollingQuantum.{again_more, more_few, more_forks}
+use Rattle.cluster_core.proofs.rolling.RollingQuantum.{again_more, more_few, more_forks}
 use Rattle.cluster_core.proofs.residents.Residents.roll.Goals as goal
 
 -- what is not nothing is one at least

@@ -1,6 +1,6 @@
 use Rattle.std.proofs.Common.{sym, arith}
 use Rattle.plain_kernel.specs.Maps.{pid_of}
-use Rattle.cluster_core.proofs.RollingQuantum.{stands_now}
+use Rattle.cluster_core.proofs.rolling.RollingQuantum.{stands_now}
 use Rattle.cluster_core.proofs.residents.Residents.roll_part.Goals as goal
 
 pub fork_again-requires-clause-can : goal.fork_again-requires-clause-can

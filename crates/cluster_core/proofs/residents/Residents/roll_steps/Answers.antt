@@ -4,9 +4,9 @@ use Rattle.slab.proofs.SlabLemmas.{Updates-with_value}
 use Rattle.cluster_core.specs.Residents.{ResidentsView}
 use Rattle.std.specs.List.{list_any}
 use Rattle.plain_kernel.specs.Maps.{at_key}
-use Rattle.cluster_core.proofs.Kept.{kept_written, never_empty}
-use Rattle.cluster_core.proofs.Asking.{lacks_listed}
-use Rattle.cluster_core.proofs.RollingSlots.{no_steps_at, rolled_lacks, steps_at}
+use Rattle.cluster_core.proofs.here.Kept.{kept_written, never_empty}
+use Rattle.cluster_core.proofs.paging.Asking.{lacks_listed}
+use Rattle.cluster_core.proofs.rolling.RollingSlots.{no_steps_at, rolled_lacks, steps_at}
 use Rattle.cluster_core.proofs.residents.Residents.roll_steps.Goals as goal
 
 pub unreachable-requires : goal.unreachable-requires

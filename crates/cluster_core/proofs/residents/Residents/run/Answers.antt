@@ -2,7 +2,7 @@ use Rattle.std.proofs.Common.{◌≡◌, sym, subst, true, arith}
 use Rattle.plain_kernel.specs.Maps.{pid_of}
 use Rattle.quanta.specs.declared.limits.Limits.{Limits}
 use Rattle.cluster_core.specs.ChildrenFirst.{comes_after_at}
-use Rattle.cluster_core.proofs.RollingQuantum.{comes_as_before, none_rolled, runs_after, runs_still, runs_then}
+use Rattle.cluster_core.proofs.rolling.RollingQuantum.{comes_as_before, none_rolled, runs_after, runs_still, runs_then}
 use Rattle.cluster_core.proofs.residents.Residents.run.Goals as goal
 
 pub run_on-requires-clause-last : goal.run_on-requires-clause-last

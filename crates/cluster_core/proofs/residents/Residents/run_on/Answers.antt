@@ -9,10 +9,10 @@ use Rattle.cluster_core.specs.Residents.{RunsOnAt, ResidentsView, is_stuck, is_s
 use Rattle.cluster_core.specs.Slots.{stands_in}
 use Rattle.cluster_core.specs.ChildrenFirst.{comes_after_at, comes_after_children, is_running, runs_at}
 use Rattle.cluster_core.specs.ForkingAgain.{is_rolling, rolls_at}
-use Rattle.cluster_core.proofs.RollingParts.{none_made}
-use Rattle.cluster_core.proofs.Slots.{nobody_fails, nobody_held, no_entry, process_there}
-use Rattle.cluster_core.proofs.Kept.{never_empty, kept_written, ran_at}
-use Rattle.cluster_core.proofs.Asking.{lacks_listed, ran_lacks}
+use Rattle.cluster_core.proofs.rolling.RollingParts.{none_made}
+use Rattle.cluster_core.proofs.here.Slots.{nobody_fails, nobody_held, no_entry, process_there}
+use Rattle.cluster_core.proofs.here.Kept.{never_empty, kept_written, ran_at}
+use Rattle.cluster_core.proofs.paging.Asking.{lacks_listed, ran_lacks}
 use Rattle.cluster_core.proofs.residents.Residents.run_on.Goals as goal
 
 pub run_quantum-requires-clause-last : goal.run_quantum-requires-clause-last

@@ -5,10 +5,10 @@ use Rattle.slab.specs.Slab.{with_value}
 use Rattle.slab.proofs.SlabLemmas.{Updates-with_value}
 use Rattle.cluster_core.specs.ChildrenFirst.{is_running, runs_at}
 use Rattle.cluster_core.specs.Residents.{ResidentsView}
-use Rattle.cluster_core.proofs.Slots.{nobody_held, no_entry, process_there}
-use Rattle.cluster_core.proofs.Kept.{kept_written, never_empty, syncs_at}
-use Rattle.cluster_core.proofs.Asking.{able_listed, lacks_listed}
-use Rattle.cluster_core.proofs.ChildFirst.{syncs_acts, syncs_lacks}
+use Rattle.cluster_core.proofs.here.Slots.{nobody_held, no_entry, process_there}
+use Rattle.cluster_core.proofs.here.Kept.{kept_written, never_empty, syncs_at}
+use Rattle.cluster_core.proofs.paging.Asking.{able_listed, lacks_listed}
+use Rattle.cluster_core.proofs.births.ChildFirst.{syncs_acts, syncs_lacks}
 use Rattle.cluster_core.proofs.residents.Residents.synchronise.Goals as goal
 
 pub synchronise-requires : goal.synchronise-requires

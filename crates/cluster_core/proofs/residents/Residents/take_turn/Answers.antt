@@ -2,9 +2,9 @@ use Rattle.std.proofs.Common.{◌∙◌, ap, sym}
 use Rattle.std.specs.List.{list_any}
 use Rattle.plain_kernel.specs.Maps.{at_key, pid_of}
 use Rattle.cluster_core.specs.ChildrenFirst.{is_free, is_hindered}
-use Rattle.cluster_core.proofs.Choosing.{chosen_turn}
-use Rattle.cluster_core.proofs.Free.{next_passes}
-use Rattle.cluster_core.proofs.Slots.{not_true}
+use Rattle.cluster_core.proofs.here.Choosing.{chosen_turn}
+use Rattle.cluster_core.proofs.here.Free.{next_passes}
+use Rattle.cluster_core.proofs.here.Slots.{not_true}
 use Rattle.cluster_core.proofs.residents.Residents.take_turn.Goals as goal
 
 pub give_turn-requires-clause-ready : goal.give_turn-requires-clause-ready

@@ -2,7 +2,7 @@ use Rattle.std.proofs.Common.{◌∙◌, ap, sym}
 use Rattle.cluster_core.specs.Residents.{ResidentsView}
 use Rattle.cluster_core.specs.Slots.{stands_in}
 use Rattle.cluster_core.specs.Work.{any_waits}
-use Rattle.cluster_core.proofs.Told.{none_waits}
+use Rattle.cluster_core.proofs.absorbing.Told.{none_waits}
 use Rattle.cluster_core.proofs.residents.Residents.waits.Goals as goal
 
 pub returns-then-is_some : goal.returns-then-is_some

@@ -1,0 +1,16 @@
+pub mod Telling
+pub mod Standing
+pub mod Told
+pub mod Unmoved
+pub mod AfterSent
+pub mod Spared
+pub mod Serials
+pub mod Served
+pub mod Counted
+pub mod Following
+pub mod Absorbed
+pub mod Arriving
+pub mod Noting
+pub mod KnownPlaces
+pub mod ByKind
+pub mod Posted

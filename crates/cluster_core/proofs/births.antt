@@ -1,0 +1,17 @@
+pub mod ChildFirst
+pub mod BirthStayed
+pub mod BirthHomes
+pub mod FamilyNext
+pub mod Births
+pub mod BirthQueued
+pub mod OwnBirth
+pub mod BornHere
+pub mod BeginBirth
+pub mod BirthTurn
+pub mod OwningBirths
+pub mod BirthTaken
+pub mod Bearable
+pub mod ChildrenSynced
+pub mod ChildrenKept
+pub mod OneParent
+pub mod OwnChildren

@@ -1,0 +1,4 @@
+pub mod Passing
+pub mod Homing
+pub mod Booted
+pub mod FirstRecords

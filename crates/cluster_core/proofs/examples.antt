@@ -1,0 +1,3 @@
+pub mod WorkedViews
+pub mod WorkedRecords
+pub mod WorkedLosses

@@ -1,0 +1,12 @@
+pub mod Quanta
+pub mod Here
+pub mod Slots
+pub mod Kept
+pub mod Free
+pub mod Acting
+pub mod Choosing
+pub mod Beside
+pub mod Owning
+pub mod Within
+pub mod Hindering
+pub mod HeldLoads

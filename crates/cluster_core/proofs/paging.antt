@@ -1,0 +1,10 @@
+pub mod Asking
+pub mod Coming
+pub mod HasPages
+pub mod PagePosts
+pub mod Waiting
+pub mod Paging
+pub mod Paged
+pub mod Answering
+pub mod Fetching
+pub mod Lacking

@@ -1,0 +1,10 @@
+pub mod RollingParts
+pub mod RollingQuantum
+pub mod RollingSlots
+pub mod Catching
+pub mod RollsAgain
+pub mod GoingHeld
+pub mod FollowsAgain
+pub mod OwningAgain
+pub mod RolledLoad
+pub mod AgainLightens

@@ -1,0 +1,10 @@
+pub mod SyncedHomes
+pub mod BatchPosts
+pub mod Batching
+pub mod Stayed
+pub mod MarksBegin
+pub mod Synchronising
+pub mod OwnBatch
+pub mod BeginSync
+pub mod Marking
+pub mod RunMarks

@@ -1,0 +1,7 @@
+pub mod WorkedOn
+pub mod RestTold
+pub mod KeptLimits
+pub mod Working
+pub mod Resting
+pub mod Turning
+pub mod Lightening

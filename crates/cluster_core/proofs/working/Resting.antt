@@ -1,0 +1,109 @@
+-- What a cluster tells where nothing in it can move.
+use Rattle.std.proofs.Common.{◌≡◌, ℕ, refl, sym, ◌∙◌, ap, subst, arith, Result, Ok, Err, List, [], ◌∷◌, map, Bool, true, false, cond, not, ◌&&◌, ◌||◌, eqb, eqb-true, ltb, Option, Some, None, true≢false}
+use Rattle.std.specs.Prelude.{IfOk, IfSome, find, is_some, nat_le, option_map}
+use Rattle.std.specs.List.{list_any, list_all}
+use Rattle.std.proofs.lemmas.Bool.{le-leb}
+use Rattle.std.proofs.lemmas.Bool.Decides.{nat_tests}
+use Rattle.std.specs.Option.{option_map_or}
+use Rattle.std.proofs.lemmas.Bool.{and_parts, and_from}
+use Rattle.t32_base.specs.declared.process.Pid.{Pid}
+use Rattle.sys_text.specs.declared.system.System.{System}
+use Rattle.proc_state.specs.State.{ProcState, state_of}
+use Rattle.bus_msg.specs.declared.entry.Entry.{Entry}
+use Rattle.cert_sched.specs.Parts.{rising, put_rising}
+use Rattle.cert_sched.specs.Schedule.{done_after}
+use Rattle.cert_sched.specs.Steps.{silent_upto}
+use Rattle.cert_sched.specs.Rests.{is_idle, is_idle_at}
+use Rattle.proc_state.specs.declared.process.Process.{Process}
+use Rattle.quanta.specs.declared.limits.Limits.{Limits}
+use Rattle.quanta.specs.Limited.{is_due}
+use Rattle.cluster_core.specs.View.{ClusterView, Held, Runs, Rolls, Waits, held_of, limits_of, steps_of_held}
+use Rattle.bus_msg.specs.Places.{same_pid}
+use Rattle.cert_sched.proofs.RisingLaws.{NoTwo}
+use Rattle.cluster_core.proofs.here.Here.{is_among, same_itself}
+use Rattle.cluster_core.specs.Residents.{are_rising, pids_in, are_settled}
+use Rattle.cluster_core.specs.Parts.{AllOwn}
+use Rattle.cluster_core.specs.Calls.{RestsIn, are_at_rest, is_at_rest, is_resting, rests_in, rests_of}
+use Rattle.cluster_core.proofs.here.Owning.{settled_rest}
+use Rattle.cluster_core.proofs.working.Working.{ahead, held_before}
+
+-- ---- a process at rest
+
+idle_at : (system : System) (log : List Entry) (p : Pid) (s : ProcState) → silent_upto system log p (s.small).steps ≡ Some s → is_idle s ≡ true → is_idle_at system log (p, (s.small).steps) ≡ true
+idle_at system log p s silent idle =
+    let a = ahead system log p s silent in
+    let enough : nat_le (done_after system log p) (s.small).steps ≡ true = le-leb (done_after system log p) (s.small).steps (omega (arith, a.done, a.counts)) in
+    (λ i. (enough i && is_some (silent i)) && option_map_or is_idle (silent i) false) ∙ idle
+
+-- ---- numbers that rise
+
+in_front : (n : ℕ) (ns : List ℕ) → list_all (λ m. ltb n m) ns ≡ true → put_rising n ns ≡ n ∷ ns
+in_front n [] below = refl
+in_front n (m ∷ ns) below = ap (λ b. cond b (n ∷ m ∷ ns) (m ∷ put_rising n ns)) (and_parts (ltb n m) (list_all (λ m. ltb n m) ns) below).0
+
+-- they are in their order
+rises : (ns : List ℕ) → are_rising ns ≡ true → rising ns ≡ ns
+rises [] h = refl
+rises (n ∷ ns) h = let parts = and_parts (list_all (λ m. ltb n m) ns) (are_rising ns) h in ap (put_rising n) (rises ns parts.1) ∙ in_front n ns parts.0
+
+none_equal : (n : ℕ) (ns : List ℕ) → list_all (λ m. ltb n m) ns ≡ true → list_any (λ m. eqb m n) ns ≡ false
+none_equal n [] below = refl
+none_equal n (m ∷ ns) below =
+    let parts = and_parts (ltb n m) (list_all (λ m. ltb n m) ns) below in
+    ap (λ b. b || list_any (λ m. eqb m n) ns) (other n m parts.0) ∙ none_equal n ns parts.1
+  where
+    other : (n m : ℕ) → ltb n m ≡ true → eqb m n ≡ false
+    other n m less = grind (arith, nat_tests)
+
+-- none stands twice
+apart : (ns : List ℕ) → are_rising ns ≡ true → NoTwo ns
+apart [] h = tt
+apart (n ∷ ns) h = let parts = and_parts (list_all (λ m. ltb n m) ns) (are_rising ns) h in (none_equal n ns parts.0, apart ns parts.1)
+
+-- ---- what is told
+
+-- what is at rest runs, and is so in each log in which it is found after silent steps
+rest_idle : (system : System) (limits : Limits) (log : List Entry) (p : Pid) (h : Held) → ((s : Process) → h ≡ Runs s → silent_upto system log p (s.small).steps ≡ Some (state_of s)) → is_at_rest limits h ≡ true → is_idle_at system log (p, steps_of_held h) ≡ true
+rest_idle system limits log p (Runs s) there rest = idle_at system log p (state_of s) (there s refl) (and_parts (is_idle (state_of s)) (not (is_due limits s)) rest).0
+rest_idle system limits log p _ there rest = absurd (true≢false (sym rest))
+
+-- each that is at rest here is so in each log that the cluster follows
+each_idle : (c : ClusterView) (log : List Entry) (here : List (Pid × Held)) → ((p : Pid) (s : Process) → held_of here p ≡ Some (Runs s) → silent_upto c.system log p (s.small).steps ≡ Some (state_of s)) → NoTwo (pids_in here)
+    → are_at_rest (limits_of c.system) here ≡ true → list_all (is_idle_at c.system log) (rests_in here) ≡ true
+each_idle c log [] there two rest = refl
+each_idle c log (e ∷ here) there two rest =
+    let parts = and_parts (is_at_rest (limits_of c.system) e.1) (are_at_rest (limits_of c.system) here) rest in
+    let first : held_of (e ∷ here) e.0 ≡ Some e.1 = ap (λ b. option_map (λ (e : Pid × Held). e.1) (cond b (Some e) (find (λ (q : Pid × Held). same_pid q.0 e.0) here))) (same_itself e.0) in
+    and_from (is_idle_at c.system log (e.0, steps_of_held e.1)) _ (rest_idle c.system (limits_of c.system) log e.0 e.1 (λ s is. there e.0 s (first ∙ ap Some is)) parts.0)
+    (each_idle c log here (λ p s at. there p s (beside p s at (same_pid e.0 p) refl)) two.1 parts.1)
+  where
+    beside : (p : Pid) (s : Process) → held_of here p ≡ Some (Runs s) → (b : Bool) → same_pid e.0 p ≡ b → held_of (e ∷ here) p ≡ Some (Runs s)
+    beside p s at true is = absurd (true≢false (sym (ap (λ n. list_any (λ m. eqb m n) (pids_in here)) (eqb-true (e.0).0 p.0 is) ∙ is_among here p (Runs s) at) ∙ two.0))
+    beside p s at false is = ap (λ b. option_map (λ (e : Pid × Held). e.1) (cond b (Some e) (find (λ (q : Pid × Held). same_pid q.0 p) here))) is ∙ at
+
+-- the processes that a cluster tells rest in each log that it follows
+pub rests_told : (c : ClusterView) → are_rising (pids_in c.here) ≡ true → is_resting c ≡ true → RestsIn c (rests_in c.here)
+rests_told c ordered at_rest empty log now f = record {
+  named = same_pids c.here ∙ sym (rises (pids_in c.here) ordered) ∙ (f.processes).each_once;
+  idle = each_idle c log c.here (λ p s there. held_before c log p s empty f there) (apart (pids_in c.here) ordered) at_rest;
+}
+  where
+    same_pids : (here : List (Pid × Held)) → map (λ (r : Pid × ℕ). (r.0).0) (rests_in here) ≡ pids_in here
+    same_pids [] = refl
+    same_pids (e ∷ here) = ap (λ ns. (e.0).0 ∷ ns) (same_pids here)
+
+-- what a call answers that tells them
+pub told_rests : {E : Type 0} (c : ClusterView) (result : Result (Option (List (Pid × ℕ))) E) → AllOwn c.cursor c.here → are_rising (pids_in c.here) ≡ true
+    → IfOk result (λ rests. rests ≡ cond (are_settled (limits_of c.system) c.here) (Some (rests_in c.here)) None) → IfOk result (λ rests. IfSome rests (RestsIn c))
+told_rests c (Err e) own ordered told = tt
+told_rests c (Ok o) own ordered told = by_test (are_settled (limits_of c.system) c.here) refl told
+  where
+    by_test : (b : Bool) → are_settled (limits_of c.system) c.here ≡ b → o ≡ cond b (Some (rests_in c.here)) None → IfSome o (RestsIn c)
+    by_test true settled is = let P : Option (List (Pid × ℕ)) → Type 0 = λ o. IfSome o (RestsIn c) in subst P (sym is) (rests_told c ordered (settled_rest (limits_of c.system) c.here ∙ settled))
+    by_test false settled is = let P : Option (List (Pid × ℕ)) → Type 0 = λ o. IfSome o (RestsIn c) in subst P (sym is) tt
+
+-- it answers so of the cluster
+pub answered_rests : {E : Type 0} (c : ClusterView) (result : Result (Option (List (Pid × ℕ))) E) → AllOwn c.cursor c.here
+    → IfOk result (λ rests. rests ≡ cond (are_settled (limits_of c.system) c.here) (Some (rests_in c.here)) None) → IfOk result (λ rests. rests ≡ cond (is_resting c) (Some (rests_of c)) None)
+answered_rests c (Err e) own told = tt
+answered_rests c (Ok o) own told = told ∙ ap (λ b. cond b (Some (rests_in c.here)) None) (sym (settled_rest (limits_of c.system) c.here))
