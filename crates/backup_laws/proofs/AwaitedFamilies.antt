@@ -3,13 +3,14 @@ use Rattle.std.proofs.Common.{◌≡◌, ℕ, refl, sym, ◌∙◌, ap, subst, i
 use Rattle.std.specs.Prelude.{option_map}
 use Rattle.std.specs.List.{list_all}
 use Rattle.std.specs.Option.{option_map_or}
-use Rattle.std.proofs.lemmas.Bool.{and_from, and_parts}
+use Rattle.std.proofs.lemmas.Bool.{and_from, and_parts, or_left, or_right, or_cases}
 use Rattle.t32_base.specs.declared.process.Pid.{Pid}
 use Rattle.t32_base.specs.declared.process.ClusterNo.{ClusterNo}
+use Rattle.t32_base.proofs.Facts.{and_false}
 use Rattle.sys_text.specs.declared.system.System.{System}
 use Rattle.sys_text.specs.Valid.{is_system}
 use Rattle.bus_msg.specs.declared.entry.What.{What}
-use Rattle.bus_msg.specs.declared.entry.What.TheVariants.{Mail, Birth, Exit, Page, Sync, Fetch, PageIs, Crash, Return, Rebackup, Done, Stop}
+use Rattle.bus_msg.specs.declared.entry.What.TheVariants.{Birth, Rebackup}
 use Rattle.bus_msg.specs.declared.entry.Entry.{Entry}
 use Rattle.bus_msg.specs.declared.placed.Placed.{Placed}
 use Rattle.bus_msg.specs.Places.{Places, same_pid, same_cluster, lives_in, all_clusters, unended_at, is_moved_by}
@@ -88,18 +89,6 @@ record AllWait (system : System) (log : List Entry) : Type 0 where
   pub modes : (b : Pair) → Member b (births_of log) → is_unsynced (placement system log) b.1 ≡ true → mode_at (placement system log) b.0 ≡ mode_at (placement system log) b.1
   pub waits : (b : Pair) → Member b (births_of log) → is_unsynced (placement system log) b.1 ≡ true → WaitsWith system log b
 
-or_left : (a b : Bool) → a ≡ true → (a || b) ≡ true
-or_left true b h = refl
-or_left false b h = absurd (true≢false (sym h))
-
-or_right : (a b : Bool) → b ≡ true → (a || b) ≡ true
-or_right true b h = refl
-or_right false b h = h
-
-or_split : (a b : Bool) → (a || b) ≡ true → (a ≡ true) ⊎ (b ≡ true)
-or_split true b h = inl refl
-or_split false b h = inr h
-
 module _ (system : System) (log : List Entry) (e : Entry) (stands : Stands system log e) (before : AllWait system log) where
   abbrev here : Places
   here = placement system log
@@ -145,7 +134,7 @@ module _ (system : System) (log : List Entry) (e : Entry) (stands : Stands syste
           → awaited_in system (log ++ e ∷ []) b.1 ≡ true
       later stays has is =
           awaited-on system log e b.1 stays
-          ∙ by_parts (or_split (awaited_in system log b.0) (names b.0 (what e) || is_alone b.0 after) (sym (awaited-on system log e b.0 (parent_moves ∙ stays)) ∙ is))
+          ∙ by_parts (or_cases (awaited_in system log b.0) (names b.0 (what e) || is_alone b.0 after) (sym (awaited-on system log e b.0 (parent_moves ∙ stays)) ∙ is))
         where
           by_last : (names b.0 (what e) ≡ true) ⊎ (is_alone b.0 after ≡ true) → (names b.1 (what e) || is_alone b.1 after) ≡ true
           by_last (inl named) = or_left (names b.1 (what e)) (is_alone b.1 after) (names_child system log e before.all b m unsynced was (what e) stands.kind named)
@@ -153,7 +142,7 @@ module _ (system : System) (log : List Entry) (e : Entry) (stands : Stands syste
 
           by_parts : (awaited_in system log b.0 ≡ true) ⊎ ((names b.0 (what e) || is_alone b.0 after) ≡ true) → (awaited_in system log b.1 || (names b.1 (what e) || is_alone b.1 after)) ≡ true
           by_parts (inl had) = or_left (awaited_in system log b.1) (names b.1 (what e) || is_alone b.1 after) (has had)
-          by_parts (inr last) = or_right (awaited_in system log b.1) (names b.1 (what e) || is_alone b.1 after) (by_last (or_split (names b.0 (what e)) (is_alone b.0 after) last))
+          by_parts (inr last) = or_right (awaited_in system log b.1) (names b.1 (what e) || is_alone b.1 after) (by_last (or_cases (names b.0 (what e)) (is_alone b.0 after) last))
 
       by_move : (x : Bool) → moves_next system log e b.1 ≡ x → WaitsWith system log b → WaitsWith system (log ++ e ∷ []) b
       by_move true moved waits =
@@ -210,10 +199,6 @@ all_wait system log valid legal =
 
 -- ---- the whole
 
-and_none : (b : Bool) → (b && false) ≡ false
-and_none true = refl
-and_none false = refl
-
 -- a child that never synchronised has its new backup where its parent has
 pub child_awaited : (system : System) (log : List Entry) (parent child : Pid) → is_system system ≡ true → IsLegalBy Stands system log → bears log parent child ≡ true
     → is_unsynced (placement system log) child ≡ true
@@ -232,7 +217,7 @@ child_awaited system log parent child valid legal bears_it unsynced has =
         → has_awaited_backup system log b.1 ≡ true
     of_pair b modes (inl never) has =
         awaited_is system log b.1 ∙ ap (λ x. not (is_full_at (placement system log) b.1 && x) || awaited_in system log b.1) never
-        ∙ ap (λ x. not x || awaited_in system log b.1) (and_none (is_full_at (placement system log) b.1))
+        ∙ ap (λ x. not x || awaited_in system log b.1) (and_false (is_full_at (placement system log) b.1))
     of_pair b modes (inr with_parent) has = by_full (is_full_at (placement system log) b.1) refl
       where
         fulls : is_full_at (placement system log) b.0 ≡ is_full_at (placement system log) b.1

@@ -7,10 +7,11 @@ use Rattle.std.proofs.lemmas.List.Sums.{sum_by-append, sum_by-cons}
 use Rattle.t32_base.specs.declared.process.Pid.{Pid}
 use Rattle.t32_base.specs.declared.process.ClusterNo.{ClusterNo}
 use Rattle.t32_base.specs.declared.letter.BackRec.{BackRec}
+use Rattle.t32_base.proofs.Facts.{and_false}
 use Rattle.sys_text.specs.declared.system.System.{System}
 use Rattle.sys_text.specs.Valid.{is_system}
 use Rattle.bus_msg.specs.declared.entry.What.{What}
-use Rattle.bus_msg.specs.declared.entry.What.TheVariants.{Mail, Birth, Exit, Page, Sync, Fetch, PageIs, Crash, Return, Rebackup, Done, Stop}
+use Rattle.bus_msg.specs.declared.entry.What.TheVariants.{Birth, Exit, Sync, Crash, Rebackup}
 use Rattle.bus_msg.specs.declared.entry.Entry.{Entry}
 use Rattle.bus_msg.specs.declared.placed.Placed.{Placed}
 use Rattle.bus_msg.specs.Places.{Places, same_pid, placed_at}
@@ -65,10 +66,6 @@ mapped_less f keeps t (r ∷ qs) q found lacks has = by_test (t r) found (λ lat
 
 -- ---- who lacks a backup
 
-and_none : (b : Bool) → (b && false) ≡ false
-and_none true = refl
-and_none false = refl
-
 exit_keeps : (r : Pid) (q : Placed) → is_unbacked (after_exit r q) ≡ true → is_unbacked q ≡ true
 exit_keeps r q = by_test (same_pid q.pid r)
   where
@@ -87,7 +84,7 @@ renewed_keeps : (to : ClusterNo) (fresh : Bool) (recs : List BackRec) (q : Place
 renewed_keeps to fresh recs q = by_test (is_named recs q)
   where
     by_test : (b : Bool) → is_unbacked (cond b (record q { backup = Some to; synced = q.synced || fresh }) q) ≡ true → is_unbacked q ≡ true
-    by_test true h = absurd (true≢false (sym h ∙ and_none (not q.ended)))
+    by_test true h = absurd (true≢false (sym h ∙ and_false (not q.ended)))
     by_test false h = h
 
 -- ---- one more entry
@@ -144,7 +141,7 @@ module _ (system : System) (log : List Entry) (e : Entry) (valid : is_system sys
       let lacks : is_unbacked u.at ≡ true = λ i. not (open_still i) && is_none (u.none i) in
       let name : is_named (r ∷ rs) u.at ≡ true = ap (λ x. list_any (λ (s : BackRec). same_pid s.pid x) (r ∷ rs)) (unended_pid here r.pid u.at u.found) ∙ own in
       let has : is_unbacked (after_rebackup to fresh (r ∷ rs) u.at) ≡ false =
-      ap (λ b. is_unbacked (cond b (record (u.at) { backup = Some to; synced = (u.at).synced || fresh }) u.at)) name ∙ and_none (not (u.at).ended) in
+      ap (λ b. is_unbacked (cond b (record (u.at) { backup = Some to; synced = (u.at).synced || fresh }) u.at)) name ∙ and_false (not (u.at).ended) in
       let less = mapped_less (after_rebackup to fresh (r ∷ rs)) (renewed_keeps to fresh (r ∷ rs)) (λ (q : Placed). same_pid q.pid r.pid && not q.ended) here.placed u.at u.found lacks has in
       let same = after_is (Rebackup to fresh (r ∷ rs)) is in
       let births = births_length log e in

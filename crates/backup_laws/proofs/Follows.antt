@@ -2,6 +2,7 @@
 use Rattle.std.proofs.Common.{◌≡◌, refl, sym, ◌∙◌, ap, List, [], ◌∷◌, ◌++◌, Bool, true, false, not, ◌&&◌, ◌||◌, Some}
 use Rattle.std.specs.Option.{option_map_or}
 use Rattle.t32_base.specs.declared.process.Pid.{Pid}
+use Rattle.t32_base.proofs.Facts.{or_true, and_true, or_false}
 use Rattle.sys_text.specs.declared.system.System.{System}
 use Rattle.bus_msg.specs.declared.entry.Entry.{Entry}
 use Rattle.bus_msg.specs.declared.placed.Placed.{Placed}
@@ -15,18 +16,6 @@ use Rattle.backup_laws.proofs.Since.{awaited_in, awaited_is, awaited-moved, awai
 
 full_is : (places : Places) (p : Pid) (q : Placed) → unended_at places p ≡ Some q → is_full_at places p ≡ is_full q.mode
 full_is places p q there = ap (λ o. option_map_or (λ (q : Placed). is_full q.mode) o false) there
-
-or_true : (b : Bool) → (b || true) ≡ true
-or_true true = refl
-or_true false = refl
-
-and_true : (b : Bool) → (b && true) ≡ b
-and_true true = refl
-and_true false = refl
-
-or_no_more : (b : Bool) → (b || false) ≡ b
-or_no_more true = refl
-or_no_more false = refl
 
 module _ (system : System) (log : List Entry) (e : Entry) (p : Pid) where
   abbrev after : Places
@@ -48,7 +37,7 @@ module _ (system : System) (log : List Entry) (e : Entry) (p : Pid) where
   stays_here was q stays before there same =
       after_is q there
       ∙ (λ i. not (is_full (same i) && (was_moved system log p || stays i)) || awaited-on system log e p stays i)
-      ∙ ap (λ b. not (is_full was.mode && b) || (awaited_in system log p || (names p (what e) || is_alone p after))) (or_no_more (was_moved system log p))
+      ∙ ap (λ b. not (is_full was.mode && b) || (awaited_in system log p || (names p (what e) || is_alone p after))) (or_false (was_moved system log p))
       ∙ three (not (is_full was.mode && was_moved system log p)) (awaited_in system log p) (names p (what e) || is_alone p after)
       ∙ ap (λ b. b || (names p (what e) || is_alone p after)) (sym (awaited_is system log p
       ∙ ap (λ b. not (b && was_moved system log p) || awaited_in system log p) (full_is (placement system log) p was before)))

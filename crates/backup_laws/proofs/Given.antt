@@ -3,7 +3,7 @@ use Rattle.std.proofs.Common.{◌≡◌, refl, sym, ◌∙◌, ap, subst, List, 
 use Rattle.std.specs.Prelude.{find, option_map}
 use Rattle.std.specs.List.{list_any, list_all}
 use Rattle.std.specs.Option.{option_map_or}
-use Rattle.std.proofs.lemmas.Bool.{and_parts, not-true}
+use Rattle.std.proofs.lemmas.Bool.{and_parts, not-true, or_parts}
 use Rattle.t32_base.specs.declared.process.Pid.{Pid}
 use Rattle.t32_base.specs.declared.process.ClusterNo.{ClusterNo}
 use Rattle.t32_base.specs.declared.process.Mode.{Mode}
@@ -12,7 +12,7 @@ use Rattle.t32_base.specs.declared.letter.BackRec.{BackRec}
 use Rattle.sys_text.specs.declared.system.System.{System}
 use Rattle.sys_text.specs.Valid.{is_system}
 use Rattle.bus_msg.specs.declared.entry.What.{What}
-use Rattle.bus_msg.specs.declared.entry.What.TheVariants.{Mail, Birth, Exit, Page, Sync, Fetch, PageIs, Crash, Return, Rebackup, Done, Stop}
+use Rattle.bus_msg.specs.declared.entry.What.TheVariants.{Birth, Exit, Sync, Crash, Rebackup}
 use Rattle.bus_msg.specs.declared.entry.Cause.{Cause}
 use Rattle.bus_msg.specs.declared.entry.Entry.{Entry}
 use Rattle.bus_msg.specs.declared.placed.Placed.{Placed}
@@ -47,15 +47,11 @@ pub record Waiting (system : System) (log : List Entry) (p : Pid) : Type 0 where
   pub unnamed : any_since_moved system log p (names p) ≡ false
   pub others : is_alone p (placement system log) ≡ false
 
-either : (a b : Bool) → (a || b) ≡ false → (a ≡ false) × (b ≡ false)
-either true b h = absurd (true≢false h)
-either false b h = (refl, h)
-
 pub waiting_says : (system : System) (log : List Entry) (p : Pid) → has_awaited_backup system log p ≡ false → Waiting system log p
 waiting_says system log p waits =
-    let parts = either (not (is_full_at (placement system log) p && was_moved system log p)) (awaited_in system log p) (sym (awaited_is system log p) ∙ waits) in
+    let parts = or_parts (not (is_full_at (placement system log) p && was_moved system log p)) (awaited_in system log p) (sym (awaited_is system log p) ∙ waits) in
     let both = and_parts (is_full_at (placement system log) p) (was_moved system log p) (un_not (is_full_at (placement system log) p && was_moved system log p) parts.0) in
-    let none = either (any_since_moved system log p (names p)) (list_any (is_alone p) (places_since_moved system log p)) parts.1 in
+    let none = or_parts (any_since_moved system log p (names p)) (list_any (is_alone p) (places_since_moved system log p)) parts.1 in
     record { full = both.0; moved = both.1; unnamed = none.0; others = last_of none.1 }
   where
     un_not : (b : Bool) → not b ≡ false → b ≡ true
@@ -66,7 +62,7 @@ waiting_says system log p waits =
     before = map (λ (t : Told). t.places) (since_moved system log p)
 
     last_of : list_any (is_alone p) (places_since_moved system log p) ≡ false → is_alone p (placement system log) ≡ false
-    last_of none = (either (list_any (is_alone p) before) (is_alone p (placement system log)) (sym (list_any-last (is_alone p) before (placement system log)) ∙ none)).1
+    last_of none = (or_parts (list_any (is_alone p) before) (is_alone p (placement system log)) (sym (list_any-last (is_alone p) before (placement system log)) ∙ none)).1
 
 -- ---- it has none
 
@@ -118,13 +114,13 @@ module _ (system : System) (log : List Entry) (e : Entry) (stands : Stands syste
 
   waited_before : moves_next system log e p ≡ false → WaitedBefore
   waited_before stays =
-      let parts = either (not (is_full_at (placement system (log ++ e ∷ [])) p && was_moved system (log ++ e ∷ []) p)) (awaited_in system (log ++ e ∷ []) p) (sym (awaited_is system (log ++ e ∷ []) p)
+      let parts = or_parts (not (is_full_at (placement system (log ++ e ∷ [])) p && was_moved system (log ++ e ∷ []) p)) (awaited_in system (log ++ e ∷ []) p) (sym (awaited_is system (log ++ e ∷ []) p)
       ∙ waits) in
-      let last = either (awaited_in system log p) (names p (what e) || is_alone p (placement system (log ++ e ∷ []))) (sym (awaited-on system log e p stays) ∙ parts.1) in
+      let last = or_parts (awaited_in system log p) (names p (what e) || is_alone p (placement system (log ++ e ∷ []))) (sym (awaited-on system log e p stays) ∙ parts.1) in
       let moved : was_moved system log p ≡ true = or_false (was_moved system log p) (sym (ap (λ b. was_moved system log p || b) stays) ∙ sym (was_moved-snoc system log e p) ∙ now.moved) in
       record {
         waited = λ full. awaited_is system log p ∙ (λ i. not (full i && moved i) || last.0 i);
-        unnamed = (either (names p (what e)) (is_alone p (placement system (log ++ e ∷ []))) last.1).0;
+        unnamed = (or_parts (names p (what e)) (is_alone p (placement system (log ++ e ∷ []))) last.1).0;
       }
     where
       or_false : (b : Bool) → (b || false) ≡ true → b ≡ true

@@ -2,17 +2,18 @@
 use Rattle.std.proofs.Common.{◌≡◌, refl, sym, ◌∙◌, ap, List, [], ◌∷◌, map, Bool, true, false, cond, ◌&&◌, ◌||◌, eqb, eqb-true, Option, Some, None, is_some, true≢false}
 use Rattle.std.specs.Prelude.{find, option_map}
 use Rattle.std.specs.List.{list_any}
+use Rattle.std.proofs.lemmas.Bool.{or_parts}
 use Rattle.t32_base.specs.declared.process.Pid.{Pid}
 use Rattle.t32_base.specs.declared.process.ClusterNo.{ClusterNo}
 use Rattle.t32_base.specs.declared.letter.BackRec.{BackRec}
 use Rattle.bus_msg.specs.declared.entry.What.{What}
-use Rattle.bus_msg.specs.declared.entry.What.TheVariants.{Mail, Birth, Exit, Page, Sync, Fetch, PageIs, Crash, Return, Rebackup, Done, Stop}
+use Rattle.bus_msg.specs.declared.entry.What.TheVariants.{Birth, Exit, Sync, Crash, Rebackup}
 use Rattle.bus_msg.specs.declared.placed.Placed.{Placed}
 use Rattle.bus_msg.specs.Places.{Places, same_pid, same_cluster, is_cluster, placed_at, unended_at, is_moved_by}
 use Rattle.bus_msg.specs.PlacedAfter.{placed_after, after_sync, after_loss, moved_to, after_rebackup, is_named}
 use Rattle.cert_sched.specs.Deeds.{is_birth_of}
 use Rattle.cert_sched.specs.Told.{is_moved}
-use Rattle.cert_sched.proofs.RisingLaws.{NoTwo, either_not}
+use Rattle.cert_sched.proofs.RisingLaws.{NoTwo}
 use Rattle.cert_sched.proofs.PidLaws.{placed_pids}
 use Rattle.cert_sched.proofs.FreshLaws.{only_one}
 use Rattle.cert_sched.proofs.BirthPlaces.{born_beside}
@@ -76,7 +77,7 @@ mode_stays _ places p other there = refl
 none_named : (t : Placed → Bool) (p : Pid) (qs : List Placed) → list_any (λ m. eqb m p.0) (placed_pids qs) ≡ false → list_any (λ (r : Placed). same_pid r.pid p && t r) qs ≡ false
 none_named t p [] none = refl
 none_named t p (r ∷ qs) none =
-    let parts = either_not (eqb (r.pid).0 p.0) (list_any (λ m. eqb m p.0) (placed_pids qs)) none in
+    let parts = or_parts (eqb (r.pid).0 p.0) (list_any (λ m. eqb m p.0) (placed_pids qs)) none in
     λ i. (parts.0 i && t r) || none_named t p qs parts.1 i
 
 -- where no two have one pid, one with the pid passes exactly where the one that is found does

@@ -3,9 +3,11 @@ use Rattle.std.proofs.Common.{◌≡◌, refl, sym, ◌∙◌, ap, subst, List, 
 use Rattle.std.specs.Prelude.{option_map, ⊤}
 use Rattle.std.specs.List.{list_any}
 use Rattle.std.specs.Option.{option_map_or}
+use Rattle.std.proofs.lemmas.Bool.{or_right, or_left}
 use Rattle.t32_base.specs.declared.process.Pid.{Pid}
 use Rattle.t32_base.specs.declared.process.ClusterNo.{ClusterNo}
 use Rattle.t32_base.specs.declared.letter.BackRec.{BackRec}
+use Rattle.t32_base.proofs.Facts.{or_true, or_false}
 use Rattle.sys_text.specs.declared.system.System.{System}
 use Rattle.sys_text.specs.Valid.{is_system}
 use Rattle.bus_msg.specs.declared.entry.What.TheVariants.{Rebackup}
@@ -23,24 +25,12 @@ use Rattle.cert_sched.specs.Legal.{IsLegalBy, Stands}
 use Rattle.cert_sched.specs.Simulation.{IsUnended}
 use Rattle.cert_sched.proofs.LogLaws.{IsLegal-before, IsLegal-last}
 use Rattle.cert_sched.proofs.CameLaws.{same_of}
-use Rattle.cert_sched.proofs.FamilyLaws.{Pair, Member, among, all_family, Families, families, or_left, fresh_named, standing_named, one_record}
+use Rattle.cert_sched.proofs.FamilyLaws.{Pair, Member, among, all_family, Families, families, fresh_named, standing_named, one_record}
 use Rattle.backup_records.specs.Records.{record_after}
 use Rattle.log_laws.specs.records.Kept.{is_renewed}
 use Rattle.log_laws.proofs.records.OneRecord.{record_follows}
 use Rattle.log_laws.proofs.records.Standing.{itself}
 use Rattle.backup_laws.specs.Renewed.{Unbacked}
-
-or_true : (b : Bool) → (b || true) ≡ true
-or_true true = refl
-or_true false = refl
-
-or_nothing : (b : Bool) → (b || false) ≡ b
-or_nothing true = refl
-or_nothing false = refl
-
-or_later : (a b : Bool) → b ≡ true → (a || b) ≡ true
-or_later true b h = refl
-or_later false b h = h
 
 -- a process that gets a backup has none
 none_before : (places : Places) (q : Placed) (to : ClusterNo) → next_backup places q ≡ Some to → q.backup ≡ None
@@ -67,7 +57,7 @@ module _ (system : System) (log : List Entry) (all : Families system log) where
   family_unbacked p to next r there = all_family (placement system log) (Unbacked (placement system log)) (births_of log) (p ∷ []) first child r there
     where
       first : (r : Pid) → among r (p ∷ []) ≡ true → Unbacked (placement system log) r
-      first r is = subst (Unbacked (placement system log)) (sym (same_of r p (sym (or_nothing (same_pid r p)) ∙ is))) (own_unbacked (placement system log) p to next)
+      first r is = subst (Unbacked (placement system log)) (sym (same_of r p (sym (or_false (same_pid r p)) ∙ is))) (own_unbacked (placement system log) p to next)
 
       child : (b : Pair) → Member b (births_of log) → is_unsynced (placement system log) b.1 ≡ true → Unbacked (placement system log) b.0 → Unbacked (placement system log) b.1
       child b m h parent =
@@ -118,7 +108,7 @@ all_turned : (f g : Pid → Option BackRec) (recs : List BackRec) → AllAre f r
 all_turned f g [] all same = tt
 all_turned f g (r ∷ rs) all same = (
   same r.pid (or_left (same_pid r.pid r.pid) (list_any (λ (s : BackRec). same_pid s.pid r.pid) rs) (eq-eqb (r.pid).0 (r.pid).0 refl)) ∙ all.0,
-  all_turned f g rs all.1 (λ p h. same p (or_later (same_pid r.pid p) (list_any (λ (s : BackRec). same_pid s.pid p) rs) h)),
+  all_turned f g rs all.1 (λ p h. same p (or_right (same_pid r.pid p) (list_any (λ (s : BackRec). same_pid s.pid p) rs) h)),
 )
 
 module _ (system : System) (log : List Entry) (e : Entry) (valid : is_system system ≡ true) (legal : IsLegalBy Stands system (log ++ e ∷ [])) where

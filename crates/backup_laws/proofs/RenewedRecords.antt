@@ -6,6 +6,7 @@ use Rattle.std.specs.Option.{option_map_or}
 use Rattle.t32_base.specs.declared.process.Pid.{Pid}
 use Rattle.t32_base.specs.declared.process.ClusterNo.{ClusterNo}
 use Rattle.t32_base.specs.declared.letter.BackRec.{BackRec}
+use Rattle.t32_base.proofs.Facts.{cond_same, and_false}
 use Rattle.sys_text.specs.declared.system.System.{System}
 use Rattle.sys_text.specs.Valid.{is_system}
 use Rattle.bus_msg.specs.declared.entry.What.TheVariants.{Rebackup}
@@ -26,10 +27,6 @@ use Rattle.backup_laws.proofs.Named.{AllAre, named_in_log, records_are, record_s
 
 -- ---- what is found
 
-either_way : {X : Type 0} (b : Bool) (x : X) → cond b x x ≡ x
-either_way true x = refl
-either_way false x = refl
-
 -- of a process of which there is a record among those that come it is that record, and of any other what was there
 put_each : (f : Pid → Option BackRec) (more recs : List BackRec) (p : Pid) → AllAre f more
     → record_in (with_records more recs) p ≡ cond (list_any (λ (r : BackRec). same_pid r.pid p) more) (f p) (record_in recs p)
@@ -42,19 +39,15 @@ put_each f (r ∷ rs) recs p all = put_each f rs (with_record r recs) p all.1 �
     by_pid : (b : Bool) → same_pid r.pid p ≡ b → cond later (f p) (record_in (with_record r recs) p) ≡ cond (b || later) (f p) (record_in recs p)
     by_pid true same =
         let pids : r.pid ≡ p = λ i. record { 0 = eqb-true (r.pid).0 p.0 same i } in
-        ap (λ o. cond later (f p) o) (ap (record_in (with_record r recs)) (sym pids) ∙ record_put r recs ∙ sym all.0 ∙ ap f pids) ∙ either_way later (f p)
+        ap (λ o. cond later (f p) o) (ap (record_in (with_record r recs)) (sym pids) ∙ record_put r recs ∙ sym all.0 ∙ ap f pids) ∙ cond_same later (f p)
     by_pid false apart = ap (λ o. cond later (f p) o) (record_put-other r recs p apart)
 
 -- ---- who is cut
 
-and_none : (b : Bool) → (b && false) ≡ false
-and_none true = refl
-and_none false = refl
-
 -- one that is not named is not cut
 unnamed_unrenewed : (to : ClusterNo) (fresh : Bool) (more : List BackRec) (p : Pid) → list_any (λ (r : BackRec). same_pid r.pid p) more ≡ false → is_renewed p (Rebackup to fresh more) ≡ false
-unnamed_unrenewed to fresh [] p none = and_none fresh
-unnamed_unrenewed to fresh (r ∷ rs) p none = ap (λ b. fresh && b) (by_first (same_pid r.pid p) none) ∙ and_none fresh
+unnamed_unrenewed to fresh [] p none = and_false fresh
+unnamed_unrenewed to fresh (r ∷ rs) p none = ap (λ b. fresh && b) (by_first (same_pid r.pid p) none) ∙ and_false fresh
   where
     by_first : (b : Bool) → (b || list_any (λ (s : BackRec). same_pid s.pid p) rs) ≡ false → b ≡ false
     by_first true h = h
@@ -87,7 +80,7 @@ module _ (system : System) (log : List Entry) (e : Entry) (k to : ClusterNo) (fr
 
   -- where the process is not named, what was there is found
   unnamed_found : (p : Pid) → named p ≡ false → record_in (records_renewed to k more recs) p ≡ record_in recs p
-  unnamed_found p none = found p ∙ ap (λ b. cond (same_cluster to k && b) (now p) (record_in recs p)) none ∙ ap (λ b. cond b (now p) (record_in recs p)) (and_none (same_cluster to k))
+  unnamed_found p none = found p ∙ ap (λ b. cond (same_cluster to k && b) (now p) (record_in recs p)) none ∙ ap (λ b. cond b (now p) (record_in recs p)) (and_false (same_cluster to k))
 
   by_named : (p : Pid) (q : Placed) → unended_at (placement system log) p ≡ Some q → (b : Bool) → named p ≡ b
       → record_in (records_renewed to k more recs) p ≡ cond (has_backup_in system (log ++ e ∷ []) k p) (now p) None

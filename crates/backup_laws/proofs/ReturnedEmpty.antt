@@ -13,7 +13,7 @@ use Rattle.sys_text.specs.Valid.{is_system, is_root}
 use Rattle.sys_text.specs.Boot.{pid_of, with_pids, roots_of}
 use Rattle.sys_text.proofs.Bounds.{first_of_two, second_of_two, root_fits, root_tests, system_bounds, tests}
 use Rattle.bus_msg.specs.declared.entry.What.{What}
-use Rattle.bus_msg.specs.declared.entry.What.TheVariants.{Mail, Birth, Exit, Page, Sync, Fetch, PageIs, Crash, Return, Rebackup, Done, Stop}
+use Rattle.bus_msg.specs.declared.entry.What.TheVariants.{Birth, Exit, Sync, Crash, Return, Rebackup}
 use Rattle.bus_msg.specs.declared.entry.Entry.{Entry}
 use Rattle.bus_msg.specs.declared.placed.Placed.{Placed}
 use Rattle.bus_msg.specs.Places.{ClusterPlace, Places, same_pid, same_cluster, is_cluster, lives_in, unended_at, is_lost_in, all_clusters}

@@ -6,6 +6,7 @@ use Rattle.std.specs.Option.{option_map_or}
 use Rattle.std.proofs.lemmas.List.{map-append}
 use Rattle.t32_base.specs.declared.process.Pid.{Pid}
 use Rattle.t32_base.specs.declared.process.Mode.{Mode}
+use Rattle.t32_base.proofs.Facts.{or_false}
 use Rattle.sys_text.specs.declared.system.System.{System}
 use Rattle.bus_msg.specs.declared.entry.Entry.{Entry}
 use Rattle.bus_msg.specs.declared.placed.Placed.{Placed}
@@ -19,7 +20,7 @@ use Rattle.cert_sched.specs.Rules.{has_awaited_backup, is_alone, is_full, is_mov
 use Rattle.cert_sched.proofs.ListLaws.{after_last-snoc}
 use Rattle.cert_sched.proofs.LogLaws.{told-snoc}
 use Rattle.log_laws.specs.pages.Next.{moves_next, next_told}
-use Rattle.log_laws.proofs.pages.OneEntry.{any_since-snoc, list_any-last, or_nothing}
+use Rattle.log_laws.proofs.pages.OneEntry.{any_since-snoc, list_any-last}
 
 -- the mode of a process that has not ended
 abbrev pub mode_at : Places → Pid → Option Mode
@@ -67,7 +68,7 @@ module _ (system : System) (log : List Entry) (e : Entry) (p : Pid) where
       by_test : (b : Bool)
           → list_any (is_alone p) (map (λ (t : Told). t.places) (cond b [] (since ++ next_told system log e ∷ [])) ++ after ∷ []) ≡ cond b (is_alone p after)
           (list_any (is_alone p) (map (λ (t : Told). t.places) since ++ placement system log ∷ []) || is_alone p after)
-      by_test true = or_nothing (is_alone p after)
+      by_test true = or_false (is_alone p after)
       by_test false =
           list_any-last (is_alone p) (map (λ (t : Told). t.places) (since ++ next_told system log e ∷ [])) after
           ∙ ap (λ xs. list_any (is_alone p) xs || is_alone p after) (map-append (λ (t : Told). t.places) since (next_told system log e ∷ []))

@@ -9,13 +9,14 @@ use Rattle.t32_base.specs.declared.process.Pid.{Pid}
 use Rattle.t32_base.specs.declared.process.End.{End}
 use Rattle.t32_base.specs.declared.process.ClusterNo.{ClusterNo}
 use Rattle.t32_base.specs.declared.letter.BackRec.{BackRec}
+use Rattle.t32_base.proofs.Facts.{and_false}
 use Rattle.sys_text.specs.declared.system.System.{System}
 use Rattle.sys_text.specs.declared.system.Root.{Root}
 use Rattle.sys_text.specs.Valid.{is_system, is_root}
 use Rattle.sys_text.specs.Boot.{pid_of, with_pids, roots_of}
 use Rattle.sys_text.proofs.Bounds.{first_of_two, second_of_two, root_fits, root_tests, system_bounds, tests}
 use Rattle.bus_msg.specs.declared.entry.What.{What}
-use Rattle.bus_msg.specs.declared.entry.What.TheVariants.{Mail, Birth, Exit, Page, Sync, Fetch, PageIs, Crash, Return, Rebackup, Done, Stop}
+use Rattle.bus_msg.specs.declared.entry.What.TheVariants.{Birth, Exit, Sync, Crash, Return, Rebackup}
 use Rattle.bus_msg.specs.declared.entry.Cause.{Cause}
 use Rattle.bus_msg.specs.declared.entry.Entry.{Entry}
 use Rattle.bus_msg.specs.declared.placed.Placed.{Placed}
@@ -31,7 +32,7 @@ use Rattle.cert_sched.proofs.FreshLaws.{kept_elsewhere, put_here, BornRightly, b
 use Rattle.cert_sched.proofs.FamilyLaws.{Families, sync_home, exit_there, exit_elsewhere, found_born, found_child, families_at_boot, families_more}
 use Rattle.cert_sched.proofs.UnendedLaws.{Keeps, unended_map, sync_keeps, backup_keeps, loss_keeps, unended_open_at, unended_pid}
 use Rattle.cert_sched.proofs.CoverLaws.{lives_on}
-use Rattle.std.proofs.lemmas.Bool.{and_from, and_parts}
+use Rattle.std.proofs.lemmas.Bool.{and_from, and_parts, or_right}
 use Rattle.cert_sched.specs.declared.script.ScriptWord.{ScriptWord}
 use Rattle.cert_sched.specs.Scripted.{is_lost_by, is_spread}
 use Rattle.cert_sched.specs.Told.{cluster_lost}
@@ -41,14 +42,6 @@ use Rattle.cert_sched.proofs.ThereLaws.{found_among}
 use Rattle.std.proofs.lemmas.List.Folds.{list_all-append}
 use Rattle.backup_laws.specs.LostBy.{AllLostBy}
 use Rattle.backup_laws.proofs.Named.{named_unbacked}
-
-and_none : (b : Bool) → (b && false) ≡ false
-and_none true = refl
-and_none false = refl
-
-or_right : (a b : Bool) → b ≡ true → (a || b) ≡ true
-or_right true b h = refl
-or_right false b h = h
 
 -- ---- clusters that change
 
@@ -365,7 +358,7 @@ module _ (lost : ClusterNo → Bool) where
   unfolding backed
   gone_backed places k q ended =
       ap (λ b. not (same_cluster q.home k && not b) || option_map_or (lives_in places) q.backup false) ended
-      ∙ ap (λ b. not b || option_map_or (lives_in places) q.backup false) (and_none (same_cluster q.home k))
+      ∙ ap (λ b. not b || option_map_or (lives_in places) q.backup false) (and_false (same_cluster q.home k))
 
   covered : (system : System) (log : List Entry) (k : ClusterNo) → AllIn system log → not (lost (system.pager).0 && lost (system.pager).1) ≡ true → lost k ≡ true
       → is_covered (placement system log) k ≡ true

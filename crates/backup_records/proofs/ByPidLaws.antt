@@ -1,5 +1,5 @@
 -- Laws of the records in a map by pid: what a change, a removal, one more and a whole removal make of their list.
-use Rattle.std.proofs.Common.{◌≡◌, ℕ, Bool, true, false, cond, not, ◌&&◌, eqb, eqb-true, List, [], ◌∷◌, ◌++◌, map, refl, sym, ap, subst, ◌∙◌, arith, Some, None, unwrap_or}
+use Rattle.std.proofs.Common.{◌≡◌, ℕ, Bool, true, false, cond, not, ◌&&◌, eqb, eqb-true, List, [], ◌∷◌, ◌++◌, map, refl, sym, ap, subst, ◌∙◌, arith, Some, None}
 use Rattle.std.specs.Prelude.{filter, nat_lt, Result, Ok, Err, OnOk, OnErr}
 use Rattle.std.specs.BTreeMap.{is_at, insert_entry}
 use Rattle.std.specs.List.{AllByRecursion, list_all}
@@ -11,6 +11,7 @@ use Rattle.std.specs.declared.cmp.Ordering.{Ordering}
 use Rattle.std.specs.declared.cmp.Ordering.TheVariants.{Less, Equal, Greater}
 use Rattle.std.proofs.lemmas.Bool.{and_parts}
 use Rattle.std.proofs.lemmas.Bool.Decides.{nat_tests}
+use Rattle.std.proofs.lemmas.Option.{same_Some}
 use Rattle.t32_base.specs.declared.process.Pid.{Pid}
 use Rattle.t32_base.specs.declared.letter.BackRec.{BackRec}
 use Rattle.t32_base.specs.declared.streams.NoMemory.{NoMemory}
@@ -50,9 +51,6 @@ equal_is n m h = (grind (arith, nat_tests), grind (arith, nat_tests))
 
 greater_is : (n m : ℕ) → nat_cmp n m ≡ Greater → (nat_lt n m ≡ false) × (eqb m n ≡ false)
 greater_is n m h = (grind (arith, nat_tests), grind (arith, nat_tests))
-
-some_same : {X : Type 0} → (x y : X) → Some x ≡ Some y → x ≡ y
-some_same x y e = ap (λ o. unwrap_or o x) e
 
 not_none : {X : Type 0} → (x : X) → Some x ≡ None → ⊥
 not_none x e = cc
@@ -101,7 +99,7 @@ written k f was now (e ∷ es) ordered found is =
     by_test : (b : Bool) → eqb e.0 k ≡ b → cond b (Some e.1) (lookup (at k) es) ≡ Some was → (lookup (at k) es ≡ Some was → set_value (at k) es now ≡ changed_at k f es)
         → cond b ((e.0, now) ∷ es) (e ∷ set_value (at k) es now) ≡ changed_at k f (e ∷ es)
     by_test true same found more =
-        let here : now ≡ f e.1 = is ∙ ap f (sym (some_same e.1 was found)) in
+        let here : now ≡ f e.1 = is ∙ ap f (sym (same_Some e.1 was found)) in
         (λ i. (e.0, here i) ∷ sym (later_unchanged k e.0 f es ordered.0 same) i) ∙ (λ i. cond (sym same i) (e.0, f e.1) e ∷ changed_at k f es)
     by_test false other found more = λ i. cond (sym other i) (e.0, f e.1) e ∷ more found i
 
@@ -111,7 +109,7 @@ written_same k was [] found = refl
 written_same k was (e ∷ es) found = by_test (at k e.0) found (λ found. written_same k was es found)
   where
     by_test : (b : Bool) → cond b (Some e.1) (lookup (at k) es) ≡ Some was → (lookup (at k) es ≡ Some was → set_value (at k) es was ≡ es) → cond b ((e.0, was) ∷ es) (e ∷ set_value (at k) es was) ≡ e ∷ es
-    by_test true found more = λ i. (e.0, sym (some_same e.1 was found) i) ∷ es
+    by_test true found more = λ i. (e.0, sym (same_Some e.1 was found) i) ∷ es
     by_test false found more = λ i. e ∷ more found i
 
 -- the list of the records after it

@@ -3,16 +3,14 @@ use Rattle.std.proofs.Common.{◌≡◌, ℕ, ◌+◌, ◌<◌, Bool, true, fals
 use Rattle.std.specs.List.{list_any}
 use Rattle.std.proofs.lemmas.List.{map-append, take_more}
 use Rattle.std.proofs.lemmas.List.Elements.{filter-append}
-use Rattle.std.proofs.lemmas.Bool.{ne_eqb}
+use Rattle.std.proofs.lemmas.Bool.{ne_eqb, or_right}
 use Rattle.std.proofs.lemmas.Bool.Decides.{nat_tests}
 use Rattle.t32_base.specs.declared.process.Pid.{Pid}
+use Rattle.t32_base.proofs.Facts.{same_pid_of}
 use Rattle.bus_msg.specs.Places.{same_pid}
 use Rattle.birth_notice.specs.Family.{is_of, children_of, lower, lowest}
 
 -- ---- one more
-
-pub same_of : (p q : Pid) → p.0 ≡ q.0 → p ≡ q
-same_of p q e i = record { 0 = e i }
 
 abbrev low : ℕ → ℕ → ℕ
 low a b = cond (nat_lt b a) b a
@@ -31,9 +29,9 @@ number : (p q : Pid) → (lower p (Some q)).0 ≡ low p.0 q.0
 number p q = number_by p q (nat_lt q.0 p.0)
 
 turn : (p q : Pid) (o : Option Pid) → lower p (Some (lower q o)) ≡ lower q (Some (lower p o))
-turn p q None = same_of (lower p (Some q)) (lower q (Some p)) (number p q ∙ low_swap p.0 q.0 ∙ sym (number q p))
+turn p q None = same_pid_of (lower p (Some q)) (lower q (Some p)) (number p q ∙ low_swap p.0 q.0 ∙ sym (number q p))
 turn p q (Some r) =
-    same_of (lower p (Some (lower q (Some r)))) (lower q (Some (lower p (Some r))))
+    same_pid_of (lower p (Some (lower q (Some r)))) (lower q (Some (lower p (Some r))))
     (number p (lower q (Some r)) ∙ ap (low p.0) (number q r) ∙ low_turn p.0 q.0 r.0 ∙ ap (low q.0) (sym (number p r)) ∙ sym (number q (lower p (Some r))))
 
 pub lowest-push : (ps : List Pid) (q : Pid) → lowest (ps ++ q ∷ []) ≡ Some (lower q (lowest ps))
@@ -75,10 +73,6 @@ same_self p = grind (arith, nat_tests)
 
 or_left : (a b : Bool) → a ≡ true → (a || b) ≡ true
 or_left a b h i = h i || b
-
-or_right : (a b : Bool) → b ≡ true → (a || b) ≡ true
-or_right true b h = refl
-or_right false b h = h
 
 pub lowest-in : (ps : List Pid) (c : Pid) → lowest ps ≡ Some c → list_any (λ p. same_pid p c) ps ≡ true
 lowest-in [] c found = cc

@@ -1,5 +1,5 @@
 -- Which cluster a process without a backup gets as its new one (Borg et al., ACM TOCS 7(1), 1989: quarterbacks, halfbacks and fullbacks; when each gets its backup is this project's own choice).
-use Rattle.std.specs.Prelude.{Bool, not, ◌&&◌, ◌||◌, if◌then◌else◌, find, Option, Some, None, is_some}
+use Rattle.std.specs.Prelude.{not, ◌&&◌, ◌||◌, if◌then◌else◌, find, Option, Some, None, is_some}
 use Rattle.std.specs.Option.{option_map_or}
 use Rattle.t32_base.specs.declared.process.Pid.{Pid}
 use Rattle.t32_base.specs.declared.process.ClusterNo.{ClusterNo}

@@ -1,5 +1,5 @@
 -- Where an entry goes: to all of these clusters or to none, in one order (Borg et al., Fault Tolerance Under UNIX, ACM TOCS 7(1), 1989: three-way message delivery).
-use Rattle.std.specs.Prelude.{ℕ, ◌^◌, bit_or, Bool, if◌then◌else◌, List, [], ◌∷◌, ◌++◌, Option, Some, None}
+use Rattle.std.specs.Prelude.{ℕ, ◌^◌, bit_or, if◌then◌else◌, List, [], ◌∷◌, ◌++◌, Option, Some, None}
 use Rattle.std.specs.Option.{option_map_or}
 use Rattle.t32_base.specs.declared.process.Pid.{Pid}
 use Rattle.t32_base.specs.declared.process.ClusterNo.{ClusterNo}

@@ -4,12 +4,12 @@ use Rattle.std.specs.Prelude.{slice_get, slice_set, option_and_then}
 use Rattle.std.specs.List.{list_any, range_with_len}
 use Rattle.std.proofs.lemmas.Bool.Decides.{nat_tests}
 use Rattle.std.proofs.lemmas.List.{get_or-set_same, get_or-set_other}
+use Rattle.std.proofs.lemmas.Bool.{or_parts}
 use Rattle.t32_base.specs.declared.process.ClusterNo.{ClusterNo}
 use Rattle.sys_text.specs.declared.system.System.{System}
 use Rattle.bus_msg.specs.declared.entry.Entry.{Entry}
 use Rattle.bus_msg.specs.Places.{cluster_no}
 use Rattle.cert_sched.specs.declared.script.ScriptWord.{ScriptWord}
-use Rattle.cert_sched.proofs.RisingLaws.{either_not}
 use Rattle.bus_order.specs.declared.marks.Mark.{Mark}
 use Rattle.bus_order.specs.View.{mark_in, no_marks, MarkHolds}
 
@@ -94,7 +94,7 @@ none_in_range t a zero none k low high = absurd (omega arith)
 none_in_range t a (suc len) none k low high = by_test (eqb k a) refl (λ low high. none_in_range t (a + 1) len parts.1 k low high)
   where
     parts : (t a ≡ false) × (list_any t (range_with_len (a + 1) len) ≡ false)
-    parts = either_not (t a) (list_any t (range_with_len (a + 1) len)) none
+    parts = or_parts (t a) (list_any t (range_with_len (a + 1) len)) none
 
     by_test : (b : Bool) → eqb k a ≡ b → (a + 1 ≤ k → k < a + 1 + len → t k ≡ false) → t k ≡ false
     by_test true is more = ap t (eqb-true k a is) ∙ parts.0

@@ -3,18 +3,18 @@ use Rattle.std.proofs.Common.{◌≡◌, ℕ, ◌-◌, refl, sym, ◌∙◌, ap,
 use Rattle.std.specs.List.{list_any}
 use Rattle.std.proofs.lemmas.List.{map-append}
 use Rattle.std.proofs.lemmas.List.Folds.{list_any-append}
+use Rattle.std.proofs.lemmas.Option.{same_Some}
 use Rattle.t32_base.specs.declared.process.Pid.{Pid}
 use Rattle.sys_text.specs.declared.system.System.{System}
 use Rattle.sys_text.specs.Valid.{is_system}
 use Rattle.sys_text.specs.Boot.{roots_of}
 use Rattle.plain_kernel.specs.Kernel.{Kernel, boot}
 use Rattle.plain_kernel.specs.Apply.{apply_all}
-use Rattle.plain_kernel.proofs.Entries.{some_same}
 use Rattle.plain_kernel.proofs.AtBoot.{boot-pids}
 use Rattle.plain_kernel.proofs.Pids.{HasPids, IsRising, one_step-pids, pids_in, tied_pids}
 use Rattle.plain_kernel.proofs.ForkPids.{fork_step-pids, with_pid-any}
 use Rattle.bus_msg.specs.declared.entry.What.{What}
-use Rattle.bus_msg.specs.declared.entry.What.TheVariants.{Mail, Birth, Exit, Page, Sync, Fetch, PageIs, Crash, Return, Rebackup, Done, Stop}
+use Rattle.bus_msg.specs.declared.entry.What.TheVariants.{Birth}
 use Rattle.bus_msg.specs.declared.entry.Entry.{Entry}
 use Rattle.bus_msg.specs.declared.placed.Placed.{Placed}
 use Rattle.bus_msg.specs.Places.{Places, placed_at}
@@ -107,7 +107,7 @@ module _ (system : System) (log : List Entry) (e : Entry) where
   alike_more : Stands system log e → ((k : Kernel) → plain_after system log ≡ Some k → Alike system log k) → (j : Kernel) → plain_after system (log ++ e ∷ []) ≡ Some j → Alike system (log ++ e ∷ []) j
   alike_more stands before j after =
       let a = applied system log e stands.applies in
-      let made : apply_all (items_of a.old (what e)) a.old ≡ Some j = a.made ∙ ap Some (some_same a.new j (sym a.after ∙ after)) in
+      let made : apply_all (items_of a.old (what e)) a.old ≡ Some j = a.made ∙ ap Some (same_Some a.new j (sym a.after ∙ after)) in
       by_what (what e) refl stands.kind a.old made (before a.old a.before)
     where
       by_what : (w : What) → what e ≡ w → KindHolds system log e w → (k : Kernel) → apply_all (items_of k (what e)) k ≡ Some j → Alike system log k → Alike system (log ++ e ∷ []) j
@@ -118,7 +118,7 @@ module _ (system : System) (log : List Entry) (e : Entry) where
 
 alike_at_boot : (system : System) → is_system system ≡ true → (k : Kernel) → plain_after system [] ≡ Some k → Alike system [] k
 unfolding plain_after placement
-alike_at_boot system valid k is = subst (Alike system []) (some_same (boot system) k is) (record {
+alike_at_boot system valid k is = subst (Alike system []) (same_Some (boot system) k is) (record {
   rising = (boot-pids system).rising;
   among = λ p.
       sym (rising-any (λ m. eqb m p.0) (state_pids (boot system).processes)) ∙ ap (list_any (λ m. eqb m p.0)) (boot_numbers system valid)

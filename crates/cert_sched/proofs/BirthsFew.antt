@@ -4,6 +4,7 @@ use Rattle.std.specs.Prelude.{fold}
 use Rattle.std.specs.List.{count_by, sum_by}
 use Rattle.std.proofs.lemmas.List.{length-append}
 use Rattle.std.proofs.lemmas.List.Sums.{sum_by-cons}
+use Rattle.std.proofs.lemmas.Option.{same_Some}
 use Rattle.t32_base.specs.declared.process.Pid.{Pid}
 use Rattle.t32_base.specs.Small.{SmallState}
 use Rattle.sys_text.specs.declared.system.System.{System}
@@ -22,7 +23,6 @@ use Rattle.plain_kernel.specs.Kernel.{Kernel, boot, boot_roots, empty, root_proc
 use Rattle.plain_kernel.specs.Apply.{apply_all}
 use Rattle.plain_kernel.proofs.AtBoot.{boot-rising, chans-keep, roots-rising}
 use Rattle.plain_kernel.proofs.ForkPids.{fork_step-rising}
-use Rattle.plain_kernel.proofs.Entries.{some_same}
 use Rattle.plain_kernel.proofs.Others.{items_keep}
 use Rattle.plain_kernel.proofs.Pids.{IsRising}
 use Rattle.bus_msg.specs.declared.entry.What.{What}
@@ -75,7 +75,7 @@ none_stays [] = refl
 none_stays (e ∷ log) = none_stays log
 
 births_from : (log : List Entry) (k j : Kernel) → IsRising k → fold after_entry (Some k) log ≡ Some j → sum_of births_left j + length (births_of log) ≤ sum_of births_left k
-births_from [] k j rising is = let same = ap (sum_of births_left) (some_same k j is) in omega (arith, same)
+births_from [] k j rising is = let same = ap (sum_of births_left) (same_Some k j is) in omega (arith, same)
 births_from (e ∷ log) k j rising is = by_case (apply_all (items_of k (what e)) k) refl is (λ l. births_from log l j)
   where
     by_case : (o : Option Kernel) → apply_all (items_of k (what e)) k ≡ o → fold after_entry o log ≡ Some j → ((l : Kernel) → IsRising l → fold after_entry (Some l) log ≡ Some j → sum_of births_left j + length (births_of log) ≤ sum_of births_left l)

@@ -8,6 +8,7 @@ use Rattle.std.specs.declared.cmp.Ordering.TheVariants.{Less, Equal, Greater}
 use Rattle.std.specs.FinMap.{put, is_sorted}
 use Rattle.std.specs.FinMap.Entries.{by_order, below_all}
 use Rattle.std.proofs.lemmas.Bool.Decides.{nat_tests}
+use Rattle.std.proofs.lemmas.Bool.{or_parts}
 use Rattle.t32_base.specs.declared.process.Pid.{Pid}
 use Rattle.sys_text.specs.declared.system.System.{System}
 use Rattle.sys_text.specs.declared.system.Root.{Root}
@@ -20,7 +21,7 @@ use Rattle.plain_kernel.proofs.Pids.{is_below, left_true, right_true}
 use Rattle.cert_sched.specs.Parts.{put_rising, rising}
 use Rattle.cert_sched.specs.Schedule.{placed_root}
 use Rattle.cert_sched.proofs.PidLaws.{apart_of, placed_pids}
-use Rattle.cert_sched.proofs.RisingLaws.{NoTwo, either_not, put_all, put_all-none, put_all-put, put_rising-swap, rising-any}
+use Rattle.cert_sched.proofs.RisingLaws.{NoTwo, put_all, put_all-none, put_all-put, put_rising-swap, rising-any}
 use Rattle.cert_sched.proofs.RootPids.{root_pids_differ}
 
 abbrev pub state_pids : List (Pid × ProcState) → List ℕ
@@ -47,7 +48,7 @@ tied_same n m tied = grind (arith, nat_tests)
 put_new : (p : Pid) (s : ProcState) (es : List (Pid × ProcState)) → list_any (λ n. eqb n p.0) (state_pids es) ≡ false → rising (state_pids (put pid_cmp p s es)) ≡ put_rising p.0 (rising (state_pids es))
 put_new p s [] none = refl
 put_new p s (e ∷ es) none =
-    let parts = either_not (eqb (e.0).0 p.0) (list_any (λ n. eqb n p.0) (state_pids es)) none in
+    let parts = or_parts (eqb (e.0).0 p.0) (list_any (λ n. eqb n p.0) (state_pids es)) none in
     by_case (pid_cmp p e.0) refl parts.0 (put_new p s es parts.1)
   where
     by_case : (o : Ordering) → pid_cmp p e.0 ≡ o → eqb (e.0).0 p.0 ≡ false → rising (state_pids (put pid_cmp p s es)) ≡ put_rising p.0 (rising (state_pids es))

@@ -12,7 +12,7 @@ use Rattle.plain_kernel.proofs.Laws.{apply_all-append}
 use Rattle.plain_kernel.proofs.Others.{small_at}
 use Rattle.plain_kernel.proofs.Forking.{fork_made, fork-apart}
 use Rattle.bus_msg.specs.declared.entry.What.{What}
-use Rattle.bus_msg.specs.declared.entry.What.TheVariants.{Mail, Birth, Exit, Page, Sync, Fetch, PageIs, Crash, Return, Rebackup, Done, Stop}
+use Rattle.bus_msg.specs.declared.entry.What.TheVariants.{Birth}
 use Rattle.bus_msg.specs.declared.entry.Entry.{Entry}
 use Rattle.bus_msg.specs.Places.{same_pid}
 use Rattle.bus_msg.specs.PlacedAfter.{what}

@@ -2,6 +2,7 @@
 use Rattle.std.proofs.Common.{◌≡◌, ℕ, ◌+◌, ◌-◌, refl, sym, ◌∙◌, ap, subst, List, [], ◌∷◌, ◌++◌, Bool, true, false, cond, not, eqb-true, eq-eqb, append-nil, Option, Some, None, is_some, true≢false}
 use Rattle.std.specs.Prelude.{option_and_then, option_map}
 use Rattle.std.proofs.lemmas.Bool.{and_parts}
+use Rattle.std.proofs.lemmas.Option.{same_Some}
 use Rattle.t32_base.specs.declared.process.Pid.{Pid}
 use Rattle.t32_base.specs.declared.process.ClusterNo.{ClusterNo}
 use Rattle.t32_base.specs.declared.process.End.{End}
@@ -20,9 +21,8 @@ use Rattle.sys_calls.proofs.Counting.{last_sent, letter_goes_on, silently_counts
 use Rattle.sys_calls.proofs.RunLemma.{all_delivered}
 use Rattle.plain_kernel.specs.Kernel.{Kernel, process_at}
 use Rattle.plain_kernel.specs.Apply.{apply_all}
-use Rattle.plain_kernel.proofs.Entries.{some_same}
 use Rattle.bus_msg.specs.declared.entry.What.{What}
-use Rattle.bus_msg.specs.declared.entry.What.TheVariants.{Mail, Birth, Exit, Page, Sync, Fetch, PageIs, Crash, Return, Rebackup, Done, Stop}
+use Rattle.bus_msg.specs.declared.entry.What.TheVariants.{Mail, Birth, Exit, Sync, Crash, Return, Rebackup, Done}
 use Rattle.bus_msg.specs.declared.entry.Entry.{Entry}
 use Rattle.bus_msg.specs.declared.placed.Placed.{Placed}
 use Rattle.bus_msg.specs.Places.{same_pid, unended_in}
@@ -113,7 +113,7 @@ module _ (system : System) (log : List Entry) (e : Entry) where
         made = at - done f.kernel letter.from;
         to = t;
         replays = subst (λ ds. Replays (at - done f.kernel letter.from) f.was ds t) deeds (replays_last (at - done f.kernel letter.from) f.was t (Sent letter) f.sends);
-        arrives = some_same now (received (Sent letter) letter.from t) (sym there ∙ process_after-sender system log e letter.from at (Sent letter) t is (refl, told)) ∙ received-all letter letter.from t open_still;
+        arrives = same_Some now (received (Sent letter) letter.from t) (sym there ∙ process_after-sender system log e letter.from at (Sent letter) t is (refl, told)) ∙ received-all letter letter.from t open_still;
       })
 
   mail_there : (at : ℕ) (letter : Letter) (t : ProcState) (p : Pid) → emission_at system log letter.from at ≡ Some (Sent letter, t) → what e ≡ Mail at letter → same_pid letter.from p ≡ false → Here (Mail at letter) p
@@ -128,7 +128,7 @@ module _ (system : System) (log : List Entry) (e : Entry) where
       by_process : (o : Option ProcState) → process_after system log p ≡ o → option_map (received (Sent letter) p) o ≡ Some now → Came system log (Mail at letter) p now
       by_process None here same = cc
       by_process (Some was) here same =
-          let to : received (Sent letter) p was ≡ now = some_same (received (Sent letter) p was) now same in
+          let to : received (Sent letter) p was ≡ now = same_Some (received (Sent letter) p was) now same in
           let open_still : has_ended (was.small).status ≡ false = by_status was to (has_ended (was.small).status) refl in
           went_on was here refl (record {
             made = 0;
@@ -153,7 +153,7 @@ module _ (system : System) (log : List Entry) (e : Entry) where
         made = at - done f.kernel p;
         to = t;
         replays = subst (λ ds. Replays (at - done f.kernel p) f.was ds t) deeds (replays_last (at - done f.kernel p) f.was t (Ended end) f.sends);
-        arrives = some_same now t (sym there ∙ process_after-sender system log e p at (Ended end) t is told);
+        arrives = same_Some now t (sym there ∙ process_after-sender system log e p at (Ended end) t is told);
       })
 
   exit_there : (q : Pid) (at : ℕ) (end : End) (t : ProcState) (p : Pid) → emission_at system log q at ≡ Some (Ended end, t) → what e ≡ Exit q at end → same_pid q p ≡ false → Here (Exit q at end) p
@@ -168,7 +168,7 @@ module _ (system : System) (log : List Entry) (e : Entry) where
             made = 0;
             to = was;
             replays = (ap (λ b. cond b (Sends (Ended end) ∷ []) []) apart, refl);
-            arrives = some_same now was (sym same);
+            arrives = same_Some now was (sym same);
           })
 
   exit_came : (q : Pid) (at : ℕ) (end : End) (t : ProcState) (p : Pid) → emission_at system log q at ≡ Some (Ended end, t) → what e ≡ Exit q at end → Here (Exit q at end) p
@@ -208,7 +208,7 @@ module _ (system : System) (log : List Entry) (e : Entry) where
       here : (r : Pid) → q ≡ r → process_after system (log ++ e ∷ []) r ≡ Some now → Silently r now
       here r same after =
           let f = silent_from system log q at t is in
-          let to : t ≡ now = some_same t now (sym (process_after-silent system log e q at t is items) ∙ ap (process_after system (log ++ e ∷ [])) same ∙ after) in
+          let to : t ≡ now = same_Some t now (sym (process_after-silent system log e q at t is items) ∙ ap (process_after system (log ++ e ∷ [])) same ∙ after) in
           record {
             was = f.was;
             there = ap (process_after system log) (sym same) ∙ ap (option_and_then (λ k. process_at k q)) f.before ∙ f.there;
@@ -252,7 +252,7 @@ module _ (system : System) (log : List Entry) (e : Entry) where
       let a = applied system log e applies in
       let named : NoTwo (rest_pids rests) = subst NoTwo (sym holds.named) (rising-apart (placed_pids (unended_in (placement system log))) (apart_fewer (λ (q : Placed). not q.ended) (placement system log).placed two)) in
       let runs = runs_made a.old rests named (list_all-weaker (is_silent_rest system log) (λ r. is_some (led a.old r)) (λ r rest. sym (ap is_some (led-silent_upto system log a.old r a.before)) ∙ (and_parts _ (is_some (silent_upto system log r.0 r.1)) rest).1) rests holds.silent) in
-      let same : runs.to ≡ a.new = some_same runs.to a.new (sym runs.made ∙ sym (ap (λ w. apply_all (items_of a.old w) a.old) is) ∙ a.made) in
+      let same : runs.to ≡ a.new = same_Some runs.to a.new (sym runs.made ∙ sym (ap (λ w. apply_all (items_of a.old w) a.old) is) ∙ a.made) in
       runs_from a.old rests p now a.before (sym (runs.are p) ∙ ap (λ k. process_at k p) same ∙ sym (ap (option_and_then (λ k. process_at k p)) a.after) ∙ there)
 
   -- ---- synchronisations and new backups
@@ -322,7 +322,7 @@ module _ (system : System) (log : List Entry) (e : Entry) where
       by_pid : (b : Bool) → same_pid q p ≡ b → Settles p now
       by_pid true is =
           let same : q ≡ p = same_of q p is in
-          let to : taken t.before ≡ now = some_same (taken t.before) now (sym t.after ∙ ap (process_after system (log ++ e ∷ [])) same ∙ there) in
+          let to : taken t.before ≡ now = same_Some (taken t.before) now (sym t.after ∙ ap (process_after system (log ++ e ∷ [])) same ∙ there) in
           record {
             was = t.was;
             there = ap (process_after system log) (sym same) ∙ t.there;
@@ -371,13 +371,13 @@ module _ (system : System) (log : List Entry) (e : Entry) where
             made = b.made + 1;
             to = fork_parent b.before child;
             replays = subst (λ ds. Replays (b.made + 1) b.was ds (fork_parent b.before child)) deeds (replays_forked b.made b.was b.before child b.forks);
-            arrives = some_same now (fork_parent b.before child) (sym after ∙ ap (process_after system (log ++ e ∷ [])) (sym same) ∙ b.parent_is);
+            arrives = same_Some now (fork_parent b.before child) (sym after ∙ ap (process_after system (log ++ e ∷ [])) (sym same) ∙ b.parent_is);
           })
 
       by_child : same_pid parent p ≡ false → (c : Bool) → same_pid child p ≡ c → Came system log (Birth parent at child end) p now
       by_child other true is =
           let same : child ≡ p = same_of child p is in
-          let born : fork_child b.before child ≡ now = some_same (fork_child b.before child) now (sym b.child_is ∙ ap (process_after system (log ++ e ∷ [])) same ∙ there) in
+          let born : fork_child b.before child ≡ now = same_Some (fork_child b.before child) now (sym b.child_is ∙ ap (process_after system (log ++ e ∷ [])) same ∙ there) in
           was_born is (ap (λ (s : ProcState). s.next) (sym born))
       by_child other false is = stays (Birth parent at child end) p now (b.others p other is) there (ap (λ (x : Bool). cond x (Bears child ∷ []) []) other) refl is
 
@@ -391,7 +391,7 @@ module _ (system : System) (log : List Entry) (e : Entry) where
     where
       cut : (p : Pid) → q ≡ p → process_after system (log ++ e ∷ []) p ≡ Some now → Came system log (Sync q small read (Some g)) p now
       cut p same after =
-          let to : taken t.before ≡ now = some_same (taken t.before) now (sym t.after ∙ ap (process_after system (log ++ e ∷ [])) same ∙ after) in
+          let to : taken t.before ≡ now = same_Some (taken t.before) now (sym t.after ∙ ap (process_after system (log ++ e ∷ [])) same ∙ after) in
           was_cut t.was (ap (process_after system log) (sym same) ∙ t.there) (sym (silently_ends t.made t.was t.before t.silent) ∙ t.open_still) (eq-eqb q.0 p.0 (λ i. (same i).0))
           (ap (λ (s : ProcState). s.next) (sym to) ∙ (silently_counts t.made t.was t.before t.silent).next)
 

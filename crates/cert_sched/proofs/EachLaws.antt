@@ -2,6 +2,7 @@
 use Rattle.std.proofs.Common.{◌≡◌, refl, sym, ◌∙◌, ap, subst, List, [], ◌∷◌, ◌++◌, Bool, true, false, cond, eqb-true, Option, Some, None, is_some, true≢false}
 use Rattle.std.specs.Prelude.{IfSome, fold, option_and_then, option_map}
 use Rattle.std.proofs.lemmas.List.Sums.{fold-append}
+use Rattle.std.proofs.lemmas.Option.{same_Some}
 use Rattle.t32_base.specs.declared.process.Pid.{Pid}
 use Rattle.t32_base.specs.declared.letter.Letter.{Letter}
 use Rattle.sys_text.specs.declared.system.System.{System}
@@ -14,7 +15,6 @@ use Rattle.sys_calls.specs.Fork.{fork_child, fork_parent}
 use Rattle.plain_kernel.specs.Kernel.{Kernel, boot, process_at, with_process, emitted}
 use Rattle.plain_kernel.specs.Apply.{after_step, fork_step, one_step, take_step}
 use Rattle.plain_kernel.proofs.AtBoot.{Each}
-use Rattle.plain_kernel.proofs.Entries.{some_same}
 use Rattle.plain_kernel.proofs.Forking.{fork_made}
 use Rattle.plain_kernel.proofs.Laws.{process_at-same}
 use Rattle.plain_kernel.proofs.Others.{process_at-other}
@@ -59,7 +59,7 @@ pub record Has (Q : ProcState → Type 0) (p : Pid) (k : Kernel) : Type 0 where
 module _ (Q : ProcState → Type 0) (stays : StaysSo Q) (p : Pid) where
   -- so it has it where it is found
   found_has : (k : Kernel) (q : Pid) (s : ProcState) → Has Q p k → same_pid q p ≡ true → process_at k q ≡ Some s → Q s
-  found_has k q s h same there = subst Q (some_same h.now s (sym h.there ∙ ap (process_at k) (sym (same_of q p same)) ∙ there)) h.has
+  found_has k q s h same there = subst Q (same_Some h.now s (sym h.there ∙ ap (process_at k) (sym (same_of q p same)) ∙ there)) h.has
 
   put_has : (k : Kernel) (q : Pid) (t : ProcState) → (same_pid q p ≡ true → Q t) → Has Q p k → Has Q p (with_process k q t)
   put_has k q t here h = by_pid (same_pid q p) refl here
@@ -77,9 +77,9 @@ module _ (Q : ProcState → Type 0) (stays : StaysSo Q) (p : Pid) where
   one_has q k j h made = by_process (process_at k q) refl made
     where
       by_next : (s : ProcState) (next : Next) → process_at k q ≡ Some s → next_step s ≡ next → after_step k q next ≡ Some j → Has Q p j
-      by_next s (Silent t) there is e = subst (Has Q p) (some_same (with_process k q t) j e) (put_has k q t (λ same. stays.silent s t is (found_has k q s h same there)) h)
+      by_next s (Silent t) there is e = subst (Has Q p) (same_Some (with_process k q t) j e) (put_has k q t (λ same. stays.silent s t is (found_has k q s h same there)) h)
       by_next s (Emits what t) there is e =
-          subst (Has Q p) (some_same (emitted (with_process k q t) what) j e) (emitted_has (with_process k q t) what (put_has k q t (λ same. stays.sends s t what is (found_has k q s h same there)) h))
+          subst (Has Q p) (same_Some (emitted (with_process k q t) what) j e) (emitted_has (with_process k q t) what (put_has k q t (λ same. stays.sends s t what is (found_has k q s h same there)) h))
       by_next s Blocked there is e = cc
       by_next s Forks there is e = cc
       by_next s Over there is e = cc
@@ -115,7 +115,7 @@ module _ (Q : ProcState → Type 0) (stays : StaysSo Q) (p : Pid) where
 
       by_after : (o : Option Kernel) → IfSome o (Has Q p) → option_and_then (λ k. process_at k p) o ≡ Some now → Q now
       by_after None h e = cc
-      by_after (Some k) h e = subst Q (some_same h.now now (sym h.there ∙ e)) h.has
+      by_after (Some k) h e = subst Q (same_Some h.now now (sym h.there ∙ e)) h.has
 
   pub entry_so : (system : System) (log : List Entry) (e : Entry) (was now : ProcState) → process_after system log p ≡ Some was → Q was → process_after system (log ++ e ∷ []) p ≡ Some now → Q now
   entry_so system log e was now there has after = rest_so system log (e ∷ []) was now there has after
@@ -129,7 +129,7 @@ module _ (Q : Pid → ProcState → Type 0) (stays : (p : Pid) → StaysSo (Q p)
       by_pid : (b : Bool) → same_pid q p ≡ b → Q p s
       by_pid true is =
           let pid : q ≡ p = same_of q p is in
-          let state : t ≡ s = some_same t s (sym (process_at-same k q t) ∙ ap (process_at (with_process k q t)) pid ∙ there) in
+          let state : t ≡ s = same_Some t s (sym (process_at-same k q t) ∙ ap (process_at (with_process k q t)) pid ∙ there) in
           subst (λ x. Q x s) pid (subst (Q q) state has)
       by_pid false is = each p s (sym (process_at-other k q t p (apart_from q p is)) ∙ there)
 
@@ -138,16 +138,16 @@ module _ (Q : Pid → ProcState → Type 0) (stays : (p : Pid) → StaysSo (Q p)
     where
       by_process : (o : Option ProcState) → process_at k p ≡ o → option_map (received e p) o ≡ Some s → Q p s
       by_process None here h = cc
-      by_process (Some was) here h = subst (Q p) (some_same (received e p was) s h) (received_so (Q p) (stays p) e p was (each p was here))
+      by_process (Some was) here h = subst (Q p) (same_Some (received e p was) s h) (received_so (Q p) (stays p) e p was (each p was here))
 
   pub each_one : (p : Pid) (k j : Kernel) → Each Q k → one_step p k ≡ Some j → Each Q j
   unfolding one_step
   each_one p k j each made = by_process (process_at k p) refl made
     where
       by_next : (s : ProcState) (next : Next) → process_at k p ≡ Some s → next_step s ≡ next → after_step k p next ≡ Some j → Each Q j
-      by_next s (Silent t) there is e = subst (Each Q) (some_same (with_process k p t) j e) (each_put k p t ((stays p).silent s t is (each p s there)) each)
+      by_next s (Silent t) there is e = subst (Each Q) (same_Some (with_process k p t) j e) (each_put k p t ((stays p).silent s t is (each p s there)) each)
       by_next s (Emits what t) there is e =
-          subst (Each Q) (some_same (emitted (with_process k p t) what) j e) (each_emitted (with_process k p t) what (each_put k p t ((stays p).sends s t what is (each p s there)) each))
+          subst (Each Q) (same_Some (emitted (with_process k p t) what) j e) (each_emitted (with_process k p t) what (each_put k p t ((stays p).sends s t what is (each p s there)) each))
       by_next s Blocked there is e = cc
       by_next s Forks there is e = cc
       by_next s Over there is e = cc

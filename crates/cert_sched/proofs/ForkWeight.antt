@@ -1,5 +1,5 @@
 -- To the parent itself a fork leaves one step less at least.
-use Rattle.std.proofs.Common.{ℕ, ◌+◌, ◌≤◌, arith}
+use Rattle.std.proofs.Common.{◌+◌, ◌≤◌, arith}
 use Rattle.t32_base.specs.declared.process.Pid.{Pid}
 use Rattle.proc_state.specs.State.{ProcState}
 use Rattle.proc_state.proofs.Linking.{linked_unshut}

@@ -7,6 +7,7 @@ use Rattle.std.specs.Ordering.{is_eq}
 use Rattle.std.specs.FinMap.{find, put, is_sorted}
 use Rattle.std.specs.FinMap.Entries.{by_order}
 use Rattle.std.proofs.lemmas.List.Sums.{sum_by-cons}
+use Rattle.std.proofs.lemmas.Option.{same_Some}
 use Rattle.t32_base.specs.declared.process.Pid.{Pid}
 use Rattle.t32_base.specs.declared.letter.Letter.{Letter}
 use Rattle.t32_base.specs.declared.letter.To.{To}
@@ -23,7 +24,6 @@ use Rattle.sys_calls.proofs.Bearing.{emits_lightens, fork_lightens, silent_light
 use Rattle.sys_calls.proofs.ForkLaws.{forks_can}
 use Rattle.plain_kernel.specs.Kernel.{Kernel, emitted, letter_put, letter_to, pid_cmp, process_at, with_process}
 use Rattle.plain_kernel.specs.Apply.{after_step, fork_step, one_step}
-use Rattle.plain_kernel.proofs.Entries.{some_same}
 use Rattle.plain_kernel.proofs.Forking.{fork-apart, fork_made}
 use Rattle.plain_kernel.proofs.Others.{process_at-other}
 use Rattle.plain_kernel.proofs.Pids.{IsRising, left_true, not_found, put_process, right_true, pids_in}
@@ -48,7 +48,7 @@ module _ (f : SmallState → ℕ) where
           → sum_by of (by_order o ((p, t) ∷ e ∷ es) ((e.0, t) ∷ es) (e ∷ put pid_cmp p t es)) + f s.small ≡ sum_by of (e ∷ es) + f t.small
       by_case Less is found more = absurd (true≢false (ap is_some (sym found ∙ not_found p e.0 es is (left_true _ _ rising))))
       by_case Equal is found more =
-          let same : f (e.1).small ≡ f s.small = ap (λ (p : ProcState). f p.small) (some_same e.1 s found) in
+          let same : f (e.1).small ≡ f s.small = ap (λ (p : ProcState). f p.small) (same_Some e.1 s found) in
           omega (arith, sum_by-cons of (e.0, t) es, sum_by-cons of e es, same)
       by_case Greater is found more = omega (arith, sum_by-cons of e (put pid_cmp p t es), sum_by-cons of e es, more found)
 
@@ -87,7 +87,7 @@ module _ (f : SmallState → ℕ) where
         where
           by_test : (b : Bool) → cond b (Some e.1) (find pid_cmp p es) ≡ Some s → (find pid_cmp p es ≡ Some s → f s.small ≤ sum_by of es) → f s.small ≤ sum_by of (e ∷ es)
           by_test true found more =
-              let same : f (e.1).small ≡ f s.small = ap (λ (p : ProcState). f p.small) (some_same e.1 s found) in
+              let same : f (e.1).small ≡ f s.small = ap (λ (p : ProcState). f p.small) (same_Some e.1 s found) in
               omega (arith, sum_by-cons of e es, same)
           by_test false found more = omega (arith, sum_by-cons of e es, more found)
 
@@ -128,9 +128,9 @@ module _ (f : SmallState → ℕ) where
       by_next : (s : ProcState) (next : Next) → process_at k p ≡ Some s → next_step s ≡ next → after_step k p next ≡ Some j → sum_of f j + d ≤ sum_of f k
       by_next s (Silent t) there is e =
           let less = silent s t is in
-          subst (λ (i : Kernel). sum_of f i + d ≤ sum_of f k) (some_same (with_process k p t) j e) (omega (arith, put_sum p s t k.processes rising there, less))
+          subst (λ (i : Kernel). sum_of f i + d ≤ sum_of f k) (same_Some (with_process k p t) j e) (omega (arith, put_sum p s t k.processes rising there, less))
       by_next s (Emits what t) there is e =
-          subst (λ (i : Kernel). sum_of f i + d ≤ sum_of f k) (some_same (emitted (with_process k p t) what) j e) (sent_lowers d k p s t what rising there (sends s t what is))
+          subst (λ (i : Kernel). sum_of f i + d ≤ sum_of f k) (same_Some (emitted (with_process k p t) what) j e) (sent_lowers d k p s t what rising there (sends s t what is))
       by_next s Blocked there is e = cc
       by_next s Forks there is e = cc
       by_next s Over there is e = cc

@@ -4,6 +4,7 @@ use Rattle.std.specs.Prelude.{option_and_then, option_map}
 use Rattle.std.specs.Option.{option_map_or}
 use Rattle.std.proofs.lemmas.Bool.{and_parts}
 use Rattle.std.proofs.lemmas.Bool.Decides.{nat_tests}
+use Rattle.std.proofs.lemmas.Option.{same_Some}
 use Rattle.t32_base.specs.declared.process.Pid.{Pid}
 use Rattle.t32_base.specs.declared.process.End.{End}
 use Rattle.t32_base.specs.declared.letter.Letter.{Letter}
@@ -16,9 +17,8 @@ use Rattle.sys_calls.specs.declared.steps.Emission.{Emission}
 use Rattle.sys_calls.specs.declared.steps.Emission.TheVariants.{Mail as Sent, Exit as Ended}
 use Rattle.sys_calls.proofs.RunLemma.{all_delivered}
 use Rattle.plain_kernel.specs.Kernel.{process_at}
-use Rattle.plain_kernel.proofs.Entries.{some_same}
 use Rattle.bus_msg.specs.declared.entry.What.{What}
-use Rattle.bus_msg.specs.declared.entry.What.TheVariants.{Mail, Birth, Exit, Page, Sync, Fetch, PageIs, Crash, Return, Rebackup, Done, Stop}
+use Rattle.bus_msg.specs.declared.entry.What.TheVariants.{Mail, Birth, Exit}
 use Rattle.bus_msg.specs.declared.entry.Entry.{Entry}
 use Rattle.bus_msg.specs.Places.{same_pid}
 use Rattle.bus_msg.specs.PlacedAfter.{what}
@@ -86,7 +86,7 @@ module _ (system : System) (log : List Entry) (e : Entry) where
             deed = Sends (Sent letter);
             deeds_are = ap (λ (b : Bool). cond b (Sends (Sent letter) ∷ []) []) (eq-eqb (letter.from).0 (letter.from).0 refl);
             sharp = sharp_last (at - done f.kernel letter.from) f.was s.after (Sent letter) f.sends;
-            arrives = some_same now (received (Sent letter) letter.from s.after) (sym there ∙ process_after-sender system log e letter.from at (Sent letter) s.after s.is (refl, is))
+            arrives = same_Some now (received (Sent letter) letter.from s.after) (sym there ∙ process_after-sender system log e letter.from at (Sent letter) s.after s.is (refl, is))
                 ∙ received-all letter letter.from s.after (letter_told system log letter.from at letter s.after s.is);
             keeps = keeps_of (Mail at letter) letter.from s.after (ap (option_map (λ (r : Emission × ProcState). r.1)) s.is) limits;
           })
@@ -110,7 +110,7 @@ module _ (system : System) (log : List Entry) (e : Entry) where
             deed = Sends (Ended end);
             deeds_are = ap (λ (b : Bool). cond b (Sends (Ended end) ∷ []) []) (eq-eqb q.0 q.0 refl);
             sharp = sharp_last (at - done f.kernel q) f.was s.after (Ended end) f.sends;
-            arrives = some_same now s.after (sym there ∙ process_after-sender system log e q at (Ended end) s.after s.is is);
+            arrives = same_Some now s.after (sym there ∙ process_after-sender system log e q at (Ended end) s.after s.is is);
             keeps = keeps_of (Exit q at end) q s.after (ap (option_map (λ (r : Emission × ProcState). r.1)) s.is) limits;
           })
 
@@ -136,7 +136,7 @@ module _ (system : System) (log : List Entry) (e : Entry) where
             deed = Bears child;
             deeds_are = ap (λ (b : Bool). cond b (Bears child ∷ []) []) (eq-eqb parent.0 parent.0 refl);
             sharp = sharp_forked b.made b.was b.before child b.forks;
-            arrives = some_same now (fork_parent b.before child) (sym there ∙ b.parent_is);
+            arrives = same_Some now (fork_parent b.before child) (sym there ∙ b.parent_is);
             keeps = keeps_of (Birth parent at child end) parent (fork_parent b.before child) (ap (option_map (λ s. fork_parent s child)) (before ∙ ap Some (sym from.1))) limits;
           })
 
@@ -229,7 +229,7 @@ module _ (system : System) (log : List Entry) (e : Entry) (p : Pid) where
   no_deed_more : (was now : ProcState) → starts p e ≡ false → is_birth_of p (what e) ≡ false → Goes p (what e) was now → deeds_in p (what e) ≡ [] → Rolls system log p was → Limited system log p was → Limited system (log ++ e ∷ []) p now
   no_deed_more was now quiet birth g none r l =
       let letters = letter_for p (what e) in
-      let same : r.start ≡ l.start = some_same r.start l.start (sym r.started ∙ l.started) in
+      let same : r.start ≡ l.start = same_Some r.start l.start (sym r.started ∙ l.started) in
       let deeds : since log p ≡ since (log ++ e ∷ []) p = sym (append-nil (since log p)) ∙ ap (λ ds. since log p ++ ds) (sym none) ∙ sym (since-snoc log e p ∙ ap (λ b. cond b [] (since log p ++ deeds_in p (what e))) quiet) in
       let more : all_delivered (refilled log p l.start) letters ≡ refilled (log ++ e ∷ []) p l.start = subst (λ s. all_delivered (refilled log p s) letters ≡ refilled (log ++ e ∷ []) p s) same (refilled_more system log e p r.start quiet birth r.arrived) in
       let on : Replays (l.rest + g.made) l.there [] g.to = replays_on l.rest g.made l.there was g.to [] [] l.silent (subst (λ ds. Replays g.made was ds g.to) none g.replays) in
@@ -290,7 +290,7 @@ module _ (system : System) (log : List Entry) (e : Entry) (p : Pid) where
       by_limit : starts p e ≡ false → (deeds_in p (what e) ≡ []) ⊎ WithinLimits system log (what e) p now → Limited system (log ++ e ∷ []) p now
       by_limit quiet (inl none) = no_deed_more was now quiet birth g none (rolled was here open_still) (before was here open_still)
       by_limit quiet (inr w) =
-          let same : was ≡ w.was = some_same was w.was (sym here ∙ w.there) in
+          let same : was ≡ w.was = same_Some was w.was (sym here ∙ w.there) in
           deed_more now quiet birth w (subst (Rolls system log p) same (rolled was here open_still))
 
       by_cut : (b : Bool) → is_cut p (what e) ≡ b → Limited system (log ++ e ∷ []) p now
@@ -387,7 +387,7 @@ pub record Ahead (system : System) (r : BackRec) (leads_there : ProcState) (ahea
 pub ahead_of : (system : System) (log : List Entry) (p : Pid) (now : ProcState) (r : BackRec) → Limited system log p now → has_ended (now.small).status ≡ false → (leads : RecordLeads system log p r now) → backup_record system log p ≡ Some r
     → Ahead system r leads.there leads.ahead
 ahead_of system log p now r l goes_on leads is =
-    let same : l.start ≡ leads.start = some_same l.start leads.start (sym l.started ∙ leads.started) in
+    let same : l.start ≡ leads.start = same_Some l.start leads.start (sym l.started ∙ leads.started) in
     let record_is = record_of system log p l.start r l.started is in
     let s = refilled log p l.start in
     let replays = sharp_replays l.first s l.there (since log p) l.sharp in

@@ -1,5 +1,6 @@
 -- What each step and each fork lowers in sum, and no take raises, over the processes of a kernel is never more after a log than at boot, nor after an entry than before it.
 use Rattle.std.proofs.Common.{◌≡◌, ℕ, ◌+◌, ◌-◌, ◌≤◌, refl, sym, ◌∙◌, ap, arith, List, [], ◌∷◌, ◌++◌, Some, true}
+use Rattle.std.proofs.lemmas.Option.{same_Some}
 use Rattle.t32_base.specs.declared.process.Pid.{Pid}
 use Rattle.t32_base.specs.Small.{SmallState}
 use Rattle.sys_text.specs.declared.system.System.{System}
@@ -16,7 +17,6 @@ use Rattle.plain_kernel.specs.Kernel.{Kernel, boot, emitted, with_process}
 use Rattle.plain_kernel.specs.Apply.{apply_all, fork_step, one_step, take_step}
 use Rattle.plain_kernel.specs.declared.item.Item.{Item}
 use Rattle.plain_kernel.proofs.AtBoot.{boot-rising}
-use Rattle.plain_kernel.proofs.Entries.{some_same}
 use Rattle.plain_kernel.proofs.ForkPids.{fork_step-rising}
 use Rattle.plain_kernel.proofs.Others.{items_keep}
 use Rattle.plain_kernel.proofs.Pids.{IsRising, one_step-pids, pids_in}
@@ -104,8 +104,8 @@ load_sent system log entry p at e t k j before after is tells =
     let s = sent_from system log p at e t is in
     let l = last_sent _ s.was e t s.sends in
     let less : weight_with_children t.small + 1 ≤ weight_with_children (s.was).small = omega (arith, silently_lightens l.earlier s.was l.before l.silent, emits_lightens l.before t e l.last) in
-    let new : emitted (with_process s.kernel p t) e ≡ j = some_same (emitted (with_process s.kernel p t) e) j (sym (plain_after-sent system log entry p at e t s.kernel s.before is tells) ∙ after) in
-    let old : s.kernel ≡ k = some_same s.kernel k (sym s.before ∙ before) in
+    let new : emitted (with_process s.kernel p t) e ≡ j = same_Some (emitted (with_process s.kernel p t) e) j (sym (plain_after-sent system log entry p at e t s.kernel s.before is tells) ∙ after) in
+    let old : s.kernel ≡ k = same_Some s.kernel k (sym s.before ∙ before) in
     let lowers = sent_lowers weight_with_children 1 s.kernel p s.was t e (plain_after-rising system log s.kernel s.before) s.there less in
     omega (arith, ap family_load new, ap family_load old, lowers)
 

@@ -2,15 +2,15 @@
 use Rattle.std.proofs.Common.{option_and_then, ◌≡◌, ℕ, refl, sym, ◌∙◌, ap, subst, List, [], ◌∷◌, ◌++◌, true, false, not, Option, Some, None, is_some, true≢false, append-nil}
 use Rattle.std.specs.Prelude.{option_map}
 use Rattle.std.proofs.lemmas.Bool.{and_parts}
+use Rattle.std.proofs.lemmas.Option.{same_Some}
 use Rattle.t32_base.specs.declared.process.Pid.{Pid}
 use Rattle.t32_base.specs.Small.{SmallState}
 use Rattle.sys_text.specs.declared.system.System.{System}
 use Rattle.proc_state.specs.State.{ProcState}
 use Rattle.plain_kernel.specs.Kernel.{Kernel, process_at, with_process}
 use Rattle.plain_kernel.specs.Apply.{apply_all, take_step}
-use Rattle.plain_kernel.proofs.Entries.{some_same}
 use Rattle.bus_msg.specs.declared.entry.What.{What}
-use Rattle.bus_msg.specs.declared.entry.What.TheVariants.{Mail, Birth, Exit, Page, Sync, Fetch, PageIs, Crash, Return, Rebackup, Done, Stop}
+use Rattle.bus_msg.specs.declared.entry.What.TheVariants.{Mail, Birth, Exit, Sync, Rebackup, Done}
 use Rattle.bus_msg.specs.declared.entry.Entry.{Entry}
 use Rattle.bus_msg.specs.declared.placed.Placed.{Placed}
 use Rattle.bus_msg.specs.Places.{unended_in}
@@ -35,13 +35,13 @@ module _ (system : System) (log : List Entry) (e : Entry) (k j : Kernel) (before
 
   -- an entry that has no items
   nothing : ((i : Kernel) → items_of i (what e) ≡ []) → Quietly j k
-  nothing none = Same k (some_same k j (sym before ∙ sym (no_items system log e none) ∙ after))
+  nothing none = Same k (same_Some k j (sym before ∙ sym (no_items system log e none) ∙ after))
 
   -- one whose items are a silent run of one process
   one_run : (q : Pid) (at : ℕ) → is_some (silent_upto system log q at) ≡ true → items_of k (what e) ≡ run_upto k q at → Quietly j k
   one_run q at some items =
       let r = run_made k k (q, at) (sym (ap is_some (led-silent_upto system log k (q, at) before)) ∙ some) refl in
-      subst (λ x. Quietly x k) (some_same r.to j (sym r.made ∙ sym (ap (λ is. apply_all is k) items) ∙ leads)) r.quiet
+      subst (λ x. Quietly x k) (same_Some r.to j (sym r.made ∙ sym (ap (λ is. apply_all is k) items) ∙ leads)) r.quiet
 
   some_mapped : {A : Type 0} (f : ProcState → A) (o : Option ProcState) (x : A) → option_map f o ≡ Some x → is_some o ≡ true
   some_mapped f None x is = cc
@@ -53,7 +53,7 @@ module _ (system : System) (log : List Entry) (e : Entry) (k j : Kernel) (before
       let r = run_made k k (q, small.steps) (sym (ap is_some (led-silent_upto system log k (q, small.steps) before)) ∙ ap is_some t.reached) refl in
       let here : process_at r.to q ≡ Some (t.made).before = r.here ∙ sym (led-silent_upto system log k (q, small.steps) before) ∙ t.reached in
       let to : with_process r.to q (taken (t.made).before) ≡ j =
-      some_same (with_process r.to q (taken (t.made).before)) j
+      same_Some (with_process r.to q (taken (t.made).before)) j
       (sym (takes q r.to (t.made).before here (t.made).can)
       ∙ sym (kernel_taken system log e q small read g k is before ∙ ap (option_and_then (take_step q)) r.made) ∙ after) in
       quietly_on j r.to k r.quiet (Struck r.to q (t.made).before here (t.made).can (Same (with_process r.to q (taken (t.made).before)) to))
@@ -65,7 +65,7 @@ module _ (system : System) (log : List Entry) (e : Entry) (k j : Kernel) (before
   end_quietly rests is holds two =
       let named : NoTwo (rest_pids rests) = subst NoTwo (sym holds.named) (rising-apart (placed_pids (unended_in (placement system log))) (apart_fewer (λ (q : Placed). not q.ended) (placement system log).placed two)) in
       let runs = runs_made k rests named (list_all-weaker (is_silent_rest system log) (λ r. is_some (led k r)) (λ r rest. sym (ap is_some (led-silent_upto system log k r before)) ∙ (and_parts _ (is_some (silent_upto system log r.0 r.1)) rest).1) rests holds.silent) in
-      subst (λ x. Quietly x k) (some_same runs.to j (sym runs.made ∙ sym (ap (λ w. apply_all (items_of k w) k) is) ∙ leads)) runs.quiet
+      subst (λ x. Quietly x k) (same_Some runs.to j (sym runs.made ∙ sym (ap (λ w. apply_all (items_of k w) k) is) ∙ leads)) runs.quiet
 
   pub went_quietly : (w : What) → what e ≡ w → is_silent w ≡ true → KindHolds system log e w → NoTwo (placed_pids (placement system log).placed) → Quietly j k
   went_quietly (Mail at letter) is quiet kind two = absurd (true≢false (sym quiet))

@@ -2,6 +2,7 @@
 use Rattle.std.proofs.Common.{◌≡◌, ℕ, zero, suc, ◌+◌, refl, sym, ◌∙◌, ap, subst, arith, List, [], ◌∷◌, ◌++◌, length, Bool, true, false, Option, Some, None, append_assoc, append-nil, zero-add, add-zero, add-one}
 use Rattle.std.specs.Prelude.{option_map, option_and_then}
 use Rattle.std.specs.Option.{option_map_or}
+use Rattle.std.proofs.lemmas.Option.{same_Some}
 use Rattle.t32_base.specs.declared.process.Pid.{Pid}
 use Rattle.t32_base.specs.declared.letter.Letter.{Letter}
 use Rattle.proc_state.specs.State.{ProcState, delivered, has_ended}
@@ -11,7 +12,6 @@ use Rattle.sys_calls.specs.Next.{next_step, silently, last_emission, is_blocked}
 use Rattle.sys_calls.specs.Fork.{fork_parent, before_fork, if_forks}
 use Rattle.sys_calls.proofs.Counting.{silent_counts, emits_counts, ended_is_over, last_sent}
 use Rattle.sys_calls.proofs.RunLemma.{with_after, next_step-delivered, all_delivered}
-use Rattle.plain_kernel.proofs.Entries.{some_same}
 use Rattle.plain_kernel.proofs.Laws.{last_silent, no_silent}
 use Rattle.roll_forward.specs.Deeds.{Deed, Sends, Bears, births_in}
 use Rattle.cert_sched.specs.Deeds.{numbered}
@@ -95,7 +95,7 @@ replays_forked n s q child is = by_case (silently n s) refl is
     by_next r (Silent t) there step e = cc
     by_next r Blocked there step e = cc
     by_next r Forks there step e =
-        let same : r ≡ q = some_same r q e in
+        let same : r ≡ q = same_Some r q e in
         replays_on n 1 s q (fork_parent q child) [] (Bears child ∷ []) (replays_silently n s q (there ∙ ap Some same)) (replays_fork q child (sym (ap next_step same) ∙ step))
     by_next r (Emits m t) there step e = cc
     by_next r Over there step e = cc
@@ -289,7 +289,7 @@ fork_after n s q is = by_case (silently n s) refl is
     by_next : (r : ProcState) (next : Next) → silently n s ≡ Some r → next_step r ≡ next → if_forks r next ≡ Some q → ForkAfter n s q
     by_next r (Silent t) there step e = cc
     by_next r Blocked there step e = cc
-    by_next r Forks there step e = let same : r ≡ q = some_same r q e in record { silent = there ∙ ap Some same; forks = sym (ap next_step same) ∙ step }
+    by_next r Forks there step e = let same : r ≡ q = same_Some r q e in record { silent = there ∙ ap Some same; forks = sym (ap next_step same) ∙ step }
     by_next r (Emits m t) there step e = cc
     by_next r Over there step e = cc
 

@@ -9,7 +9,7 @@ use Rattle.sys_text.specs.Valid.{is_system}
 use Rattle.proc_state.specs.State.{ProcState, has_ended}
 use Rattle.sys_calls.proofs.RunLemma.{all_delivered}
 use Rattle.bus_msg.specs.declared.entry.What.{What}
-use Rattle.bus_msg.specs.declared.entry.What.TheVariants.{Mail, Birth, Exit, Page, Sync, Fetch, PageIs, Crash, Return, Rebackup, Done, Stop}
+use Rattle.bus_msg.specs.declared.entry.What.TheVariants.{Mail, Birth}
 use Rattle.bus_msg.specs.declared.entry.Entry.{Entry}
 use Rattle.bus_msg.specs.PlacedAfter.{what}
 use Rattle.cert_sched.specs.Parts.{after_last}

@@ -4,15 +4,15 @@ use Rattle.std.specs.Prelude.{option_and_then}
 use Rattle.std.specs.List.{list_all}
 use Rattle.std.proofs.lemmas.Bool.{and_from, and_parts}
 use Rattle.std.proofs.lemmas.List.Folds.{list_all-append}
+use Rattle.std.proofs.lemmas.Option.{same_Some}
 use Rattle.t32_base.specs.declared.process.Pid.{Pid}
 use Rattle.plain_kernel.specs.declared.item.Item.{Item}
 use Rattle.plain_kernel.specs.declared.item.Item.TheVariants.{Run, Fork, Take}
 use Rattle.plain_kernel.specs.Kernel.{Kernel}
 use Rattle.plain_kernel.specs.Apply.{one_step, steps, apply, apply_all, take_step}
-use Rattle.plain_kernel.proofs.Entries.{some_same}
 use Rattle.plain_kernel.proofs.Others.{steps-keep}
 use Rattle.bus_msg.specs.declared.entry.What.{What}
-use Rattle.bus_msg.specs.declared.entry.What.TheVariants.{Mail, Birth, Exit, Page, Sync, Fetch, PageIs, Crash, Return, Rebackup, Done, Stop}
+use Rattle.bus_msg.specs.declared.entry.What.TheVariants.{Mail, Birth, Exit, Sync, Rebackup, Done}
 use Rattle.cert_sched.specs.Schedule.{done, items_of, run_of, run_upto, runs_of, steps_in, take_of}
 use Rattle.cert_sched.proofs.BirthKind.{is_birth}
 
@@ -33,7 +33,7 @@ module _ (P : Kernel → Type 0) (one : (p : Pid) (k j : Kernel) → P k → one
 
   -- items without a fork keep it
   pub forkless_keep : (is : List Item) (k j : Kernel) → list_all is_no_fork is ≡ true → P k → apply_all is k ≡ Some j → P j
-  forkless_keep [] k j other has made = subst P (some_same k j made) has
+  forkless_keep [] k j other has made = subst P (same_Some k j made) has
   forkless_keep (i ∷ is) k j other has made =
       let both = and_parts (is_no_fork i) (list_all is_no_fork is) other in
       by_case (apply k i) refl made (λ l there. item_kept i k l both.0 has there) (λ l. forkless_keep is l j both.1)

@@ -3,14 +3,14 @@ use Rattle.std.proofs.Common.{◌≡◌, ℕ, zero, suc, ◌-◌, refl, sym, ◌
 use Rattle.std.specs.Prelude.{◌≢◌, option_and_then}
 use Rattle.std.specs.List.{list_any, list_all}
 use Rattle.std.specs.Option.{option_map_or}
-use Rattle.std.proofs.lemmas.Bool.{and_parts}
+use Rattle.std.proofs.lemmas.Bool.{and_parts, or_parts}
+use Rattle.std.proofs.lemmas.Option.{same_Some}
 use Rattle.t32_base.specs.declared.process.Pid.{Pid}
 use Rattle.sys_text.specs.declared.system.System.{System}
 use Rattle.proc_state.specs.State.{ProcState, can_take}
 use Rattle.sys_calls.specs.Next.{silently}
 use Rattle.plain_kernel.specs.Kernel.{Kernel, process_at, with_process}
 use Rattle.plain_kernel.specs.Apply.{steps, apply_all}
-use Rattle.plain_kernel.proofs.Entries.{some_same}
 use Rattle.plain_kernel.proofs.Others.{no_step, silent_more, silently-made, silently-here, silently-other}
 use Rattle.bus_msg.specs.declared.entry.Entry.{Entry}
 use Rattle.bus_msg.specs.Places.{same_pid}
@@ -18,7 +18,7 @@ use Rattle.cert_sched.specs.Schedule.{done, run_upto, runs_of, plain_after}
 use Rattle.cert_sched.specs.Steps.{silent_upto}
 use Rattle.plain_kernel.proofs.Laws.{apply_all-append}
 use Rattle.cert_sched.proofs.StepLaws.{apply_run}
-use Rattle.cert_sched.proofs.RisingLaws.{NoTwo, either_not}
+use Rattle.cert_sched.proofs.RisingLaws.{NoTwo}
 use Rattle.sys_calls.specs.Take.{taken}
 
 -- ---- silent steps
@@ -45,7 +45,7 @@ quietly_keeps P one take to k (Struck i p s there can more) has = quietly_keeps 
 quiet_steps : (n : ℕ) (k j : Kernel) (p : Pid) (s t : ProcState) → process_at k p ≡ Some s → silently n s ≡ Some t → steps n p k ≡ Some j → Quietly j k
 quiet_steps zero k j p s t there silent made = Same k (no_step p k j made)
 quiet_steps (suc n) k j p s t there silent made =
-    More k p (suc n) s t there silent (Same (with_process k p t) (some_same (with_process k p t) j (sym (silent_more n k p s t there silent) ∙ made)))
+    More k p (suc n) s t there silent (Same (with_process k p t) (same_Some (with_process k p t) j (sym (silent_more n k p s t there silent) ∙ made)))
 
 -- ---- one run
 
@@ -132,7 +132,7 @@ as_itself k (r ∷ rs) = (refl, as_itself k rs)
 as_before : (k i j : Kernel) (p : Pid) (rs : List (Pid × ℕ)) → ((q : Pid) → q.0 ≢ p.0 → process_at j q ≡ process_at i q) → list_any (λ m. eqb m p.0) (rest_pids rs) ≡ false → AreAs k i rs → AreAs k j rs
 as_before k i j p [] others none are = tt
 as_before k i j p (r ∷ rs) others none are =
-    let parts = either_not (eqb (r.0).0 p.0) (list_any (λ m. eqb m p.0) (rest_pids rs)) none in
+    let parts = or_parts (eqb (r.0).0 p.0) (list_any (λ m. eqb m p.0) (rest_pids rs)) none in
     (others r.0 (λ e. true≢false (sym (eq-eqb (r.0).0 p.0 e) ∙ parts.0)) ∙ are.0, as_before k i j p rs others parts.1 are.1)
 
 pub record RunsTo (k i : Kernel) (rs : List (Pid × ℕ)) : Type 0 where

@@ -1,8 +1,9 @@
 -- The record alone leads there: a process that starts again makes so many steps until nothing of its record is left, and silent steps from there to where it is.
-use Rattle.std.proofs.Common.{◌≡◌, ℕ, zero, suc, ◌+◌, ◌-◌, ◌<◌, refl, sym, ◌∙◌, ap, subst, arith, List, [], ◌∷◌, ◌++◌, length, Bool, true, false, eqb, Some, true≢false, All, zero-add}
+use Rattle.std.proofs.Common.{◌≡◌, ℕ, zero, suc, ◌+◌, ◌-◌, ◌<◌, refl, sym, ◌∙◌, ap, subst, arith, List, [], ◌∷◌, length, Bool, true, false, eqb, Some, true≢false, All, zero-add}
 use Rattle.std.specs.Prelude.{option_and_then, option_map}
 use Rattle.std.proofs.lemmas.List.Elements.{All-nil, All-cons}
 use Rattle.std.proofs.lemmas.Bool.Decides.{nat_tests}
+use Rattle.std.proofs.lemmas.Option.{same_Some}
 use Rattle.t32_base.specs.declared.process.Pid.{Pid}
 use Rattle.t32_base.specs.declared.process.Counts.{Counts}
 use Rattle.t32_base.specs.declared.letter.Letter.{Letter}
@@ -19,7 +20,6 @@ use Rattle.sys_calls.proofs.Leaving.{silent_ends, emits_ends, letter_leaves, for
 use Rattle.write_count.specs.Counting.{counts_of, total_of, count_for, lowered}
 use Rattle.write_count.proofs.CountLaws.{counts_of-cons, count_for-raised, length-counts_of, total_of-counts_of}
 use Rattle.write_count.proofs.Prefix.{lowered-counts_of}
-use Rattle.plain_kernel.proofs.Entries.{some_same}
 use Rattle.plain_kernel.proofs.Laws.{last_silent}
 use Rattle.bus_msg.specs.declared.entry.Entry.{Entry}
 use Rattle.cert_sched.specs.Schedule.{process_after}
@@ -214,7 +214,7 @@ replays_no_deed (suc n) s t h = step_silently n s t (next_step s) refl h (λ x g
 
 pub record_of : (system : System) (log : List Entry) (p : Pid) (start : ProcState) (r : BackRec) → start_of system log p ≡ Some start → backup_record system log p ≡ Some r → record_from system log p start ≡ r
 unfolding backup_record
-record_of system log p start r started is = some_same (record_from system log p start) r (sym (ap (option_map (record_from system log p)) started) ∙ is)
+record_of system log p start r started is = same_Some (record_from system log p start) r (sym (ap (option_map (record_from system log p)) started) ∙ is)
 
 pub start_ends : (system : System) (log : List Entry) (p : Pid) (start : ProcState) → start_of system log p ≡ Some start → length (start.small).ends ≡ 32
 start_ends system log p start started = process_after-ends system (upto_last (starts p) log) p start started

@@ -2,6 +2,7 @@
 use Rattle.std.proofs.Common.{◌≡◌, ℕ, ◌+◌, ◌-◌, ◌<◌, refl, sym, ◌∙◌, ap, subst, arith, List, [], ◌∷◌, ◌++◌, Bool, true, false, cond, eqb, Option, Some, None, is_some, true≢false, append-nil, ne_eqb, eqb-true, eq-eqb}
 use Rattle.std.specs.Prelude.{max, ◌≢◌, fold, IfSome, option_and_then, option_map}
 use Rattle.std.specs.Option.{option_map_or}
+use Rattle.std.proofs.lemmas.Option.{same_Some}
 use Rattle.t32_base.specs.declared.process.Pid.{Pid}
 use Rattle.t32_base.specs.declared.letter.Letter.{Letter}
 use Rattle.sys_text.specs.declared.system.System.{System}
@@ -14,7 +15,6 @@ use Rattle.plain_kernel.specs.declared.item.Item.{Item}
 use Rattle.plain_kernel.specs.declared.item.Item.TheVariants.{Run, Fork, Take}
 use Rattle.plain_kernel.specs.Kernel.{Kernel, boot, process_at, with_process, emitted}
 use Rattle.plain_kernel.specs.Apply.{one_step, steps, fork_step, apply_all, take_step}
-use Rattle.plain_kernel.proofs.Entries.{some_same}
 use Rattle.plain_kernel.proofs.Laws.{apply_all-append, process_at-same}
 use Rattle.plain_kernel.proofs.Forking.{fork_made, fork-steps_parent}
 use Rattle.plain_kernel.proofs.ForkPids.{fork_step-own, fork_step-rising}
@@ -22,7 +22,7 @@ use Rattle.plain_kernel.proofs.AtBoot.{boot-own, boot-pids, boot-steps}
 use Rattle.plain_kernel.proofs.Others.{small_at, steps-here, steps-other, steps-small, steps-sent, is_outward, process_at-outward, process_at-other, items_keep, silently-made, silently-here, silently-other}
 use Rattle.plain_kernel.proofs.Pids.{HasOwnPids, IsRising, one_step-own, one_step-pids, pids_in}
 use Rattle.bus_msg.specs.declared.entry.What.{What}
-use Rattle.bus_msg.specs.declared.entry.What.TheVariants.{Mail, Birth, Exit, Page, Sync, Fetch, PageIs, Crash, Return, Rebackup, Done, Stop}
+use Rattle.bus_msg.specs.declared.entry.What.TheVariants.{Mail, Birth, Exit, Sync, Rebackup, Done}
 use Rattle.bus_msg.specs.declared.entry.Entry.{Entry}
 use Rattle.bus_msg.specs.Places.{same_pid}
 use Rattle.bus_msg.specs.PlacedAfter.{what}
@@ -171,10 +171,10 @@ counts_after (Sync pid small read None) k j q other later made = run_upto-counts
 counts_after (Sync pid small read (Some g)) k j q other later made =
     let r = run_and_take (run_upto k pid small.steps) pid k j made in
     take_counts pid r.to j q r.takes ∙ run_upto-counts pid small.steps k r.to q r.ran
-counts_after (Rebackup to true []) k j q other later made = ap (λ i. done i q) (sym (some_same k j made))
+counts_after (Rebackup to true []) k j q other later made = ap (λ i. done i q) (sym (same_Some k j made))
 counts_after (Rebackup to true (r ∷ rs)) k j q other later made = run_upto-counts r.pid (steps_in r.state) k j q made
 counts_after (Done rests) k j q other later made = absurd (true≢false other)
-counts_after _ k j q other later made = ap (λ i. done i q) (sym (some_same k j made))
+counts_after _ k j q other later made = ap (λ i. done i q) (sym (same_Some k j made))
 
 pub raised_same : (o : Option (Pid × ℕ)) (f g : Pid → ℕ) (q : Pid) → ((p : Pid) → f p ≡ g p) → raised_at o f q ≡ raised_at o g q
 raised_same o f g q same = ap (λ h. raised_at o h q) (λ i p. same p i)
@@ -208,7 +208,7 @@ done_after-here system log e p at other later can is =
 -- and for each other process, also over a birth that is not later
 counts_other : (w : What) (k j : Kernel) (p q : Pid) (at : ℕ) → is_done w ≡ false → apply_all (items_of k w) k ≡ Some j → count_in w ≡ Some (p, at) → q.0 ≢ p.0 → done j q ≡ done k q
 counts_other (Birth parent n child end) k j p q at other made is apart =
-    let same : parent ≡ p = ap (λ (r : Pid × ℕ). r.0) (some_same (parent, n) (p, at) is) in
+    let same : parent ≡ p = ap (λ (r : Pid × ℕ). r.0) (same_Some (parent, n) (p, at) is) in
     birth_other parent n child k j q (λ e. apart (e ∙ ap (λ (r : Pid). r.0) same)) made
 counts_other w k j p q at other made is apart = counts_after w k j q other tt made ∙ ap (λ o. raised_at o (done k) q) is ∙ other_there p q (max at (done k p)) (done k q) apart
 
@@ -296,7 +296,7 @@ pub run_upto-sent : (system : System) (log : List Entry) (p : Pid) (at : ℕ) (e
     → apply_all (run_upto k p at) k ≡ Some (emitted (with_process k p t) e)
 run_upto-sent system log p at e t k before is =
     let s = sent_from system log p at e t is in
-    let same : s.kernel ≡ k = some_same s.kernel k (sym s.before ∙ before) in
+    let same : s.kernel ≡ k = same_Some s.kernel k (sym s.before ∙ before) in
     ap (λ k. apply_all (run_upto k p at) k) (sym same)
     ∙ apply_run p (at - done s.kernel p) s.kernel
     ∙ steps-sent (at - done s.kernel p) s.kernel p s.was t e s.there s.sends
@@ -352,7 +352,7 @@ is_sent system log p at e h = by_case (emission_at system log p at) refl h
   where
     by_case : (o : Option (Emission × ProcState)) → emission_at system log p at ≡ o → option_map (λ (r : Emission × ProcState). r.0) o ≡ Some e → SentTo system log p at e
     by_case None is f = cc
-    by_case (Some r) is f = let same : r.0 ≡ e = some_same r.0 e f in record { after = r.1; is = is ∙ ap (λ x. Some (x, r.1)) same }
+    by_case (Some r) is f = let same : r.0 ≡ e = same_Some r.0 e f in record { after = r.1; is = is ∙ ap (λ x. Some (x, r.1)) same }
 
 -- a letter that a process sends is from that process
 pub sent_is_own : (system : System) (log : List Entry) (p : Pid) (at : ℕ) (letter : Letter) (t : ProcState) → emission_at system log p at ≡ Some (Sent letter, t) → letter.from ≡ p
@@ -392,7 +392,7 @@ silent_applies system log e p at t is items =
 
 silent_made : (system : System) (log : List Entry) (e : Entry) (p : Pid) (at : ℕ) (t : ProcState) (s : SilentFrom system log p at t) (a : Applied system log e) → ((k : Kernel) → items_of k (what e) ≡ run_upto k p at) → steps (at - done s.kernel p) p s.kernel ≡ Some a.new
 silent_made system log e p at t s a items =
-    let same : a.old ≡ s.kernel = some_same a.old s.kernel (sym a.before ∙ s.before) in
+    let same : a.old ≡ s.kernel = same_Some a.old s.kernel (sym a.before ∙ s.before) in
     run_made p at s.kernel a.new (sym (ap (λ is. apply_all is s.kernel) (items s.kernel)) ∙ ap (λ k. apply_all (items_of k (what e)) k) (sym same) ∙ a.made)
 
 -- after it the process is as those steps left it

@@ -8,13 +8,11 @@ use Rattle.std.proofs.lemmas.List.{map-append}
 use Rattle.std.proofs.lemmas.Map.{lookup-none, keys-set_value}
 use Rattle.std.proofs.lemmas.Map.Keys.{IsDistinct-tail}
 use Rattle.std.proofs.lemmas.Map.Entries.{none_past_head}
+use Rattle.t32_base.proofs.Facts.{eqb_turned}
 use Rattle.bus_msg.specs.declared.placed.Placed.{Placed}
 use Rattle.indexmap.specs.IndexMap.{set_value_at}
 use Rattle.channel_table.specs.Keys.{number_of, IsKeyed, IsTable}
 use Rattle.channel_table.specs.Changes.{pids_differ}
-
-flips : (m n : ℕ) → eqb m n ≡ eqb n m
-flips m n = grind (arith, nat_tests)
 
 keyed_head : (e : ℕ × Placed) (es : List (ℕ × Placed)) → IsKeyed (e ∷ es) → e.0 ≡ number_of e.1
 keyed_head e es keyed = cc
@@ -26,7 +24,7 @@ keyed_tail e es keyed = cc
 pub lookup-keyed : (n : ℕ) (es : List (ℕ × Placed)) → IsKeyed es → lookup (nat_eq n) es ≡ find (λ q. eqb (number_of q) n) (values_of es)
 lookup-keyed n [] keyed = refl
 lookup-keyed n (e ∷ es) keyed =
-    let test : nat_eq n e.0 ≡ eqb (number_of e.1) n = flips n e.0 ∙ ap (λ k. eqb k n) (keyed_head e es keyed) in
+    let test : nat_eq n e.0 ≡ eqb (number_of e.1) n = eqb_turned n e.0 ∙ ap (λ k. eqb k n) (keyed_head e es keyed) in
     let rest = lookup-keyed n es (keyed_tail e es keyed) in
     λ i. cond (test i) (Some e.1) (rest i)
 
@@ -45,7 +43,7 @@ map-absent n f leaves (e ∷ es) keyed none = by (nat_eq n e.0) refl (λ later. 
     by : (b : Bool) → nat_eq n e.0 ≡ b → (lookup (nat_eq n) es ≡ None → map f (values_of es) ≡ values_of es) → map f (values_of (e ∷ es)) ≡ values_of (e ∷ es)
     by true is more = let found : Some e.1 ≡ None = ap (λ b. cond b (Some e.1) (lookup (nat_eq n) es)) (sym is) ∙ none in cc
     by false is more =
-        let same : f e.1 ≡ e.1 = leaves e.1 (ap (λ k. eqb k n) (sym (keyed_head e es keyed)) ∙ flips e.0 n ∙ is) in
+        let same : f e.1 ≡ e.1 = leaves e.1 (ap (λ k. eqb k n) (sym (keyed_head e es keyed)) ∙ eqb_turned e.0 n ∙ is) in
         let rest = more (ap (λ b. cond b (Some e.1) (lookup (nat_eq n) es)) (sym is) ∙ none) in
         λ i. same i ∷ rest i
 
@@ -64,7 +62,7 @@ map-present n f leaves (e ∷ es) v keyed distinct found =
         let rest = map-absent n f leaves es (keyed_tail e es keyed) (lookup-none (nat_eq n) es (none_past_head nat_eq_equiv n e es distinct is)) in
         ap (λ b. values_of (cond b ((e.0, f v) ∷ es) (e ∷ set_value (nat_eq n) es (f v)))) is ∙ (λ i. f (same i) ∷ sym rest i)
     by false is more =
-        let same : f e.1 ≡ e.1 = leaves e.1 (ap (λ k. eqb k n) (sym (keyed_head e es keyed)) ∙ flips e.0 n ∙ is) in
+        let same : f e.1 ≡ e.1 = leaves e.1 (ap (λ k. eqb k n) (sym (keyed_head e es keyed)) ∙ eqb_turned e.0 n ∙ is) in
         let rest = more (ap (λ b. cond b (Some e.1) (lookup (nat_eq n) es)) (sym is) ∙ found) in
         ap (λ b. values_of (cond b ((e.0, f v) ∷ es) (e ∷ set_value (nat_eq n) es (f v)))) is ∙ (λ i. sym same i ∷ rest i)
 
@@ -82,7 +80,7 @@ lookup-number n (e ∷ es) v keyed found = by (nat_eq n e.0) refl (λ later. loo
     by true is more =
         let here : Some e.1 ≡ Some v = ap (λ b. cond b (Some e.1) (lookup (nat_eq n) es)) (sym is) ∙ found in
         let same : v ≡ e.1 = cc in
-        ap (λ q. eqb (number_of q) n) same ∙ ap (λ k. eqb k n) (sym (keyed_head e es keyed)) ∙ flips e.0 n ∙ is
+        ap (λ q. eqb (number_of q) n) same ∙ ap (λ k. eqb k n) (sym (keyed_head e es keyed)) ∙ eqb_turned e.0 n ∙ is
     by false is more = more (ap (λ b. cond b (Some e.1) (lookup (nat_eq n) es)) (sym is) ∙ found)
 
 -- g, for the process with the number n alone
@@ -144,7 +142,7 @@ find-absent n (e ∷ es) keyed none = by (nat_eq n e.0) refl (λ later. find-abs
     by : (b : Bool) → nat_eq n e.0 ≡ b → (lookup (nat_eq n) es ≡ None → find (has n) (values_of es) ≡ None) → find (has n) (values_of (e ∷ es)) ≡ None
     by true is more = let found : Some e.1 ≡ None = ap (λ b. cond b (Some e.1) (lookup (nat_eq n) es)) (sym is) ∙ none in cc
     by false is more =
-        let test : eqb (number_of e.1) n ≡ false = ap (λ k. eqb k n) (sym (keyed_head e es keyed)) ∙ flips e.0 n ∙ is in
+        let test : eqb (number_of e.1) n ≡ false = ap (λ k. eqb k n) (sym (keyed_head e es keyed)) ∙ eqb_turned e.0 n ∙ is in
         ap (λ b. cond (b && not (e.1).ended) (Some e.1) (find (has n) (values_of es))) test ∙ more (ap (λ b. cond b (Some e.1) (lookup (nat_eq n) es)) (sym is) ∙ none)
 
 -- the first process with this number that has not ended is the one that a look-up finds, where no two have one number
@@ -158,12 +156,12 @@ find-unended n (e ∷ es) keyed distinct = by (nat_eq n e.0) refl (find-unended 
 
     by : (b : Bool) → nat_eq n e.0 ≡ b → find (has n) (values_of es) ≡ if_unended (lookup (nat_eq n) es) → find (has n) (values_of (e ∷ es)) ≡ if_unended (lookup (nat_eq n) (e ∷ es))
     by true is more =
-        let test : eqb (number_of e.1) n ≡ true = ap (λ k. eqb k n) (sym (keyed_head e es keyed)) ∙ flips e.0 n ∙ is in
+        let test : eqb (number_of e.1) n ≡ true = ap (λ k. eqb k n) (sym (keyed_head e es keyed)) ∙ eqb_turned e.0 n ∙ is in
         ap (λ b. cond (b && not (e.1).ended) (Some e.1) (find (has n) (values_of es))) test
         ∙ at_head (e.1).ended refl (find-absent n es (keyed_tail e es keyed) (lookup-none (nat_eq n) es (none_past_head nat_eq_equiv n e es distinct is)))
         ∙ ap (λ b. if_unended (cond b (Some e.1) (lookup (nat_eq n) es))) (sym is)
     by false is more =
-        let test : eqb (number_of e.1) n ≡ false = ap (λ k. eqb k n) (sym (keyed_head e es keyed)) ∙ flips e.0 n ∙ is in
+        let test : eqb (number_of e.1) n ≡ false = ap (λ k. eqb k n) (sym (keyed_head e es keyed)) ∙ eqb_turned e.0 n ∙ is in
         ap (λ b. cond (b && not (e.1).ended) (Some e.1) (find (has n) (values_of es))) test ∙ more
         ∙ ap (λ b. if_unended (cond b (Some e.1) (lookup (nat_eq n) es))) (sym is)
 
@@ -236,7 +234,7 @@ find-different zero (q ∷ qs) d different within = refl
 find-different (suc i) (q ∷ qs) d different within =
     let parts = both (list_any (λ p. eqb (number_of p) (number_of q)) qs) (pids_differ qs) different in
     let apart : eqb (number_of q) (number_of (get_or qs i d)) ≡ false =
-    flips (number_of q) (number_of (get_or qs i d)) ∙ any-at (λ p. eqb (number_of p) (number_of q)) qs i d parts.0 (omega arith) in
+    eqb_turned (number_of q) (number_of (get_or qs i d)) ∙ any-at (λ p. eqb (number_of p) (number_of q)) qs i d parts.0 (omega arith) in
     ap (λ b. cond b (Some q) (find (λ p. eqb (number_of p) (number_of (get_or qs i d))) (take i qs))) apart
     ∙ find-different i qs d parts.1 (omega arith)
 

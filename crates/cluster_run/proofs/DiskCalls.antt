@@ -3,7 +3,7 @@ use Rattle.std.proofs.Common.{◌≡◌, ℕ, ◌+◌, length, take, get_or, app
 use Rattle.std.specs.Prelude.{nat_le, nat_lt, ◌==◌}
 use Rattle.std.specs.List.{list_any, list_all}
 use Rattle.std.specs.Option.{IfSome}
-use Rattle.std.proofs.lemmas.Bool.{and_parts, and_from, ltb-true}
+use Rattle.std.proofs.lemmas.Bool.{and_parts, and_from, ltb-true, or_cases, or_right}
 use Rattle.std.proofs.lemmas.Bool.Decides.{nat_tests}
 use Rattle.std.proofs.lemmas.Grind.{flat_map-append}
 use Rattle.std.proofs.lemmas.List.{take_more}
@@ -22,14 +22,6 @@ use Rattle.bus_order.specs.Script.{has_unused, is_uncalled, is_word_for}
 use Rattle.cluster_run.specs.Disks.{IsDiskOf, call_of, calls_for}
 
 -- ---- a call that fails is named
-
-either_true : (a b : Bool) → (a || b) ≡ true → (a ≡ true) ⊎ (b ≡ true)
-either_true true b h = inl refl
-either_true false b h = inr h
-
-or_right : (a b : Bool) → b ≡ true → (a || b) ≡ true
-or_right true b h = refl
-or_right false b h = h
 
 -- by one word
 named_by : (k : ClusterNo) (n : ℕ) (w : ScriptWord) → list_any (λ m. m == n) (call_of k w) ≡ true → (has_unused (w ∷ []) k (Disk n) ≡ true) × (n < 2 ^ 64 - 1)
@@ -53,7 +45,7 @@ named_by k n (ReturnAt j place) h = absurd (true≢false (sym h))
 -- by a script
 pub call_named : (k : ClusterNo) (n : ℕ) (script : List ScriptWord) → list_any (λ m. m == n) (calls_for k script) ≡ true → (has_unused script k (Disk n) ≡ true) × (n < 2 ^ 64 - 1)
 call_named k n [] h = absurd (true≢false (sym h))
-call_named k n (w ∷ script) h = by_parts (call_named k n script) (either_true (list_any (λ m. m == n) (call_of k w)) (list_any (λ m. m == n) (calls_for k script)) (sym (list_any-append (λ m. m == n) (call_of k w) (calls_for k script)) ∙ h))
+call_named k n (w ∷ script) h = by_parts (call_named k n script) (or_cases (list_any (λ m. m == n) (call_of k w)) (list_any (λ m. m == n) (calls_for k script)) (sym (list_any-append (λ m. m == n) (call_of k w) (calls_for k script)) ∙ h))
   where
     only : (a b : Bool) → (a || false) ≡ true → (a || b) ≡ true
     only true b h = refl

@@ -7,12 +7,13 @@ use Rattle.std.proofs.lemmas.Bool.{and_parts}
 use Rattle.std.proofs.lemmas.Option.{slice_get_within}
 use Rattle.t32_base.specs.declared.process.ClusterNo.{ClusterNo}
 use Rattle.t32_base.specs.declared.process.Pid.{Pid}
+use Rattle.t32_base.proofs.Facts.{or_true}
 use Rattle.sys_text.specs.declared.system.System.{System}
 use Rattle.sys_text.specs.Valid.{is_system}
 use Rattle.bus_msg.specs.declared.entry.By.TheVariants.{Cluster}
 use Rattle.bus_msg.specs.declared.entry.Cause.{Cause}
 use Rattle.bus_msg.specs.declared.entry.What.{What}
-use Rattle.bus_msg.specs.declared.entry.What.TheVariants.{Mail, Birth, Exit, Page, Sync, Fetch, PageIs, Crash, Return, Rebackup, Done, Stop}
+use Rattle.bus_msg.specs.declared.entry.What.TheVariants.{Birth, Crash, Return, Rebackup}
 use Rattle.bus_msg.specs.declared.entry.Entry.{Entry}
 use Rattle.bus_msg.specs.declared.placed.Placed.{Placed}
 use Rattle.bus_msg.specs.Places.{ClusterPlace, Places, cluster_no, is_at_home, is_covered, lives_in, never_lost, placed_at, same_cluster, servers_in}
@@ -52,10 +53,6 @@ one_of_two t u p q = by_tests (t p) (t q)
     by_tests true false = refl
     by_tests false true = or_false (u q)
     by_tests false false = refl
-
-or_true : (b : Bool) → (b || true) ≡ true
-or_true true = refl
-or_true false = refl
 
 -- one that is not taken away stays
 one_stays : (n s m o r l : Bool) → (s ≡ false → l ≡ n) → (o ≡ false → r ≡ m) → ((n && not s) || (m && not o)) ≡ true → (l || r) ≡ true

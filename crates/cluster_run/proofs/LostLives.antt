@@ -3,11 +3,11 @@ use Rattle.std.proofs.Common.{◌≡◌, ℕ, zero, suc, ◌+◌, ◌-◌, ◌<�
 use Rattle.std.specs.Prelude.{position, nat_lt, option_and_then}
 use Rattle.std.specs.List.{list_any, position_or_len}
 use Rattle.std.specs.Option.{option_map_or}
-use Rattle.std.proofs.lemmas.Bool.{lt-ltb, or_left, or_right}
+use Rattle.std.proofs.lemmas.Bool.{lt-ltb, or_left, or_right, or_parts}
 use Rattle.std.proofs.lemmas.List.Quantifiers.{position-Some}
 use Rattle.t32_base.specs.declared.process.ClusterNo.{ClusterNo}
 use Rattle.bus_msg.specs.declared.entry.What.{What}
-use Rattle.bus_msg.specs.declared.entry.What.TheVariants.{Mail, Birth, Exit, Page, Sync, Fetch, PageIs, Crash, Return, Rebackup, Done, Stop}
+use Rattle.bus_msg.specs.declared.entry.What.TheVariants.{Crash, Done}
 use Rattle.bus_msg.specs.declared.entry.Entry.{Entry}
 use Rattle.bus_msg.specs.PlacedAfter.{what}
 use Rattle.cert_sched.specs.Losses.{is_crash_of, was_lost_in}
@@ -15,7 +15,6 @@ use Rattle.cert_sched.specs.Scripted.{is_done, is_finished}
 use Rattle.bus_order.proofs.OverLaws.{last_is}
 use Rattle.script_laws.specs.Off.{IsItsLoss}
 use Rattle.cluster_run.specs.Lived.{end_of_life, cause_in, end_cause, ends_at_done}
-use Rattle.cluster_run.proofs.Prefixes.{either}
 
 -- ---- lists
 
@@ -46,7 +45,7 @@ pub any_front : {X : Type 0} (test : X → Bool) (xs : List X) (n : ℕ) → lis
 any_front test xs zero none = refl
 any_front test [] (suc n) none = refl
 any_front test (x ∷ xs) (suc n) none =
-    let parts = either (test x) (list_any test xs) none in
+    let parts = or_parts (test x) (list_any test xs) none in
     λ i. parts.0 i || any_front test xs n parts.1 i
 
 -- ---- where a life ends

@@ -3,7 +3,7 @@ use Rattle.std.proofs.Common.{◌≡◌, ◌+◌, ◌≤◌, ℕ, zero, suc, ref
 use Rattle.std.specs.Prelude.{◌==◌, count_by, nat_le}
 use Rattle.std.proofs.lemmas.Bool.Decides.{nat_tests}
 use Rattle.std.specs.List.{list_all, list_any}
-use Rattle.std.proofs.lemmas.Bool.{and_parts, or_right}
+use Rattle.std.proofs.lemmas.Bool.{and_parts, or_right, or_parts}
 use Rattle.std.proofs.lemmas.List.{take-append-drop}
 use Rattle.std.proofs.lemmas.List.Folds.{list_all-append, list_any-append}
 use Rattle.cert_sched.proofs.ListLaws.{list_all-weaker}
@@ -12,7 +12,7 @@ use Rattle.sys_text.specs.declared.system.System.{System}
 use Rattle.bus_msg.specs.declared.entry.By.{By}
 use Rattle.bus_msg.specs.declared.entry.By.TheVariants.{Cluster, Bus}
 use Rattle.bus_msg.specs.declared.entry.What.{What}
-use Rattle.bus_msg.specs.declared.entry.What.TheVariants.{Mail, Birth, Exit, Page, Sync, Fetch, PageIs, Crash, Return, Rebackup, Done, Stop}
+use Rattle.bus_msg.specs.declared.entry.What.TheVariants.{Crash, Stop}
 use Rattle.bus_msg.specs.declared.entry.Cause.{Cause}
 use Rattle.bus_msg.specs.declared.entry.Cause.TheVariants.{Place, Step, Disk}
 use Rattle.bus_msg.specs.declared.entry.Entry.{Entry}
@@ -37,7 +37,6 @@ use Rattle.script_laws.proofs.PassedWords.{unpassed_unnamed}
 use Rattle.cluster_run.specs.Gone.{is_own_loss, is_told_by}
 use Rattle.cluster_run.specs.Along.{IsUnnamed}
 use Rattle.cluster_run.specs.Lived.{EndsBy, cause_in}
-use Rattle.cluster_run.proofs.Prefixes.{either}
 
 -- ---- lists
 
@@ -45,14 +44,14 @@ use Rattle.cluster_run.proofs.Prefixes.{either}
 pub any_weaker : {X : Type 0} (s t : X → Bool) (xs : List X) → ((x : X) → s x ≡ false → t x ≡ false) → list_any s xs ≡ false → list_any t xs ≡ false
 any_weaker s t [] weaker none = refl
 any_weaker s t (x ∷ xs) weaker none =
-    let parts = either (s x) (list_any s xs) none in
+    let parts = or_parts (s x) (list_any s xs) none in
     λ i. weaker x parts.0 i || any_weaker s t xs weaker parts.1 i
 
 -- the same for elements that all pass a further one
 any_weaker_of : {X : Type 0} (s t all : X → Bool) (xs : List X) → ((x : X) → all x ≡ true → s x ≡ false → t x ≡ false) → list_all all xs ≡ true → list_any s xs ≡ false → list_any t xs ≡ false
 any_weaker_of s t all [] weaker pass none = refl
 any_weaker_of s t all (x ∷ xs) weaker pass none =
-    let parts = either (s x) (list_any s xs) none in
+    let parts = or_parts (s x) (list_any s xs) none in
     let those = and_parts (all x) (list_all all xs) pass in
     λ i. weaker x those.0 parts.0 i || any_weaker_of s t all xs weaker those.1 parts.1 i
 
@@ -63,8 +62,8 @@ all_drop t (suc n) (x ∷ xs) all = all_drop t n xs (and_parts (t x) (list_all t
 
 none_of_them : {X : Type 0} (t : X → Bool) (xs : List X) (n : ℕ) (x : X) → list_any t xs ≡ false → slice_get xs n ≡ Some x → t x ≡ false
 none_of_them t [] n x none at = cc
-none_of_them t (y ∷ xs) zero x none at = let same : y ≡ x = cc in ap t (sym same) ∙ (either (t y) (list_any t xs) none).0
-none_of_them t (y ∷ xs) (suc n) x none at = none_of_them t xs n x (either (t y) (list_any t xs) none).1 at
+none_of_them t (y ∷ xs) zero x none at = let same : y ≡ x = cc in ap t (sym same) ∙ (or_parts (t y) (list_any t xs) none).0
+none_of_them t (y ∷ xs) (suc n) x none at = none_of_them t xs n x (or_parts (t y) (list_any t xs) none).1 at
 
 -- ---- what a cluster tells
 

@@ -13,7 +13,7 @@ use Rattle.sys_text.specs.declared.system.System.{System}
 use Rattle.proc_state.specs.Mail.{without_first}
 use Rattle.bus_msg.specs.declared.entry.By.TheVariants.{Bus}
 use Rattle.bus_msg.specs.declared.entry.What.{What}
-use Rattle.bus_msg.specs.declared.entry.What.TheVariants.{Mail, Birth, Exit, Page, Sync, Fetch, PageIs, Crash, Return, Rebackup, Done, Stop}
+use Rattle.bus_msg.specs.declared.entry.What.TheVariants.{Crash, Rebackup}
 use Rattle.bus_msg.specs.declared.entry.Post.{Post}
 use Rattle.bus_msg.specs.declared.entry.Cause.TheVariants.{Step, Disk}
 use Rattle.bus_msg.specs.declared.entry.Entry.{Entry}

@@ -1,12 +1,13 @@
 -- Up to where a cluster follows a log.
-use Rattle.std.proofs.Common.{◌≡◌, ℕ, zero, suc, ◌+◌, ◌-◌, ◌≤◌, ◌<◌, refl, sym, ◌∙◌, ap, arith, List, [], ◌∷◌, length, take, slice_get, Bool, true, false, cond, not, ◌||◌, Some, None, is_some, true≢false, ◌++◌}
+use Rattle.std.proofs.Common.{◌≡◌, ℕ, zero, suc, ◌+◌, ◌-◌, ◌≤◌, ◌<◌, refl, sym, ◌∙◌, ap, arith, List, [], ◌∷◌, length, take, slice_get, Bool, true, false, cond, not, ◌||◌, Some, None, is_some, true≢false}
 use Rattle.std.specs.List.{list_any, position_or_len}
 use Rattle.std.proofs.lemmas.List.Folds.{list_any-append}
 use Rattle.std.proofs.lemmas.Option.{slice_get_within}
+use Rattle.std.proofs.lemmas.Bool.{or_parts}
 use Rattle.t32_base.specs.declared.process.ClusterNo.{ClusterNo}
 use Rattle.sys_text.specs.declared.system.System.{System}
 use Rattle.bus_msg.specs.declared.entry.What.{What}
-use Rattle.bus_msg.specs.declared.entry.What.TheVariants.{Mail, Birth, Exit, Page, Sync, Fetch, PageIs, Crash, Return, Rebackup, Done, Stop}
+use Rattle.bus_msg.specs.declared.entry.What.TheVariants.{Done, Stop}
 use Rattle.bus_msg.specs.declared.entry.Entry.{Entry}
 use Rattle.bus_msg.specs.PlacedAfter.{what}
 use Rattle.cert_sched.specs.Legal.{IsLegalBy}
@@ -20,7 +21,6 @@ use Rattle.bus_order.proofs.OverLaws.{closed_some}
 use Rattle.script_laws.specs.Off.{IsItsLoss}
 use Rattle.script_laws.proofs.OffLosses.{lost_off, not_off_not_lost, off_is_its_loss}
 use Rattle.cluster_run.specs.Along.{upto}
-use Rattle.cluster_run.proofs.Prefixes.{either}
 
 -- ---- the first that passes
 
@@ -89,7 +89,7 @@ pub no_loss_at : (k : ClusterNo) (log : List Entry) (n : ℕ) (e : Entry) → sl
 no_loss_at k log n e at low =
     let none = lives_upto k log (suc n) (omega (arith, low)) in
     let parts = sym (list_any-append (its_loss k) (take n log) (e ∷ [])) ∙ ap (λ l. was_lost_in l k) (sym (take_one log n e at)) ∙ none in
-    (either (is_crash_of k (what e)) false (either (was_lost_in (take n log) k) (is_crash_of k (what e) || false) parts).1).0
+    (or_parts (is_crash_of k (what e)) false (or_parts (was_lost_in (take n log) k) (is_crash_of k (what e) || false) parts).1).0
 
 -- one that was not lost follows as far as the log is open
 pub upto_living : (k : ClusterNo) (log : List Entry) → was_lost_in log k ≡ false → upto k log ≡ open_length log

@@ -7,7 +7,7 @@ use Rattle.std.proofs.lemmas.List.{length-map}
 use Rattle.std.proofs.lemmas.List.Elements.{All-nil, All-cons, All-from_get_or}
 use Rattle.std.proofs.lemmas.List.Sums.{sum_by-le, length-filter, count_by-le-length}
 use Rattle.std.proofs.lemmas.Nat.{mul-le}
-use Rattle.std.proofs.lemmas.Option.{slice_get_cases}
+use Rattle.std.proofs.lemmas.Option.{slice_get_cases, same_Some}
 use Rattle.std.proofs.Math.Nat.{mul-le-mul_right}
 use Rattle.t32_base.specs.declared.process.Pid.{Pid}
 use Rattle.t32_base.specs.Small.{SmallState}
@@ -74,7 +74,6 @@ use Rattle.cluster_run.proofs.Unlost.{by_unlost, same_after}
 use Rattle.log_laws.specs.pages.Left.{left_of_pages}
 use Rattle.sys_calls.proofs.TakeLaws.{taken_strikes}
 use Rattle.std.proofs.lemmas.Bool.{and_parts}
-use Rattle.plain_kernel.proofs.Entries.{some_same}
 use Rattle.cluster_core.specs.Syncing.{Synchronises}
 use Rattle.cluster_core.specs.Bearing.{BearsChild}
 use Rattle.cluster_core.proofs.syncs.BatchPosts.{batch_moves, batch_moves_other}
@@ -184,8 +183,8 @@ moved_within system log p steps t =
     cut_within : (pid : Pid) (small : SmallState) (took : Option ℕ) (o : Option ProcState) → silent_upto system log pid small.steps ≡ o → option_map (took_is took) o ≡ Some true → option_map (after_take took) o ≡ Some t → weight_with_children t.small ≤ boot_load system
     cut_within pid small took None is can there = cc
     cut_within pid small took (Some u) is can there =
-        let same = some_same (after_take took u) t there in
-        subst (λ (x : ProcState). weight_with_children x.small ≤ boot_load system) same (let less = took_within took u (some_same (took_is took u) true can) in omega (arith, less, silent_within system log pid small.steps u is))
+        let same = same_Some (after_take took u) t there in
+        subst (λ (x : ProcState). weight_with_children x.small ≤ boot_load system) same (let less = took_within took u (same_Some (took_is took u) true can) in omega (arith, less, silent_within system log pid small.steps u is))
 
     same_option : (o : Option ProcState) → o ≡ option_map (λ (s : ProcState). s) o
     same_option None = refl
@@ -229,7 +228,7 @@ queued_rightly : (system : System) (log : List Entry) (c : ClusterView) (p : Pid
 queued_rightly system log c p (inl alone) w is = by_queued alone.queued alone.together (ap (move_of p) (sym alone.posts) ∙ is)
   where
     by_test : (post : Post) (b : Bool) → is_lone post.what ≡ true → option_map (λ (post : Post). post.what) (cond b (Some post) None) ≡ Some w → TakesRightly system log w
-    by_test post true lone is = subst (TakesRightly system log) (some_same post.what w is) (lone_rightly system log post.what lone)
+    by_test post true lone is = subst (TakesRightly system log) (same_Some post.what w is) (lone_rightly system log post.what lone)
     by_test post false lone is = cc
 
     by_queued : (q : Queued) → AreTogether q → move_of p (posts_of q) ≡ Some w → TakesRightly system log w
@@ -251,7 +250,7 @@ queued_rightly system log c p (inr (inl y)) w is = by_pid (same_pid y.pid p) ref
     by_pid : (b : Bool) → same_pid y.pid p ≡ b → TakesRightly system log w
     by_pid true own =
         let moves = ap (λ q. move_of q (posts_left c.number y.pid s y.read y.took y.indices)) (sym (pid_same y.pid p (eqb-true (y.pid).0 p.0 own))) ∙ batch_moves c.number y.pid s y.read y.took y.indices in
-        subst (TakesRightly system log) (some_same (Sync y.pid s.small y.read y.took) w (sym moves ∙ here)) can
+        subst (TakesRightly system log) (same_Some (Sync y.pid s.small y.read y.took) w (sym moves ∙ here)) can
     by_pid false other = let none : None ≡ Some w = sym (batch_moves_other c.number y.pid s y.read y.took p y.indices other) ∙ here in cc
 queued_rightly system log c p (inr (inr b)) w is = let none : None ≡ Some w = ap (move_of p) (sym b.posts) ∙ is in cc
 

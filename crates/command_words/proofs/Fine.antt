@@ -6,10 +6,11 @@ use Rattle.std.specs.Str.{bytes_eq, is_utf8}
 use Rattle.std.specs.Borrow.{Bor}
 use Rattle.std.specs.Cmp.Lexicographic.{same_text}
 use Rattle.std.proofs.lemmas.Str.{IsUtf8-from_is_utf8}
+use Rattle.t32_base.proofs.Facts.{and_false}
 use Rattle.clap.specs.Walk.{texts}
 use Rattle.command_words.specs.Options.{Text, Given, begins_with_hyphen, given_after, is_end, is_hyphen, with_pick, with_word}
 use Rattle.command_words.specs.Parsed.{AreFine}
-use Rattle.command_words.proofs.Booleans.{and_false, both, neither}
+use Rattle.command_words.proofs.Booleans.{both, neither}
 
 any_text : (words : List (Bor Text)) → list_any (λ word. is_hyphen word.now) words ≡ list_any is_hyphen (texts words)
 any_text [] = refl

@@ -10,7 +10,7 @@ use Rattle.command_words.specs.declared.command.Command.{Command}
 use Rattle.command_words.specs.declared.command.Command.TheVariants as commands
 use Rattle.command_words.specs.declared.options.Form.TheVariants as form
 use Rattle.command_words.specs.Options.{Text, Given, given_of}
-use Rattle.command_words.specs.Script.{script_of, number_below}
+use Rattle.command_words.specs.Script.{script_of}
 use Rattle.command_words.specs.Command.{before_end, behind_end, pick_of, alone, sim_by, run_by, size_of, load_with, load_by, command_by, command_of_texts, command_of}
 
 -- the pick has 31 bits, and the size of a workload is 1 to 1000

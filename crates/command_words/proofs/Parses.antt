@@ -3,6 +3,7 @@ use Rattle.std.proofs.Common.{◌≡◌, ◌∙◌, refl, sym, subst, ap, cond, 
 use Rattle.std.specs.Prelude.{if◌then◌else◌, slice_get, unwrap_or}
 use Rattle.std.specs.Option.{option_and_then, option_map_or}
 use Rattle.std.specs.Str.{bytes_eq}
+use Rattle.t32_base.proofs.Facts.{cond_same}
 use Rattle.clap.specs.Lexer.{has_byte}
 use Rattle.clap.specs.Matches.{found_of}
 use Rattle.clap.specs.Values.{kind_of}
@@ -101,13 +102,9 @@ record RowsTell (rows : List Row) (g : Given) : Type 0 where
   pub pick : first_of (codes "pick") rows ≡ g.pick
   pub plain : unwrap_or (all_of (codes "words") rows) [] ≡ g.plain
 
-either_way : {X : Type 0} (b : Bool) (x : X) → cond b x x ≡ x
-either_way true x = refl
-either_way false x = refl
-
 finished_is : (flag : Text) (picks : Bool) (h : Held) → finished (rules_with flag picks) h ≡ with_default (settled (rules_with flag picks) h).rows (flag_rule flag)
-finished_is flag true h = either_way _ _ ∙ either_way _ _
-finished_is flag false h = either_way _ _
+finished_is flag true h = cond_same _ _ ∙ cond_same _ _
+finished_is flag false h = cond_same _ _
 
 module _ (flag : Text) (rows : List Row) (g : Given) (shows : Shows rows g) where
   words_are : (o : Option Row) (words : List Text) → o ≡ words_row words → unwrap_or (option_map (λ (r : Row). r.values) o) [] ≡ words

@@ -4,6 +4,7 @@ use Rattle.std.specs.Prelude.{encode_utf8}
 use Rattle.std.specs.List.{find}
 use Rattle.std.specs.Option.{option_and_then, option_map_or}
 use Rattle.std.specs.Str.{IsUtf8, bytes_eq}
+use Rattle.t32_base.proofs.Facts.{and_false}
 use Rattle.clap.specs.Lexer.{long_of, short_of}
 use Rattle.clap.specs.Walk.{Held, Outcome, Row, Rule, Step, Waiting, Walk, after_flag, after_step, arg_by_id, arg_by_index, arg_by_long, arg_by_short, has_long, idle, is_pending, long_met, long_or_other, option, plain_word, positional, pushed, settled, settled_rows, subcommand_met, short_or_plain, subcommand_or_other, to_positional, used_by_id, trailing, value, walked, word_met}
 use Rattle.clap.specs.Simple.{Shape, new_shape}
@@ -11,7 +12,6 @@ use Rattle.clap.specs.Kinds.{Kinds, or_else}
 use Rattle.clap.specs.Faults.{bundle_fault, bundle_step_fault, flag_word_fault, flags_fault, long_fault, other_fault, positional_fault, settle_fault, short_fault, step_fault, stray_fault, turn_fault, use_fault, word_fault}
 use Rattle.clap.specs.declared.error.kind.ErrorKind.TheVariants as kind
 use Rattle.command_words.specs.Options.{Text, Given, begins_with_hyphen, with_flag, with_pick, with_plain}
-use Rattle.command_words.proofs.Booleans.{and_false}
 use Rattle.command_words.proofs.Lexical.{behind_hyphen, first_char, no_end, no_long, no_short}
 use Rattle.command_words.proofs.Rows.{Leads, Shows, flag_rule, flag_used, pick_rule, pick_used, word_used, words_rule}
 

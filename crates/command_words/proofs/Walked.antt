@@ -5,8 +5,9 @@ use Rattle.std.specs.List.{after_first, before_first}
 use Rattle.std.specs.Option.{option_and_then, option_map_or}
 use Rattle.std.specs.Str.{IsUtf8, bytes_eq}
 use Rattle.std.specs.Cmp.Lexicographic.{same_text}
-use Rattle.std.proofs.lemmas.Bool.{eqb-true}
+use Rattle.std.proofs.lemmas.Bool.{eqb-true, false_from_ne_true}
 use Rattle.std.proofs.lemmas.Slice.Eq.{bytes_eq-Decides}
+use Rattle.t32_base.proofs.Facts.{and_false}
 use Rattle.clap.specs.Lexer.{has_byte, long_of_rest, name_and_value}
 use Rattle.clap.specs.Walk.{Held, Row, Rule, Waiting, Walk, idle, long_or_other, next, option, option_word, settled, short_or_plain, settled_rows, used_by_id, walked}
 use Rattle.clap.specs.Kinds.{Kinds, or_else}
@@ -14,7 +15,7 @@ use Rattle.clap.specs.Faults.{bundle_fault, flag_word_fault, settle_fault, turn_
 use Rattle.clap.specs.declared.error.kind.ErrorKind.TheVariants as kind
 use Rattle.command_words.specs.Options.{Text, Given, begins_with_hyphen, given_after, with_flag, with_pick, with_option, with_plain, with_word}
 use Rattle.command_words.specs.Parsed.{AreFine, IsFine}
-use Rattle.command_words.proofs.Booleans.{and_false, both, is_false}
+use Rattle.command_words.proofs.Booleans.{both}
 use Rattle.command_words.proofs.Lexical.{named_pick, no_end, no_long, no_short, pick_named, whole_name}
 use Rattle.command_words.proofs.Rows.{Leads, Shows, pick_used}
 use Rattle.command_words.proofs.Turns.{Settles, Stepped, at, fault_here, flag_stepped, flag_valued, held, is_between, letter_unknown, long_flag, long_none, long_pick, met_here, name_unknown, pick_by_id, pick_stepped, pick_waits, plain_stepped, rules_with, shape_with, turn_is}
@@ -26,7 +27,7 @@ same a b e = (bytes_eq-Decides a b).1 e
 
 turned : (a b : Text) (x : Bool) → bytes_eq a b ≡ x → bytes_eq b a ≡ x
 turned a b true e = same b a (sym (same_text a b (sym e)))
-turned a b false e = is_false (bytes_eq b a) (λ t. true≢false (sym (same a b (sym (same_text b a (sym t)))) ∙ e))
+turned a b false e = false_from_ne_true (bytes_eq b a) (λ t. true≢false (sym (same a b (sym (same_text b a (sym t)))) ∙ e))
 
 then_same : (o : Option Given) (j k : Given → Option Given) → ((g : Given) → j g ≡ k g) → option_and_then j o ≡ option_and_then k o
 then_same None j k e = refl
@@ -55,7 +56,7 @@ module _ (flag : Text) (picks : Bool) (no_equals : has_byte 61 flag ≡ false) (
 
   -- where the value of `--pick` is attached, the name says so
   no_value : (body : Text) (name : Text) → name_and_value body ≡ (name, None) → (picks && bytes_eq (take 5 body) (codes "pick=")) ≡ false
-  no_value body name is = is_false _ (λ t. true≢false (sym (ap (λ (p : Text × Option Text). is_some p.1) (sym is ∙ pick_named body (both picks _ t).1))))
+  no_value body name is = false_from_ne_true _ (λ t. true≢false (sym (ap (λ (p : Text × Option Text). is_some p.1) (sym is ∙ pick_named body (both picks _ t).1))))
 
   other_name : (body name : Text) (v : Option Text) → name_and_value body ≡ (name, v) → (picks && bytes_eq (codes "pick") name) ≡ false
       → (picks && bytes_eq (take 5 body) (codes "pick=")) ≡ false
@@ -63,7 +64,7 @@ module _ (flag : Text) (picks : Bool) (no_equals : has_byte 61 flag ≡ false) (
     where
       go : (b : Bool) → (b && bytes_eq (codes "pick") name) ≡ false → (b && bytes_eq (take 5 body) (codes "pick=")) ≡ false
       go false e = refl
-      go true e = is_false _ (λ t. true≢false (sym (same (codes "pick") name (sym (ap (λ p. p.0) (sym is ∙ pick_named body t)))) ∙ e))
+      go true e = false_from_ne_true _ (λ t. true≢false (sym (same (codes "pick") name (sym (ap (λ p. p.0) (sym is ∙ pick_named body t)))) ∙ e))
 
   module _ (rows : List Row) (pending : Option (Text × List Text)) (waiting : Waiting) (o : Option Given) (settles : Settles flag picks rows pending o) where
     -- a word `--` and a body, by the name in the body
@@ -99,11 +100,11 @@ module _ (flag : Text) (picks : Bool) (no_equals : has_byte 61 flag ≡ false) (
       valued name chosen has front back is = go (bytes_eq flag name) refl (picks && bytes_eq (codes "pick") name) refl
         where
           no_flag : bytes_eq (z ∷ zs) flag ≡ false
-          no_flag = is_false _ (λ t. true≢false (sym has ∙ ap (has_byte 61) (same_text (z ∷ zs) flag (sym t)) ∙ no_equals))
+          no_flag = false_from_ne_true _ (λ t. true≢false (sym has ∙ ap (has_byte 61) (same_text (z ∷ zs) flag (sym t)) ∙ no_equals))
 
           flag_unpicked : (b : Bool) → bytes_eq flag name ≡ true → (b && bytes_eq (codes "pick") name) ≡ false
           flag_unpicked false e = refl
-          flag_unpicked true e = is_false _ (λ t. true≢false (sym (same flag (codes "pick") (same_text flag name (sym e) ∙ sym (same_text (codes "pick") name (sym t)))) ∙ no_pick))
+          flag_unpicked true e = false_from_ne_true _ (λ t. true≢false (sym (same flag (codes "pick") (same_text flag name (sym e) ∙ sym (same_text (codes "pick") name (sym t)))) ∙ no_pick))
 
           go : (x : Bool) → bytes_eq flag name ≡ x → (y : Bool) → (picks && bytes_eq (codes "pick") name) ≡ y
               → Stepped flag picks (at rows pending waiting) (45 ∷ 45 ∷ z ∷ zs) (option_and_then (with_word flag picks (45 ∷ 45 ∷ z ∷ zs)) o)

@@ -3,10 +3,9 @@ use Rattle.std.proofs.Common.{◌≡◌, ℕ, ◌+◌, ◌-◌, ◌^◌, ◌≤�
 use Rattle.std.specs.Prelude.{min, nat_le, ◌==◌}
 use Rattle.std.specs.List.{list_all, list_any}
 use Rattle.std.specs.Option.{IfSome}
-use Rattle.std.proofs.lemmas.Bool.{and_parts, and_from}
+use Rattle.std.proofs.lemmas.Bool.{and_parts, and_from, or_parts}
 use Rattle.std.proofs.lemmas.Bool.Decides.{nat_tests}
 use Rattle.t32_base.specs.Streams.{one_more}
-use Rattle.cert_sched.proofs.RisingLaws.{either_not}
 use Rattle.page_server.specs.declared.disk.DiskRefused.{DiskRefused}
 use Rattle.page_server.specs.declared.disk.DiskRefused.TheVariants.{Fault, NoMemory}
 use Rattle.page_server.specs.Disk.{Counts, CountsAfterPut, Fails, Passed}
@@ -33,7 +32,7 @@ all_ahead : (made new : ℕ) (failing : List ℕ) → new ≡ one_more made → 
 all_ahead made new [] next none all = refl
 all_ahead made new (n ∷ failing) next none all =
     let parts = and_parts (nat_le made n) (list_all (λ n. nat_le made n) failing) all in
-    let others = either_not (n == made) (list_any (λ n. n == made) failing) none in
+    let others = or_parts (n == made) (list_any (λ n. n == made) failing) none in
     and_from (nat_le new n) (list_all (λ n. nat_le new n) failing) (behind (n == made) refl others.0 parts.0) (all_ahead made new failing next others.1 parts.1)
   where
     behind : (b : Bool) → (n == made) ≡ b → b ≡ false → nat_le made n ≡ true → nat_le new n ≡ true

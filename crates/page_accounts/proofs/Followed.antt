@@ -1,14 +1,14 @@
 -- A page server that takes in an entry as `Makes` says keeps the accounts and the fetches of the log with it.
-use Rattle.std.proofs.Common.{◌≡◌, ℕ, Bool, true, false, ◌&&◌, ◌||◌, not, cond, eqb, List, [], ◌∷◌, ◌++◌, refl, sym, ◌∙◌, ap, subst, append-nil, arith, None}
+use Rattle.std.proofs.Common.{◌≡◌, ℕ, Bool, true, false, ◌&&◌, ◌||◌, not, cond, eqb, List, [], ◌∷◌, ◌++◌, refl, sym, ◌∙◌, ap, subst, append-nil, None}
 use Rattle.std.specs.Prelude.{filter, OnOk, Result, Ok, Err}
 use Rattle.std.specs.FinMap.{put}
 use Rattle.std.specs.Option.{option_map_or, option_to_list}
 use Rattle.std.specs.Ordering.{nat_cmp}
-use Rattle.std.proofs.lemmas.Bool.Decides.{nat_tests}
 use Rattle.t32_base.specs.declared.process.Pid.{Pid}
+use Rattle.t32_base.proofs.Facts.{eqb_turned, or_false}
 use Rattle.sys_text.specs.declared.system.System.{System}
 use Rattle.bus_msg.specs.declared.entry.What.{What}
-use Rattle.bus_msg.specs.declared.entry.What.TheVariants.{Mail, Birth, Exit, Page, Sync, Fetch, PageIs, Crash, Return, Rebackup, Done, Stop}
+use Rattle.bus_msg.specs.declared.entry.What.TheVariants.{Exit, Page, Sync, Fetch, PageIs, Crash, Rebackup}
 use Rattle.bus_msg.specs.declared.entry.Entry.{Entry}
 use Rattle.bus_msg.specs.Places.{Places, same_pid}
 use Rattle.bus_msg.specs.PlacedAfter.{what}
@@ -52,13 +52,6 @@ follows_keeps system log e old new f keeps = record {
 
 -- ---- tests
 
-turned : (m n : ℕ) → eqb m n ≡ eqb n m
-turned m n = grind (arith, nat_tests)
-
-or_false : (b : Bool) → (b || false) ≡ b
-or_false true = refl
-or_false false = refl
-
 kept_all : (fs : List (Pid × ℕ)) → filter (λ (f : Pid × ℕ). true) fs ++ [] ≡ fs
 kept_all [] = refl
 kept_all (f ∷ fs) = ap (λ rest. f ∷ rest) (kept_all fs)
@@ -83,7 +76,7 @@ page_if index bytes a false = refl
 
 page_comes : (places : Places) (pid : Pid) (at index : ℕ) (bytes : List ℕ) (old new : PagerState) → Changes old new pid (with_page index bytes) → new.fetches ≡ old.fetches → Follows places (Page pid at index bytes) old new
 page_comes places pid at index bytes old new changes fetches = record {
-  accounts = λ p. changes p ∙ page_if index bytes (account old p) (eqb p.0 pid.0) ∙ ap (put_if index bytes (account old p)) (turned p.0 pid.0);
+  accounts = λ p. changes p ∙ page_if index bytes (account old p) (eqb p.0 pid.0) ∙ ap (put_if index bytes (account old p)) (eqb_turned p.0 pid.0);
   fetches = fetches ∙ sym (kept_all old.fetches);
 }
 
@@ -96,14 +89,14 @@ cut_comes places w old new changes fetches no_exit no_move no_page on none = rec
 
 sync_comes : (places : Places) (w : What) (pid : Pid) (old new : PagerState) → Changes old new pid committed → new.fetches ≡ old.fetches → ((p : Pid) → is_cut p w ≡ same_pid pid p)
     → ((p : Pid) → account new p ≡ cond (is_cut p w) (committed (account old p)) (account old p))
-sync_comes places w pid old new changes fetches cut p = changes p ∙ ap (λ b. cond b (committed (account old p)) (account old p)) (turned p.0 pid.0 ∙ sym (cut p))
+sync_comes places w pid old new changes fetches cut p = changes p ∙ ap (λ b. cond b (committed (account old p)) (account old p)) (eqb_turned p.0 pid.0 ∙ sym (cut p))
 
 exit_comes : (places : Places) (w : What) (pid : Pid) (old new : PagerState) → Changes old new pid (λ _. no_pages) → new.fetches ≡ filter (λ (f : Pid × ℕ). not (eqb (f.0).0 pid.0)) old.fetches
     → ((p : Pid) (a : Account) → account_next places w p a ≡ cond (same_pid pid p) no_pages a) → ((f : Pid × ℕ) → goes_on places w f ≡ not (same_pid pid f.0 || false)) → fetched w ≡ None → Follows places w old new
 exit_comes places w pid old new changes fetches accounts on none = record {
-  accounts = λ p. changes p ∙ ap (λ b. cond b no_pages (account old p)) (turned p.0 pid.0) ∙ sym (accounts p (account old p));
+  accounts = λ p. changes p ∙ ap (λ b. cond b no_pages (account old p)) (eqb_turned p.0 pid.0) ∙ sym (accounts p (account old p));
   fetches =
-      fetches ∙ (λ i. filter (λ (f : Pid × ℕ). not ((turned (f.0).0 pid.0 ∙ sym (or_false (eqb pid.0 (f.0).0))) i)) old.fetches) ∙ sym (append-nil _)
+      fetches ∙ (λ i. filter (λ (f : Pid × ℕ). not ((eqb_turned (f.0).0 pid.0 ∙ sym (or_false (eqb pid.0 (f.0).0))) i)) old.fetches) ∙ sym (append-nil _)
       ∙ sym (λ i. filter (λ (f : Pid × ℕ). on f i) old.fetches ++ option_to_list (none i));
 }
 
@@ -111,7 +104,7 @@ answer_comes : (places : Places) (pid : Pid) (index : ℕ) (bytes : List ℕ) (o
 answer_comes places pid index bytes old new accounts fetches = record {
   accounts = λ p. accounts p;
   fetches =
-      fetches ∙ (λ i. filter (λ (f : Pid × ℕ). not (((λ j. turned (f.0).0 pid.0 j && turned f.1 index j) ∙ sym (or_false (eqb pid.0 (f.0).0 && eqb index f.1)) ∙ sym (or_false ((eqb pid.0 (f.0).0 && eqb index f.1) || false))) i)) old.fetches) ∙ sym (append-nil _);
+      fetches ∙ (λ i. filter (λ (f : Pid × ℕ). not (((λ j. eqb_turned (f.0).0 pid.0 j && eqb_turned f.1 index j) ∙ sym (or_false (eqb pid.0 (f.0).0 && eqb index f.1)) ∙ sym (or_false ((eqb pid.0 (f.0).0 && eqb index f.1) || false))) i)) old.fetches) ∙ sym (append-nil _);
 }
 
 -- the whole table

@@ -3,8 +3,7 @@ use Rattle.std.proofs.Common.{◌≡◌, ℕ, Bool, true, false, ◌&&◌, ◌||
 use Rattle.std.specs.Prelude.{filter}
 use Rattle.std.proofs.lemmas.List.{take_more}
 use Rattle.std.proofs.lemmas.List.Folds.{list_any-append}
-use Rattle.std.proofs.lemmas.Option.{slice_get-get_or}
-use Rattle.plain_kernel.proofs.Entries.{some_same}
+use Rattle.std.proofs.lemmas.Option.{slice_get-get_or, same_Some}
 use Rattle.t32_base.specs.declared.process.Pid.{Pid}
 use Rattle.t32_base.specs.declared.process.ClusterNo.{ClusterNo}
 use Rattle.bus_msg.specs.declared.placed.Placed.{Placed}
@@ -71,7 +70,7 @@ reverts_not q k x stays = record {
 
 pub reverts_next : (placed : List Placed) (k : ClusterNo) (i : ℕ) (q : Placed) (x y z : PagerState) → i < length placed → Some q ≡ slice_get placed i → Reverts (take i placed) k x y → Reverts (q ∷ []) k y z → Reverts (take (i + 1) placed) k x z
 reverts_next placed k i q x y z within at before one =
-    let same : q ≡ get_or placed i q = some_same q (get_or placed i q) (at ∙ slice_get-get_or placed i q within) in
+    let same : q ≡ get_or placed i q = same_Some q (get_or placed i q) (at ∙ slice_get-get_or placed i q within) in
     subst (λ qs. Reverts qs k x z) (sym (take_more placed i q within ∙ ap (λ r. take i placed ++ r ∷ []) (sym same))) (reverts_more (take i placed) (q ∷ []) k x y z before one)
 
 -- a place of the list has a process

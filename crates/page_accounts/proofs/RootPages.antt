@@ -9,6 +9,8 @@ use Rattle.std.specs.FinMap.{put, find, is_sorted}
 use Rattle.std.specs.FinMap.Entries.{by_order, is_sorted-put}
 use Rattle.std.proofs.lemmas.Bool.Decides.{nat_tests}
 use Rattle.std.proofs.lemmas.List.Sums.{sum_by-append, sum_by-cons, sum_by_push}
+use Rattle.std.proofs.lemmas.Option.{same_Some}
+use Rattle.std.proofs.lemmas.Bool.{or_parts}
 use Rattle.t32_base.specs.declared.process.Pid.{Pid}
 use Rattle.sys_text.specs.declared.system.System.{System}
 use Rattle.sys_text.specs.declared.system.Root.{Root}
@@ -19,14 +21,13 @@ use Rattle.plain_kernel.specs.Kernel.{Kernel, boot, boot_roots, empty, pid_cmp, 
 use Rattle.plain_kernel.specs.Maps.{linked_processes, pid_of}
 use Rattle.plain_kernel.specs.Starts.{starts_in}
 use Rattle.plain_kernel.proofs.AtBoot.{chans-keep, roots-rising}
-use Rattle.plain_kernel.proofs.Entries.{some_same}
 use Rattle.plain_kernel.proofs.Laws.{pid_cmp_total}
 use Rattle.plain_kernel.proofs.Pids.{IsRising, left_true, not_found, right_true}
 use Rattle.cert_sched.specs.Losses.{root_pages}
 use Rattle.cert_sched.specs.Schedule.{placed_root}
 use Rattle.cert_sched.proofs.BootPids.{root_pids, state_pids}
 use Rattle.cert_sched.proofs.PidLaws.{apart_of}
-use Rattle.cert_sched.proofs.RisingLaws.{NoTwo, either_not}
+use Rattle.cert_sched.proofs.RisingLaws.{NoTwo}
 use Rattle.cert_sched.proofs.RootPids.{root_pids_differ}
 use Rattle.page_accounts.specs.Booting.{pages_of}
 use Rattle.page_accounts.proofs.Booted.{boot_has}
@@ -52,7 +53,7 @@ swapped a b c m n h g = omega (arith, h, g)
 put_new : (p : Pid) (s : ProcState) (es : List (Pid × ProcState)) → list_any (λ n. eqb n p.0) (state_pids es) ≡ false → state_pages (put pid_cmp p s es) ≡ pages s + state_pages es
 put_new p s [] none = page_sum (p, s) []
 put_new p s (e ∷ es) none =
-    let parts = either_not (eqb (e.0).0 p.0) (list_any (λ n. eqb n p.0) (state_pids es)) none in
+    let parts = or_parts (eqb (e.0).0 p.0) (list_any (λ n. eqb n p.0) (state_pids es)) none in
     by_case (pid_cmp p e.0) refl parts.0 (put_new p s es parts.1)
   where
     by_case : (o : Ordering) → pid_cmp p e.0 ≡ o → eqb (e.0).0 p.0 ≡ false → state_pages (put pid_cmp p s es) ≡ pages s + state_pages es
@@ -69,7 +70,7 @@ put_again p was now (e ∷ es) rising found same = by_case (pid_cmp p e.0) refl 
     by_case : (o : Ordering) → pid_cmp p e.0 ≡ o → cond (is_eq o) (Some e.1) (find pid_cmp p es) ≡ Some was → (find pid_cmp p es ≡ Some was → state_pages (put pid_cmp p now es) ≡ state_pages es)
         → state_pages (by_order o ((p, now) ∷ e ∷ es) ((e.0, now) ∷ es) (e ∷ put pid_cmp p now es)) ≡ state_pages (e ∷ es)
     by_case Less is there more = absurd (true≢false (ap is_some (sym there ∙ not_found p e.0 es is (left_true _ _ rising))))
-    by_case Equal is there more = page_sum (e.0, now) es ∙ ap (λ n. n + state_pages es) (same ∙ ap pages (sym (some_same e.1 was there))) ∙ sym (page_sum e es)
+    by_case Equal is there more = page_sum (e.0, now) es ∙ ap (λ n. n + state_pages es) (same ∙ ap pages (sym (same_Some e.1 was there))) ∙ sym (page_sum e es)
     by_case Greater is there more = page_sum e (put pid_cmp p now es) ∙ ap (λ n. pages e.1 + n) (more there) ∙ sym (page_sum e es)
 
 -- ---- the channels leave them

@@ -5,6 +5,7 @@ use Rattle.std.specs.List.Sorted.{IsStrictlySortedBy}
 use Rattle.std.specs.Map.{lookup, set_value}
 use Rattle.std.specs.Ordering.{nat_cmp}
 use Rattle.std.specs.Option.{option_map_or}
+use Rattle.std.proofs.lemmas.Option.{same_Some}
 use Rattle.t32_base.specs.declared.process.Pid.{Pid}
 use Rattle.t32_base.specs.declared.letter.Letter.{Letter}
 use Rattle.t32_base.specs.declared.process.End.{End}
@@ -25,7 +26,7 @@ use Rattle.plain_kernel.specs.Apply.{fork_step}
 use Rattle.plain_kernel.specs.Still.{next_child}
 use Rattle.plain_kernel.specs.Maps.{at_key, forks_at, kernel_of, pid_of, total_load, Advances, Changes, Covers, ForksAt, GoesTo, IsFirst, NoneTakes, NoneTakesBut, PidsFit, RunsAndSteps, RunsAt, RunsIfThere, SameBut, TakesSent, TakesSignal, Turns}
 use Rattle.plain_kernel.proofs.Emitting.{emits_untaken}
-use Rattle.plain_kernel.proofs.Entries.{changed_back, found_after, lookup_state, ordered_after, others_stay, same_keys, some_same, still_there, written_again}
+use Rattle.plain_kernel.proofs.Entries.{changed_back, found_after, lookup_state, ordered_after, others_stay, same_keys, still_there, written_again}
 use Rattle.plain_kernel.proofs.Forked.{child_within, fork_fits, fork_lighter, fork_none, fork_others, forked, load_to_fork, there_to_fork}
 use Rattle.plain_kernel.proofs.NextChild.{next_child-absent}
 use Rattle.plain_kernel.proofs.Delivery.{less_to_send, lighter_by, stepped_alone, stepped_exit, stepped_mail, stepped_silent, stepped_two}
@@ -149,7 +150,7 @@ module _ (ps qs : List (ℕ × Process)) (ready : List ℕ) (pid : ℕ) (ordered
   stands step x same = let s = x.steps in changed_back x.between qs pid s.was s.now s.changes same
 
   same_state : (step : Step) (x : RunsAndSteps ps qs pid step) → (x.runs).now ≡ (x.steps).was
-  same_state step x = some_same (x.runs).now (x.steps).was (sym (found_after ps x.between pid (x.runs).was (x.runs).now (x.runs).changes) ∙ (x.steps).changes.found)
+  same_state step x = same_Some (x.runs).now (x.steps).was (sym (found_after ps x.between pid (x.runs).was (x.runs).now (x.runs).changes) ∙ (x.steps).changes.found)
 
   pub child_absent : (ts : List (ℕ × List ℕ)) (child : Pid) → child ≡ next_child (kernel_of qs ts) (pid_of pid) → lookup (at_key child.0) qs ≡ None
   child_absent ts child is =

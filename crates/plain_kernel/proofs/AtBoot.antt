@@ -6,6 +6,7 @@ use Rattle.std.specs.declared.cmp.Ordering.{Ordering}
 use Rattle.std.specs.declared.cmp.Ordering.TheVariants.{Less, Equal, Greater}
 use Rattle.std.specs.Ordering.{is_eq}
 use Rattle.std.specs.FinMap.Entries.{is_sorted-put}
+use Rattle.std.proofs.lemmas.Option.{same_Some}
 use Rattle.t32_base.specs.declared.process.Pid.{Pid}
 use Rattle.t32_base.specs.Small.{SmallState}
 use Rattle.sys_text.specs.declared.system.System.{System}
@@ -13,7 +14,6 @@ use Rattle.sys_text.specs.declared.system.Root.{Root}
 use Rattle.sys_text.specs.Boot.{roots_of}
 use Rattle.proc_state.specs.State.{ProcState, linked_to}
 use Rattle.plain_kernel.specs.Kernel.{Kernel, pid_cmp, process_at, with_process, with_root, root_process, empty, boot, boot_roots, ends_linked, free_end_at, link_put, root_pid, with_chan, with_end_linked}
-use Rattle.plain_kernel.proofs.Entries.{some_same}
 use Rattle.plain_kernel.proofs.Laws.{pid_cmp_total, process_at-with_process}
 use Rattle.plain_kernel.proofs.Others.{steps_at}
 use Rattle.plain_kernel.proofs.Pids.{HasOwnPids, HasPids, IsRising, pids_in, put_process, tied_pids}
@@ -62,7 +62,7 @@ put_each Q k p s has each q t there = by_order (pid_cmp q p) refl (sym (process_
   where
     by_order : (o : Ordering) → pid_cmp q p ≡ o → cond (is_eq o) (Some s) (process_at k q) ≡ Some t → Q q t
     by_order Less tied e = each q t e
-    by_order Equal tied e = subst (Q q) (some_same s t e) (subst (λ x. Q x s) (sym (tied_pids q p tied)) has)
+    by_order Equal tied e = subst (Q q) (same_Some s t e) (subst (λ x. Q x s) (sym (tied_pids q p tied)) has)
     by_order Greater tied e = each q t e
 
 -- what each root has, and has still with an end linked, each process has at boot
@@ -87,7 +87,7 @@ boot-own system p small there = by_process (process_at (boot system) p) refl the
     by_process : (o : Option ProcState) → process_at (boot system) p ≡ o → option_map (λ (s : ProcState). s.small) o ≡ Some small → small.pid ≡ p
     by_process None at e = cc
     by_process (Some s) at e =
-        ap (λ (x : SmallState). x.pid) (sym (some_same s.small small e)) ∙ boot-each (λ p s. (s.small).pid ≡ p) system (λ p r. refl) (λ p s peer far same. same) p s at
+        ap (λ (x : SmallState). x.pid) (sym (same_Some s.small small e)) ∙ boot-each (λ p s. (s.small).pid ≡ p) system (λ p r. refl) (λ p s peer far same. same) p s at
 
 -- ---- of the pids
 

@@ -3,6 +3,7 @@ use Rattle.std.proofs.Common.{◌≡◌, ℕ, ◌+◌, ◌≤◌, Bool, true, fa
 use Rattle.std.specs.Prelude.{OnOk, OnErr}
 use Rattle.std.specs.Map.{lookup}
 use Rattle.std.specs.FinMap.{find, put}
+use Rattle.std.proofs.lemmas.Option.{same_Some}
 use Rattle.t32_base.specs.Small.{SmallState}
 use Rattle.t32_base.specs.declared.letter.Letter.{Letter}
 use Rattle.t32_base.specs.declared.process.End.{End}
@@ -20,7 +21,7 @@ use Rattle.sys_calls.proofs.Counting.{silent_counts, emits_counts}
 use Rattle.plain_kernel.specs.Kernel.{pid_cmp, deliver, letter_put, with_process}
 use Rattle.plain_kernel.specs.Apply.{after_step, one_step}
 use Rattle.plain_kernel.specs.Maps.{at_key, pid_of, processes_of, kernel_of, load, total_load, Changes, ChangesSmall, StepsAt, Restores, Advances, Lighter, Receives, SameBut}
-use Rattle.plain_kernel.proofs.Entries.{some_same, written_same, put_state, lookup_state, there_before, there_after, found_after, put_after, state_before, load_after, changes_again, changed_back, same_keys, others_stay}
+use Rattle.plain_kernel.proofs.Entries.{written_same, put_state, lookup_state, there_before, there_after, found_after, put_after, state_before, load_after, changes_again, changed_back, same_keys, others_stay}
 
 -- ---- a letter to a process
 
@@ -135,8 +136,8 @@ there_small ps qs pid s = there_after ps qs pid s.was s.now s.changes
 pub undone : (ps qs os : List (ℕ × Process)) (pid : ℕ) (before : SmallState) → ChangesSmall ps qs pid → option_map (λ (p : Process). p.small) (lookup (at_key pid) ps) ≡ Some before
     → Restores qs os pid before → os ≡ ps
 undone ps qs os pid before s saved back =
-    let small : (s.was).small ≡ before = some_same _ before (ap (option_map (λ (p : Process). p.small)) (sym s.changes.found) ∙ saved) in
-    let stood : back.was ≡ s.now = some_same _ _ (sym back.changes.found ∙ found_after ps qs pid s.was s.now s.changes) in
+    let small : (s.was).small ≡ before = same_Some _ before (ap (option_map (λ (p : Process). p.small)) (sym s.changes.found) ∙ saved) in
+    let stood : back.was ≡ s.now = same_Some _ _ (sym back.changes.found ∙ found_after ps qs pid s.was s.now s.changes) in
     let put_back : record (back.was) { small = before } ≡ s.was =
     ap (λ (p : Process). record p { small = before }) (stood ∙ s.rest) ∙ ap (λ b. record (s.was) { small = b }) (sym small) in
     changed_back ps os pid s.was _ (changes_again ps qs os pid s.was s.now _ s.changes back.was back.changes) put_back

@@ -1,5 +1,5 @@
 -- A value that is changed in its place in an ordered map, seen as a finite map.
-use Rattle.std.proofs.Common.{◌≡◌, ℕ, ◌+◌, ◌≤◌, Bool, true, false, cond, List, [], ◌∷◌, map, refl, sym, ap, subst, ◌∙◌, arith, Option, Some, None, IsSome, is_some, unwrap_or, option_map}
+use Rattle.std.proofs.Common.{◌≡◌, ℕ, ◌+◌, ◌≤◌, Bool, true, false, cond, List, [], ◌∷◌, map, refl, sym, ap, subst, ◌∙◌, arith, Option, Some, None, IsSome, is_some, option_map}
 use Rattle.std.specs.List.{sum_by, AllByRecursion}
 use Rattle.std.specs.List.Sorted.{IsStrictlySortedBy}
 use Rattle.std.proofs.lemmas.List.Sums.{sum_by-cons}
@@ -18,14 +18,12 @@ use Rattle.std.specs.FinMap.Entries.{by_order as in_order}
 use Rattle.std.specs.FinMap as finmap
 use Rattle.std.proofs.lemmas.Cmp.{nat_cmp_total}
 use Rattle.std.specs.Cmp.{tied_itself}
+use Rattle.std.proofs.lemmas.Option.{same_Some}
 use Rattle.proc_state.specs.declared.process.Process.{Process}
 use Rattle.proc_state.specs.State.{IsFresh, ProcState, state_of}
 use Rattle.plain_kernel.specs.Kernel.{pid_cmp}
 use Rattle.plain_kernel.specs.Starts.{starts_in}
 use Rattle.plain_kernel.specs.Maps.{at_key, pid_of, processes_of, load, total_load, AreFresh, Changes, SameBut}
-
-pub some_same : {X : Type 0} → (x y : X) → Some x ≡ Some y → x ≡ y
-some_same x y e = ap (λ o. unwrap_or o x) e
 
 pub tied : (n : ℕ) → nat_cmp n n ≡ Equal
 tied n = tied_itself nat_cmp_total n
@@ -132,7 +130,7 @@ written_same t [] v h = refl
 written_same t (e ∷ es) v h = by_test (t e.0) refl h (λ later. written_same t es v later)
   where
     by_test : (b : Bool) → t e.0 ≡ b → cond b (Some e.1) (lookup t es) ≡ Some v → (lookup t es ≡ Some v → set_value t es v ≡ es) → set_value t (e ∷ es) v ≡ e ∷ es
-    by_test true is h ih = rw is (ap (λ x. (e.0, x) ∷ es) (sym (some_same e.1 v h)))
+    by_test true is h ih = rw is (ap (λ x. (e.0, x) ∷ es) (sym (same_Some e.1 v h)))
     by_test false is h ih = rw is (ap (λ r. e ∷ r) (ih h))
 
 pub written_there : {X : Type 0} → (t : ℕ → Bool) (es : List (ℕ × X)) (v w : X) → lookup t es ≡ Some v → lookup t (set_value t es w) ≡ Some w
@@ -187,7 +185,7 @@ one_of_sum f test [] v h = cc
 one_of_sum f test (e ∷ es) v h = by_test (test e.0) h (λ later. one_of_sum f test es v later)
   where
     by_test : (b : Bool) → cond b (Some e.1) (lookup test es) ≡ Some v → (lookup test es ≡ Some v → f v ≤ sum_by f (values_of es)) → f v ≤ sum_by f (values_of (e ∷ es))
-    by_test true h ih = let same : e.1 ≡ v = some_same e.1 v h in omega (arith, sum_by-cons f e.1 (values_of es), ap f same)
+    by_test true h ih = let same : e.1 ≡ v = same_Some e.1 v h in omega (arith, sum_by-cons f e.1 (values_of es), ap f same)
     by_test false h ih = omega (arith, sum_by-cons f e.1 (values_of es), ih h)
 
 -- ---- a process that is found

@@ -7,19 +7,20 @@ use Rattle.std.specs.List.Sorted.{IsStrictlySortedBy}
 use Rattle.std.specs.Map.{lookup}
 use Rattle.std.specs.FinMap.{put}
 use Rattle.std.specs.FinMap.Entries.{by_order as in_order}
+use Rattle.std.proofs.lemmas.Option.{same_Some}
 use Rattle.t32_base.specs.declared.process.Pid.{Pid}
 use Rattle.proc_state.specs.declared.process.Process.{Process}
 use Rattle.proc_state.specs.State.{ProcState, state_of}
 use Rattle.plain_kernel.specs.Kernel.{pid_cmp}
 use Rattle.plain_kernel.specs.Maps.{at_key, pid_of, processes_of}
-use Rattle.plain_kernel.proofs.Entries.{keys, later_no_key, some_same, tied}
+use Rattle.plain_kernel.proofs.Entries.{keys, later_no_key, tied}
 
 pub found_above : {X : Type 0} → (p : ℕ × X → Bool) (x : ℕ) (es : List (ℕ × X)) (e : ℕ × X) → AllByRecursion (λ y. nat_cmp x y ≡ Less) (keys es) → find p es ≡ Some e → nat_cmp x e.0 ≡ Less
 found_above p x [] e a f = cc
 found_above p x (y ∷ es) e a f = by_test (p y) f (λ later. found_above p x es e a.1 later)
   where
     by_test : (b : Bool) → cond b (Some y) (find p es) ≡ Some e → (find p es ≡ Some e → nat_cmp x e.0 ≡ Less) → nat_cmp x e.0 ≡ Less
-    by_test true f ih = let same : y ≡ e = some_same y e f in ap (λ z. nat_cmp x z.0) (sym same) ∙ a.0
+    by_test true f ih = let same : y ≡ e = same_Some y e f in ap (λ z. nat_cmp x z.0) (sym same) ∙ a.0
     by_test false f ih = ih f
 
 -- it is the one at its key
@@ -29,7 +30,7 @@ found_at p [] e s f = cc
 found_at p (x ∷ es) e s f = by_test (p x) f (λ later. found_at p es e s.1 later)
   where
     by_test : (b : Bool) → cond b (Some x) (find p es) ≡ Some e → (find p es ≡ Some e → lookup (at_key e.0) es ≡ Some e.1) → cond (at_key e.0 x.0) (Some x.1) (lookup (at_key e.0) es) ≡ Some e.1
-    by_test true f ih = let same : x ≡ e = some_same x e f in subst (λ z. cond (at_key z.0 x.0) (Some x.1) (lookup (at_key z.0) es) ≡ Some z.1) same (rw (tied x.0) refl)
+    by_test true f ih = let same : x ≡ e = same_Some x e f in subst (λ z. cond (at_key z.0 x.0) (Some x.1) (lookup (at_key z.0) es) ≡ Some z.1) same (rw (tied x.0) refl)
     by_test false f ih = rw (later_no_key x.0 e.0 (found_above p x.0 es e s.0 f)) (ih f)
 
 -- it passes
@@ -38,7 +39,7 @@ first_able p [] e f = cc
 first_able p (x ∷ es) e f = by_test (p x) refl f (λ later. first_able p es e later)
   where
     by_test : (b : Bool) → p x ≡ b → cond b (Some x) (find p es) ≡ Some e → (find p es ≡ Some e → p e ≡ true) → p e ≡ true
-    by_test true is f ih = ap p (sym (some_same x e f)) ∙ is
+    by_test true is f ih = ap p (sym (same_Some x e f)) ∙ is
     by_test false is f ih = ih f
 
 -- where none passes, none at a key does
@@ -48,7 +49,7 @@ none_found {X = X} p k v (x ∷ es) none there = by_tests (p x.1) (at_key k x.0)
   where
     by_tests : (b c : Bool) → p x.1 ≡ b → cond b (Some x) (find (λ (e : ℕ × X). p e.1) es) ≡ None → cond c (Some x.1) (lookup (at_key k) es) ≡ Some v → (find (λ (e : ℕ × X). p e.1) es ≡ None → lookup (at_key k) es ≡ Some v → p v ≡ false) → p v ≡ false
     by_tests true c is none there more = cc
-    by_tests false true is none there more = ap p (sym (some_same x.1 v there)) ∙ is
+    by_tests false true is none there more = ap p (sym (same_Some x.1 v there)) ∙ is
     by_tests false false is none there more = more none there
 
 -- the first of the entries is the first of the states

@@ -2,6 +2,7 @@
 use Rattle.std.proofs.Common.{◌≡◌, ◌+◌, refl, sym, ap, ◌∙◌, Option, Some, None, is_some, true≢false}
 use Rattle.std.specs.Prelude.{◌≢◌, option_and_then, option_map}
 use Rattle.std.specs.Option.{option_map_or}
+use Rattle.std.proofs.lemmas.Option.{same_Some}
 use Rattle.t32_base.specs.declared.process.Pid.{Pid}
 use Rattle.proc_state.specs.State.{ProcState}
 use Rattle.sys_calls.specs.Calls.{Next, Silent, Blocked, Forks, Emits, Over}
@@ -9,7 +10,6 @@ use Rattle.sys_calls.specs.Next.{next_step}
 use Rattle.sys_calls.specs.Fork.{fork_child, fork_parent}
 use Rattle.plain_kernel.specs.Kernel.{Kernel, process_at, with_process}
 use Rattle.plain_kernel.specs.Apply.{after_fork, fork_step}
-use Rattle.plain_kernel.proofs.Entries.{some_same}
 use Rattle.plain_kernel.proofs.Laws.{process_at-same}
 use Rattle.plain_kernel.proofs.Others.{process_at-other, small_at, steps_at}
 
@@ -26,7 +26,7 @@ unfolding fork_step
 fork_made p c k j made = by_process (process_at k p) refl made
   where
     by_child : (s : ProcState) (o : Option ProcState) → process_at k p ≡ Some s → next_step s ≡ Forks → process_at k c ≡ o → after_fork k p c s Forks o ≡ Some j → ForkMade p c k j
-    by_child s None there is absent e = record { was = s; there = there; forks = is; absent = absent; after = some_same _ j e }
+    by_child s None there is absent e = record { was = s; there = there; forks = is; absent = absent; after = same_Some _ j e }
     by_child s (Some t) there is absent e = cc
 
     by_next : (s : ProcState) (next : Next) → process_at k p ≡ Some s → next_step s ≡ next → after_fork k p c s next (process_at k c) ≡ Some j → ForkMade p c k j

@@ -16,8 +16,8 @@ use Rattle.plain_kernel.specs.Apply.{after_step, fork_step, one_step, steps, tak
 use Rattle.plain_kernel.specs.declared.item.Item.{Item}
 use Rattle.plain_kernel.specs.declared.item.Item.TheVariants.{Run}
 use Rattle.std.proofs.lemmas.List.{take_more}
+use Rattle.std.proofs.lemmas.Option.{same_Some}
 use Rattle.plain_kernel.specs.Still.{default_item, default_step, default_after, item_of_step, lowest, lowest_taker, next_child}
-use Rattle.plain_kernel.proofs.Entries.{some_same}
 
 pub pid_cmp_total : IsTotalOrder pid_cmp
 pid_cmp_total = on_total (λ (p : Pid). p.0) nat_cmp_total
@@ -121,7 +121,7 @@ default_none k = refl
 -- ---- silent steps
 
 pub silent_next : (next : Next) (t : ProcState) → silent_of next ≡ Some t → next ≡ Silent t
-silent_next (Silent s) t e = ap Silent (some_same s t e)
+silent_next (Silent s) t e = ap Silent (same_Some s t e)
 silent_next Blocked t e = cc
 silent_next Forks t e = cc
 silent_next (Emits what s) t e = cc
@@ -148,7 +148,7 @@ last_silent n s t e = by_case (silently n s) refl e
 
 pub no_silent : (s t : ProcState) → silently 0 s ≡ Some t → s ≡ t
 unfolding silently
-no_silent s t e = some_same s t e
+no_silent s t e = same_Some s t e
 
 pub silent_steps : (n : ℕ) (k : Kernel) (p : Pid) (s t : ProcState) → with_process k p s ≡ k → silently n s ≡ Some t → steps n p k ≡ Some (with_process k p t)
 unfolding steps

@@ -7,6 +7,7 @@ use Rattle.std.specs.Ordering.{is_eq, eq_by_cmp}
 use Rattle.std.specs.Cmp.{unsigned_tied}
 use Rattle.std.specs.FinMap.{find, put}
 use Rattle.std.specs.FinMap.Entries.{find-put, find_tied}
+use Rattle.std.proofs.lemmas.Option.{same_Some}
 use Rattle.t32_base.specs.declared.process.Pid.{Pid}
 use Rattle.t32_base.specs.declared.letter.Letter.{Letter}
 use Rattle.t32_base.specs.declared.letter.To.{To}
@@ -22,7 +23,6 @@ use Rattle.plain_kernel.specs.Kernel.{Kernel, pid_cmp, process_at, with_process,
 use Rattle.plain_kernel.specs.Apply.{after_step, one_step, steps, fork_step, apply, apply_all, take_step}
 use Rattle.plain_kernel.specs.declared.item.Item.{Item}
 use Rattle.plain_kernel.specs.declared.item.Item.TheVariants.{Run, Fork, Take}
-use Rattle.plain_kernel.proofs.Entries.{some_same}
 use Rattle.plain_kernel.proofs.Laws.{pid_cmp_total, process_at-with_process, process_at-same, with_process-twice, last_silent, no_silent, one_silent}
 
 -- ---- one process is put
@@ -125,13 +125,13 @@ unfolding one_step
 step_made p k j made = by_process (process_at k p) refl made
   where
     by_next : (s : ProcState) (next : Next) → process_at k p ≡ Some s → next_step s ≡ next → after_step k p next ≡ Some j → StepMade p k j
-    by_next s (Silent t) there is e = record { was = s; now = t; there = there; counts = silent_counts s t is; smalls_are = λ q. ap (λ i. small_at i q) (sym (some_same (with_process k p t) j e)) }
+    by_next s (Silent t) there is e = record { was = s; now = t; there = there; counts = silent_counts s t is; smalls_are = λ q. ap (λ i. small_at i q) (sym (same_Some (with_process k p t) j e)) }
     by_next s (Emits what t) there is e = record {
       was = s;
       now = t;
       there = there;
       counts = emits_counts s t what is;
-      smalls_are = λ q. ap (λ i. small_at i q) (sym (some_same (emitted (with_process k p t) what) j e)) ∙ small_at-emitted (with_process k p t) what q;
+      smalls_are = λ q. ap (λ i. small_at i q) (sym (same_Some (emitted (with_process k p t) what) j e)) ∙ small_at-emitted (with_process k p t) what q;
     }
     by_next s Blocked there is e = cc
     by_next s Forks there is e = cc
@@ -174,7 +174,7 @@ last_step n p k j made = by_case (steps n p k) refl made
 
 pub no_step : (p : Pid) (k j : Kernel) → steps 0 p k ≡ Some j → k ≡ j
 unfolding steps
-no_step p k j made = some_same k j made
+no_step p k j made = same_Some k j made
 
 -- the process that made n steps has n more
 pub steps-here : (n : ℕ) (p : Pid) (k j : Kernel) → steps n p k ≡ Some j → steps_at j p ≡ steps_at k p + n
@@ -210,13 +210,13 @@ silent_more (suc n) k p s t there silent =
 pub silently-other : (n : ℕ) (k j : Kernel) (p : Pid) (s t : ProcState) (q : Pid) → process_at k p ≡ Some s → silently n s ≡ Some t → steps n p k ≡ Some j → q.0 ≢ p.0 → process_at j q ≡ process_at k q
 silently-other zero k j p s t q there silent made apart = ap (λ i. process_at i q) (sym (no_step p k j made))
 silently-other (suc n) k j p s t q there silent made apart =
-    ap (λ i. process_at i q) (some_same j (with_process k p t) (sym made ∙ silent_more n k p s t there silent)) ∙ process_at-other k p t q apart
+    ap (λ i. process_at i q) (same_Some j (with_process k p t) (sym made ∙ silent_more n k p s t there silent)) ∙ process_at-other k p t q apart
 
 -- and the process is there as they leave it
 pub silently-here : (n : ℕ) (k j : Kernel) (p : Pid) (s t : ProcState) → process_at k p ≡ Some s → silently n s ≡ Some t → steps n p k ≡ Some j → process_at j p ≡ Some t
 silently-here zero k j p s t there silent made = ap (λ i. process_at i p) (sym (no_step p k j made)) ∙ there ∙ ap Some (no_silent s t silent)
 silently-here (suc n) k j p s t there silent made =
-    ap (λ i. process_at i p) (some_same j (with_process k p t) (sym made ∙ silent_more n k p s t there silent)) ∙ process_at-same k p t
+    ap (λ i. process_at i p) (same_Some j (with_process k p t) (sym made ∙ silent_more n k p s t there silent)) ∙ process_at-same k p t
 
 -- silent steps can be made
 pub silently-made : (n : ℕ) (k : Kernel) (p : Pid) (s t : ProcState) → process_at k p ≡ Some s → silently n s ≡ Some t → is_some (steps n p k) ≡ true
@@ -263,7 +263,7 @@ module _ (P : Kernel → Type 0) (one : (p : Pid) (k j : Kernel) → P k → one
 
   -- items that are applied keep as well
   pub items_keep : (is : List Item) (k j : Kernel) → P k → apply_all is k ≡ Some j → P j
-  items_keep [] k j has made = subst P (some_same k j made) has
+  items_keep [] k j has made = subst P (same_Some k j made) has
   items_keep (i ∷ is) k j has made = by_case (apply k i) refl made (λ l. items_keep is l j)
     where
       by_case : (o : Option Kernel) → apply k i ≡ o → option_and_then (apply_all is) o ≡ Some j → ((l : Kernel) → P l → apply_all is l ≡ Some j → P j) → P j

@@ -7,6 +7,7 @@ use Rattle.std.specs.Ordering.{nat_cmp, is_eq, is_lt}
 use Rattle.std.proofs.lemmas.Bool.Decides.{nat_tests}
 use Rattle.std.specs.FinMap.{find, put, is_sorted, nat_cmp-IsAntisymmetric}
 use Rattle.std.specs.FinMap.Entries.{by_order, below_all, is_sorted-put}
+use Rattle.std.proofs.lemmas.Option.{same_Some}
 use Rattle.t32_base.specs.declared.process.Pid.{Pid}
 use Rattle.t32_base.specs.declared.letter.Letter.{Letter}
 use Rattle.t32_base.specs.declared.letter.To.{To}
@@ -19,7 +20,6 @@ use Rattle.sys_calls.specs.Calls.{Next, Silent, Blocked, Forks, Emits, Over}
 use Rattle.sys_calls.specs.Next.{next_step}
 use Rattle.plain_kernel.specs.Kernel.{Kernel, pid_cmp, process_at, with_process, letter_put, letter_to, emitted}
 use Rattle.plain_kernel.specs.Apply.{after_step, one_step}
-use Rattle.plain_kernel.proofs.Entries.{some_same}
 use Rattle.plain_kernel.proofs.Laws.{pid_cmp_total, process_at-with_process}
 use Rattle.plain_kernel.proofs.Others.{small_at, step_made}
 
@@ -97,8 +97,8 @@ unfolding one_step
 one_step-pids pids p k j has made = by_process (process_at k p) refl made
   where
     by_next : (s : ProcState) (next : Next) → process_at k p ≡ Some s → after_step k p next ≡ Some j → HasPids pids j
-    by_next s (Silent t) there e = subst (HasPids pids) (some_same (with_process k p t) j e) (put_process pids k p s t has there)
-    by_next s (Emits what t) there e = subst (HasPids pids) (some_same (emitted (with_process k p t) what) j e) (emitted_pids pids (with_process k p t) what (put_process pids k p s t has there))
+    by_next s (Silent t) there e = subst (HasPids pids) (same_Some (with_process k p t) j e) (put_process pids k p s t has there)
+    by_next s (Emits what t) there e = subst (HasPids pids) (same_Some (emitted (with_process k p t) what) j e) (emitted_pids pids (with_process k p t) what (put_process pids k p s t has there))
     by_next s Blocked there e = cc
     by_next s Forks there e = cc
     by_next s Over there e = cc
@@ -120,7 +120,7 @@ put_own k p s is own q t there = by_order (pid_cmp q p) refl (sym (ap (option_ma
   where
     by_order : (o : Ordering) → pid_cmp q p ≡ o → option_map (λ (s : ProcState). s.small) (cond (is_eq o) (Some s) (process_at k q)) ≡ Some t → t.pid ≡ q
     by_order Less tied e = own q t e
-    by_order Equal tied e = ap (λ (x : SmallState). x.pid) (sym (some_same s.small t e)) ∙ is ∙ sym (tied_pids q p tied)
+    by_order Equal tied e = ap (λ (x : SmallState). x.pid) (sym (same_Some s.small t e)) ∙ is ∙ sym (tied_pids q p tied)
     by_order Greater tied e = own q t e
 
 -- a step keeps that

@@ -4,6 +4,7 @@ use Rattle.std.specs.Prelude.{fold, option_map}
 use Rattle.std.specs.List.{list_all}
 use Rattle.std.specs.Option.{option_map_or}
 use Rattle.std.proofs.lemmas.List.Sums.{count_by-le-length}
+use Rattle.std.proofs.lemmas.Option.{same_Some}
 use Rattle.t32_base.specs.declared.process.Pid.{Pid}
 use Rattle.t32_base.specs.declared.process.Status.{Status}
 use Rattle.t32_base.specs.declared.process.Status.TheVariants.{Live, Closing, Ended}
@@ -17,7 +18,6 @@ use Rattle.proc_state.specs.State.{ProcState, linked_to}
 use Rattle.proc_state.proofs.Linking.{length-linked}
 use Rattle.sys_calls.specs.Small.{weight}
 use Rattle.plain_kernel.specs.Kernel.{Kernel, boot, boot_roots, empty, process_at, root_process, with_process, with_root}
-use Rattle.plain_kernel.proofs.Entries.{some_same}
 use Rattle.plain_kernel.proofs.Laws.{process_at-same}
 use Rattle.plain_kernel.proofs.AtBoot.{boot-steps, chans-keep}
 use Rattle.plain_kernel.proofs.Others.{small_at, small_at-other}
@@ -33,7 +33,7 @@ put_small Q k p t each has q x there = by_pid (eqb q.0 p.0) refl
     by_pid true is =
         let number : q.0 ≡ p.0 = eqb-true q.0 p.0 is in
         let same : p ≡ q = λ i. record { 0 = sym number i } in
-        let at : t.small ≡ x = some_same t.small x (sym (ap (option_map (λ (s : ProcState). s.small)) (process_at-same k p t)) ∙ ap (small_at (with_process k p t)) same ∙ there) in
+        let at : t.small ≡ x = same_Some t.small x (sym (ap (option_map (λ (s : ProcState). s.small)) (process_at-same k p t)) ∙ ap (small_at (with_process k p t)) same ∙ there) in
         subst (λ (r : Pid). Q r x) same (subst (Q p) at has)
     by_pid false is = each q x (sym (small_at-other k p t q (λ e. true≢false (sym (eq-eqb q.0 p.0 e) ∙ is))) ∙ there)
 
@@ -61,7 +61,7 @@ boot-within system p small there =
   where
     by_process : (o : Option ProcState) → option_map (λ (s : ProcState). s.small) o ≡ Some small → option_map_or (λ (s : ProcState). (s.small).steps) o 0 ≡ 0 → small.steps ≡ 0
     by_process None is none = cc
-    by_process (Some s) is none = ap (λ (x : SmallState). x.steps) (sym (some_same s.small small is)) ∙ none
+    by_process (Some s) is none = ap (λ (x : SmallState). x.steps) (sym (same_Some s.small small is)) ∙ none
 
 -- at most 100000 instructions are left, and there are 32 ends
 record StartsSmall (p : Pid) (small : SmallState) : Type 0 where

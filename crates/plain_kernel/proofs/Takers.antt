@@ -6,6 +6,7 @@ use Rattle.std.specs.Ordering.{nat_cmp}
 use Rattle.std.specs.List.Sorted.{IsStrictlySortedBy}
 use Rattle.std.specs.Map.{lookup}
 use Rattle.std.proofs.lemmas.Bool.Decides.{nat_tests}
+use Rattle.std.proofs.lemmas.Option.{same_Some}
 use Rattle.t32_base.specs.declared.process.Pid.{Pid}
 use Rattle.t32_base.specs.declared.letter.Arrived.{Arrived}
 use Rattle.t32_base.specs.declared.streams.NoMemory.{NoMemory}
@@ -22,7 +23,7 @@ use Rattle.plain_kernel.specs.Still.{lowest_taker}
 use Rattle.plain_kernel.specs.Maps.{at_key, kernel_of, load, pid_of, takes_at, total_load, AreFresh, Changes, NoneTakes, NoneTakesBut, RunsAt, SameBut, TakesSignal, TakesWhere, TookAt}
 use Rattle.plain_kernel.specs.Answers.{Applies, take_answer}
 use Rattle.plain_kernel.specs.declared.item.Item.TheVariants.{Take}
-use Rattle.plain_kernel.proofs.Entries.{changed_back, found_after, found_fresh, keys, load_after, lookup_state, others_stay, put_after, some_same, state_before}
+use Rattle.plain_kernel.proofs.Entries.{changed_back, found_after, found_fresh, keys, load_after, lookup_state, others_stay, put_after, state_before}
 use Rattle.plain_kernel.proofs.First.{first_able, first_states, found_at, none_found}
 use Rattle.plain_kernel.proofs.Taking.{takes}
 
@@ -107,7 +108,7 @@ only_first es pid p ordered found can others = by_case (first_taker es) refl
     by_key : (e : ℕ × Process) → lookup (at_key e.0) es ≡ Some e.1 → taking e.1 ≡ true → (b : Bool) → at_key pid e.0 ≡ b → e ≡ (pid, p)
     by_key e there able true is =
         let same : pid ≡ e.0 = same_key pid e.0 is in
-        let value : e.1 ≡ p = some_same e.1 p (sym there ∙ ap (λ n. lookup (at_key n) es) (sym same) ∙ found) in
+        let value : e.1 ≡ p = same_Some e.1 p (sym there ∙ ap (λ n. lookup (at_key n) es) (sym same) ∙ found) in
         λ i. (sym same i, value i)
     by_key e there able false is = absurd (true≢false (sym (takes_there es e.0 e.1 there ∙ able) ∙ others e.0 is))
 

@@ -19,10 +19,11 @@ use Rattle.plain_kernel.specs.declared.item.NotApplied.{NotApplied}
 use Rattle.plain_kernel.specs.declared.item.NotApplied.TheVariants.{Disabled, NoMemory as NoStepMemory}
 use Rattle.plain_kernel.specs.Answers.{Applies, StopsAt, runs_pid}
 use Rattle.std.proofs.lemmas.Bool.Decides.{nat_tests}
+use Rattle.std.proofs.lemmas.Option.{same_Some}
 use Rattle.plain_kernel.specs.Apply.{after_step, fork_step, one_step, steps, apply}
 use Rattle.plain_kernel.specs.Still.{can_act, lowest, lowest_taker, next_child, default_item, default_step, default_after, Reaches}
 use Rattle.plain_kernel.specs.Maps.{at_key, pid_of, processes_of, kernel_of, total_load, Changes, RunsAt, Advances, lowest_of, IsTurn, NoneTakes, NoneTakesBut, RunsSteps, TookAt, Turns}
-use Rattle.plain_kernel.proofs.Entries.{some_same, tied, later_no_key, later_above, lookup_state, ordered_after, put_state, written_same, found_after, put_after, load_after}
+use Rattle.plain_kernel.proofs.Entries.{tied, later_no_key, later_above, lookup_state, ordered_after, put_state, written_same, found_after, put_after, load_after}
 use Rattle.plain_kernel.proofs.First.{first_states, found_above, found_at, none_put}
 use Rattle.plain_kernel.proofs.Takers.{no_taker, none_ran, only_taker, take_load, take_made_at, takes_there}
 use Rattle.plain_kernel.proofs.Laws.{steps_joined, steps_more, steps_stuck, one_silent, silent_steps, last_silent, no_silent, default_joined, default_one, default_none, default_over, default_steps, default_forks, default_takes}
@@ -39,7 +40,7 @@ found_stays p k v w [] s f h = cc
 found_stays p k v w (x ∷ es) s f h = by_test (p x) refl f (λ later. found_stays p k v w es s.1 later h)
   where
     by_test : (b : Bool) → p x ≡ b → cond b (Some x) (find p es) ≡ Some (k, v) → (find p es ≡ Some (k, v) → find p (set_value (at_key k) es w) ≡ Some (k, w)) → find p (set_value (at_key k) (x ∷ es) w) ≡ Some (k, w)
-    by_test true is f ih = let same : x ≡ (k, v) = some_same x (k, v) f in subst (λ z. find p (cond (at_key k z.0) ((z.0, w) ∷ es) (x ∷ set_value (at_key k) es w)) ≡ Some (k, w)) (sym same) (rw (tied k) (ap (λ b. cond b (Some (k, w)) (find p es)) h))
+    by_test true is f ih = let same : x ≡ (k, v) = same_Some x (k, v) f in subst (λ z. find p (cond (at_key k z.0) ((z.0, w) ∷ es) (x ∷ set_value (at_key k) es w)) ≡ Some (k, w)) (sym same) (rw (tied k) (ap (λ b. cond b (Some (k, w)) (find p es)) h))
     by_test false is f ih = rw (later_no_key x.0 k (found_above p x.0 es (k, v) s.0 f)) (rw is (ih f))
 
 -- the same of the states, of which any may be put
@@ -52,7 +53,7 @@ lowest_put k v t (x ∷ es) s f h = by_test (has_step (next_step (state_of x.1))
     by_test : (b : Bool) → has_step (next_step (state_of x.1)) ≡ b → cond b (Some x) (lowest_of es) ≡ Some (k, v) → (lowest_of es ≡ Some (k, v) → find (λ (e : Pid × ProcState). has_step (next_step e.1)) (put pid_cmp (pid_of k) t (processes_of es)) ≡ Some (pid_of k, t))
         → find (λ (e : Pid × ProcState). has_step (next_step e.1)) (put pid_cmp (pid_of k) t (processes_of (x ∷ es))) ≡ Some (pid_of k, t)
     by_test true is f ih =
-        let same : x.0 ≡ k = ap (λ (z : ℕ × Process). z.0) (some_same x (k, v) f) in
+        let same : x.0 ≡ k = ap (λ (z : ℕ × Process). z.0) (same_Some x (k, v) f) in
         let here : nat_cmp k x.0 ≡ Equal = ap (nat_cmp k) same ∙ tied k in
         rw here (rw h (ap (λ n. Some (pid_of n, t)) same))
     by_test false is f ih = rw (later_above x.0 k (found_above _ x.0 es (k, v) s.0 f)) (rw is (ih f))
@@ -68,7 +69,7 @@ has_turn pid es e = by_case (lowest_of es) refl e
   where
     by_case : (o : Option (ℕ × Process)) → lowest_of es ≡ o → Some pid ≡ option_map (λ (e : ℕ × Process). e.0) o → HasTurn pid es
     by_case None is f = cc
-    by_case (Some x) is f = record { process = x.1; first = is ∙ ap (λ n. Some (n, x.1)) (sym (some_same pid x.0 f)) }
+    by_case (Some x) is f = record { process = x.1; first = is ∙ ap (λ n. Some (n, x.1)) (sym (same_Some pid x.0 f)) }
 
 -- where nothing has a step and none can take a signal the default schedule is over
 pub over : (es : List (ℕ × Process)) (ts : List (ℕ × List ℕ)) → IsStrictlySortedBy nat_cmp (keys es) → NoneTakes es → IsTurn None es → default_item (kernel_of es ts) ≡ None
@@ -116,7 +117,7 @@ default_silent (suc n) pid v es ts t s none free first e =
     ∙ one_silent (kernel_of es ts) (pid_of pid) last.before t last.last
 
 same_process : (ps qs : List (ℕ × Process)) (pid : ℕ) (was now : Process) (h : HasTurn pid ps) → Changes ps qs pid was now → h.process ≡ was
-same_process ps qs pid was now h c = some_same _ _ (sym (found_at _ ps (pid, h.process) c.ordered h.first) ∙ c.found)
+same_process ps qs pid was now h c = same_Some _ _ (sym (found_at _ ps (pid, h.process) c.ordered h.first) ∙ c.found)
 
 ran : (ps qs : List (ℕ × Process)) (ts : List (ℕ × List ℕ)) (pid n : ℕ) → IsTurn (Some pid) ps → NoneTakes ps → (r : RunsAt ps qs pid n) → StaysUntaken n (state_of r.was) → default_after n (kernel_of ps ts) ≡ Some (kernel_of qs ts)
 ran ps qs ts pid n turn none r free =

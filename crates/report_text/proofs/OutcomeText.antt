@@ -6,6 +6,7 @@ use Rattle.std.specs.Fmt.{decimal}
 use Rattle.std.specs.Ordering.{is_eq}
 use Rattle.std.specs.Cmp.{tied_itself}
 use Rattle.std.specs.FinMap.{find, is_sorted}
+use Rattle.std.proofs.lemmas.Bool.{or_parts}
 use Rattle.t32_base.specs.declared.process.Pid.{Pid}
 use Rattle.t32_base.specs.declared.process.Status.{Status}
 use Rattle.t32_base.specs.declared.process.Status.TheVariants.{Live, Closing, Ended}
@@ -25,7 +26,6 @@ use Rattle.cert_sched.specs.Legal.{IsLegalBy}
 use Rattle.cert_sched.specs.Built.{BuiltMayFollow}
 use Rattle.cert_sched.proofs.Applied.{finished_kernel_still, legal_runs}
 use Rattle.cert_sched.proofs.LogLaws.{plain_run-schedule_of}
-use Rattle.cert_sched.proofs.RisingLaws.{either_not}
 use Rattle.cert_sched.proofs.StepLaws.{plain_after-rising}
 use Rattle.cert_sched.proofs.StillLaws.{found_later}
 use Rattle.report_text.specs.Report.{newline, pid_part, pids_report, plain_report, status_text, ttys_report}
@@ -44,7 +44,7 @@ lines_are : (k : Kernel) (es : List (Pid × ProcState)) → ((q : Pid) (s : Proc
     → pids_report k (map (λ (e : Pid × ProcState). e.0) es) ≡ flat_map end_part (map numbered es)
 lines_are k [] there rising none = refl
 lines_are k (e ∷ es) there rising none =
-    let parts = either_not (has_step (next_step e.1) || can_take e.1) (list_any can_act es) none in
+    let parts = or_parts (has_step (next_step e.1) || can_take e.1) (list_any can_act es) none in
     let here : process_at k e.0 ≡ Some e.1 = there e.0 e.1 (ap (λ o. cond (is_eq o) (Some e.1) (find pid_cmp e.0 es)) (tied_itself pid_cmp_total e.0)) in
     let line : pid_part e.0 (process_at k e.0) ≡ end_part (numbered e) =
     ap (pid_part e.0) here

@@ -4,6 +4,7 @@ use Rattle.std.specs.Prelude.{option_and_then, option_map}
 use Rattle.std.specs.Ordering.{nat_cmp}
 use Rattle.std.specs.FinMap.{put}
 use Rattle.std.proofs.lemmas.List.Sums.{fold-append}
+use Rattle.std.proofs.lemmas.Option.{same_Some}
 use Rattle.t32_base.specs.declared.process.Pid.{Pid}
 use Rattle.t32_base.specs.declared.process.End.{End}
 use Rattle.t32_base.specs.declared.letter.Letter.{Letter}
@@ -19,7 +20,6 @@ use Rattle.sys_calls.proofs.Counting.{exit_status, last_sent}
 use Rattle.plain_kernel.specs.Kernel.{Kernel, boot, boot_roots, empty, process_at, root_process, with_process, with_root}
 use Rattle.plain_kernel.specs.Apply.{apply_all}
 use Rattle.plain_kernel.proofs.AtBoot.{chans-keep, roots-rising}
-use Rattle.plain_kernel.proofs.Entries.{some_same}
 use Rattle.plain_kernel.proofs.Forking.{fork_made}
 use Rattle.plain_kernel.proofs.Pids.{HasPids, one_step-pids, pids_in, put_process}
 use Rattle.plain_kernel.proofs.Roots.{booted_roots}
@@ -108,10 +108,10 @@ module _ (system : System) (log : List Entry) (e : Entry) (k j : Kernel) (before
   mail_told : (at : ℕ) (letter : Letter) (t : ProcState) → what e ≡ Mail at letter → emission_at system log letter.from at ≡ Some (Sent letter, t) → told_by j ≡ told_after (Mail at letter) (told_by k)
   mail_told at letter t is sends =
       let s = sent_from system log letter.from at (Sent letter) t sends in
-      let there : process_at k letter.from ≡ Some s.was = ap (λ k. process_at k letter.from) (some_same k s.kernel (sym before ∙ s.before)) ∙ s.there in
+      let there : process_at k letter.from ≡ Some s.was = ap (λ k. process_at k letter.from) (same_Some k s.kernel (sym before ∙ s.before)) ∙ s.there in
       let goes_on : standing t ≡ standing s.was = open_standing t (letter_told system log letter.from at letter t sends) ∙ sym (open_standing s.was (sender_goes_on _ s.was (Sent letter) t s.sends)) in
       let put : HasPids (pids_in k) (with_process k letter.from t) = put_process (pids_in k) k letter.from s.was t has there in
-      ap told_by (some_same j _ (sym after ∙ plain_after-sent system log e letter.from at (Sent letter) t k before sends (refl, is)))
+      ap told_by (same_Some j _ (sym after ∙ plain_after-sent system log e letter.from at (Sent letter) t k before sends (refl, is)))
       ∙ told_letter (with_process k letter.from t) letter letter.to put.rising
       ∙ ap (told_after (Mail at letter)) (told_same k letter.from s.was t has.rising there goes_on)
 
@@ -120,7 +120,7 @@ module _ (system : System) (log : List Entry) (e : Entry) (k j : Kernel) (before
   exit_told p at end t is sends =
       let s = sent_from system log p at (Ended end) t sends in
       let last = last_sent _ s.was (Ended end) t s.sends in
-      ap told_by (some_same j _ (sym after ∙ plain_after-sent system log e p at (Ended end) t k before sends is))
+      ap told_by (same_Some j _ (sym after ∙ plain_after-sent system log e p at (Ended end) t k before sends is))
       ∙ told_ended k p t end (exit_status last.before t end last.last)
 
   -- a birth: the steps before the fork are silent, the parent stands as before, and the child is there and has not ended
@@ -130,7 +130,7 @@ module _ (system : System) (log : List Entry) (e : Entry) (k j : Kernel) (before
       let ran : HasPids (pids_in k) r.to = forkless_keep (HasPids (pids_in k)) (one_step-pids (pids_in k)) (take_step-pids (pids_in k)) (run_upto k parent (at - 1)) k r.to (run_forkless parent (at - 1 - done k parent)) has r.ran in
       let f = fork_made parent child r.to j r.forks in
       let s = run_made k k (parent, at - 1) (ap is_some (sym (led-silent_upto system log k (parent, at - 1) before)) ∙ fork_reached system log parent at end kind.end_is) refl in
-      let quiet : Quietly r.to k = subst (λ i. Quietly i k) (some_same s.to r.to (sym s.made ∙ r.ran)) s.quiet in
+      let quiet : Quietly r.to k = subst (λ i. Quietly i k) (same_Some s.to r.to (sym s.made ∙ r.ran)) s.quiet in
       ap told_by (sym f.after)
       ∙ told_open (with_process r.to parent (fork_parent f.was child)) child (fork_child f.was child) refl
       ∙ ap (told_after (Birth parent at child end)) (told_same r.to parent f.was (fork_parent f.was child) ran.rising f.there refl ∙ told_quietly (pids_in k) k r.to has quiet)
@@ -179,4 +179,4 @@ outcome-is May standing system log valid legal =
     (legal_induction May system (Tells system) at_boot (λ log e tells may. tells_more system log e tells (standing system log e may)) log legal).told
   where
     at_boot : Tells system []
-    at_boot = record { numbers = numbered_at_boot system valid; told = λ k is. ap told_by (some_same k (boot system) (sym is)) ∙ boot_told system }
+    at_boot = record { numbers = numbered_at_boot system valid; told = λ k is. ap told_by (same_Some k (boot system) (sym is)) ∙ boot_told system }

@@ -5,6 +5,7 @@ use Rattle.std.specs.declared.cmp.Ordering.TheVariants.{Less, Equal, Greater}
 use Rattle.std.specs.Ordering.{nat_cmp, is_eq}
 use Rattle.std.specs.FinMap.{find, is_sorted, put}
 use Rattle.std.specs.FinMap.Entries.{by_order}
+use Rattle.std.proofs.lemmas.Option.{same_Some}
 use Rattle.t32_base.specs.declared.process.Pid.{Pid}
 use Rattle.t32_base.specs.declared.process.End.{End}
 use Rattle.t32_base.specs.declared.process.Status.{Status}
@@ -17,7 +18,6 @@ use Rattle.sys_calls.specs.Calls.{Over}
 use Rattle.sys_calls.specs.Next.{next_step, silently}
 use Rattle.sys_calls.proofs.Counting.{ended_is_over}
 use Rattle.plain_kernel.specs.Kernel.{Kernel, letter_put, letter_to, pid_cmp, process_at, with_process}
-use Rattle.plain_kernel.proofs.Entries.{some_same}
 use Rattle.plain_kernel.proofs.Laws.{last_silent, no_silent}
 use Rattle.plain_kernel.proofs.Pids.{HasPids, IsRising, left_true, not_found, put_process, right_true}
 use Rattle.cert_sched.proofs.MailLaws.{silent_not_over, silently_ends}
@@ -69,7 +69,7 @@ stays p s o (e ∷ es) rising there same = by_case (pid_cmp p e.0) refl there (�
         → (find pid_cmp p es ≡ Some s → put nat_cmp p.0 o (map numbered es) ≡ map numbered es)
         → by_order c ((p.0, o) ∷ numbered e ∷ map numbered es) (((e.0).0, o) ∷ map numbered es) (numbered e ∷ put nat_cmp p.0 o (map numbered es)) ≡ numbered e ∷ map numbered es
     by_case Less is found more = absurd (true≢false (ap is_some (sym found ∙ not_found p e.0 es is (left_true _ _ rising))))
-    by_case Equal is found more = ap (λ x. ((e.0).0, x) ∷ map numbered es) (sym same ∙ ap (λ (s : ProcState). standing s) (sym (some_same e.1 s found)))
+    by_case Equal is found more = ap (λ x. ((e.0).0, x) ∷ map numbered es) (sym same ∙ ap (λ (s : ProcState). standing s) (sym (same_Some e.1 s found)))
     by_case Greater is found more = ap (λ ns. numbered e ∷ ns) (more found)
 
 -- ---- what a kernel tells after a change

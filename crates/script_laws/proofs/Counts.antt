@@ -7,10 +7,6 @@ use Rattle.std.proofs.lemmas.List.Sums.{sum_by-append, sum_by-cons}
 pub zero_added : (m : ℕ) → 0 + m ≡ m
 zero_added m = omega arith
 
-pub one_at_most : (b : Bool) → cond b 1 0 ≤ 1
-one_at_most true = omega arith
-one_at_most false = omega arith
-
 module _ {X : Type 0} (t : X → Bool) where
   pub count-snoc : (xs : List X) (x : X) → count_by t (xs ++ x ∷ []) ≡ count_by t xs + cond (t x) 1 0
   count-snoc xs x = sum_by-append (λ x. cond (t x) 1 0) xs (x ∷ []) ∙ ap (λ m. count_by t xs + m) (zero_added (cond (t x) 1 0))

@@ -3,7 +3,7 @@ use Rattle.std.proofs.Common.{◌≡◌, ℕ, ◌+◌, ◌<◌, ◌≤◌, refl,
 use Rattle.std.specs.Prelude.{filter, slice_get}
 use Rattle.std.specs.Option.{option_map_or}
 use Rattle.std.specs.List.{list_any, list_all, range_with_len}
-use Rattle.std.proofs.lemmas.Bool.{and_from}
+use Rattle.std.proofs.lemmas.Bool.{and_from, or_right}
 use Rattle.std.proofs.lemmas.List.Folds.{list_all-append}
 use Rattle.std.proofs.lemmas.List.FromFn.{length-map-range_with_len, get_or-map-range_with_len}
 use Rattle.std.proofs.lemmas.Option.{slice_get-get_or}
@@ -15,7 +15,7 @@ use Rattle.sys_text.specs.Valid.{is_system, is_root}
 use Rattle.sys_text.specs.Boot.{with_pids, roots_of}
 use Rattle.sys_text.proofs.Bounds.{first_of_two, second_of_two, root_fits, root_tests, system_bounds, tests}
 use Rattle.bus_msg.specs.declared.entry.What.{What}
-use Rattle.bus_msg.specs.declared.entry.What.TheVariants.{Mail, Birth, Exit, Page, Sync, Fetch, PageIs, Crash, Return, Rebackup, Done, Stop}
+use Rattle.bus_msg.specs.declared.entry.What.TheVariants.{Birth, Exit, Sync, Fetch, PageIs, Crash, Return, Rebackup, Done, Stop}
 use Rattle.bus_msg.specs.declared.entry.Entry.{Entry}
 use Rattle.bus_msg.specs.declared.placed.Placed.{Placed}
 use Rattle.bus_msg.specs.Places.{ClusterPlace, Places, boot_cluster, same_pid, same_cluster, is_at_home, is_covered, lives_in, never_lost, placed_at}
@@ -168,10 +168,6 @@ unlost_backed : (system : System) (log : List Entry) → is_system system ≡ tr
 unlost_backed system log valid legal = backed_where system (placement system log) log valid (λ h within. (unlost_cluster system log h legal within).0) legal
 
 -- ---- the whole
-
-or_right : (a b : Bool) → b ≡ true → (a || b) ≡ true
-or_right true b h = refl
-or_right false b h = h
 
 -- of two different servers that were never lost one is left
 one_left : (first second k : ClusterNo) (t : ClusterNo → Bool) → t first ≡ true → t second ≡ true → (first.0 ≡ second.0 → ⊥) → list_any (λ s. not (same_cluster s k)) (filter t (first ∷ second ∷ [])) ≡ true

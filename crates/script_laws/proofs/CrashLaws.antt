@@ -3,9 +3,10 @@ use Rattle.std.proofs.Common.{◌≡◌, ℕ, ◌+◌, ◌≤◌, refl, sym, ◌
 use Rattle.std.specs.Prelude.{count_by, filter}
 use Rattle.std.specs.List.{list_all}
 use Rattle.std.proofs.lemmas.List.Sums.{sum_by-append}
+use Rattle.t32_base.proofs.Facts.{one_at_most}
 use Rattle.sys_text.specs.declared.system.System.{System}
 use Rattle.bus_msg.specs.declared.entry.What.{What}
-use Rattle.bus_msg.specs.declared.entry.What.TheVariants.{Mail, Birth, Exit, Page, Sync, Fetch, PageIs, Crash, Return, Rebackup, Done, Stop}
+use Rattle.bus_msg.specs.declared.entry.What.TheVariants.{Crash, Return}
 use Rattle.bus_msg.specs.declared.entry.Cause.TheVariants.{Place, Step, Disk}
 use Rattle.bus_msg.specs.declared.entry.Entry.{Entry}
 use Rattle.bus_msg.specs.PlacedAfter.{what}
@@ -17,7 +18,7 @@ use Rattle.cert_sched.specs.Looked.{Looked, at_start, gives_nothing, gives, goes
 use Rattle.bus_order.specs.View.{BusView, KeepsScript}
 use Rattle.bus_order.proofs.WordsLaws.{length-without}
 use Rattle.script_laws.specs.Crashes.{is_loss, crashes}
-use Rattle.script_laws.proofs.Counts.{count-snoc, count-cons, counted_as, one_at_most}
+use Rattle.script_laws.proofs.Counts.{count-snoc, count-cons, counted_as}
 use Rattle.script_laws.proofs.LossKeys.{is_key, key_of, keys_of, keys_of_words, counted_words, counted_crashes, few_keys}
 
 -- ---- entries that words for a place gave

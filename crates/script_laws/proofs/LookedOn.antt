@@ -2,7 +2,7 @@
 use Rattle.std.proofs.Common.{◌≡◌, ℕ, zero, suc, refl, sym, ◌∙◌, ap, subst, arith, List, [], ◌∷◌, ◌++◌, append_assoc, append-nil, length, length-append, Bool, true, false, cond, ◌||◌, eq-eqb, nat_le, Option, Some, None, unwrap_or, true≢false}
 use Rattle.std.specs.Prelude.{find}
 use Rattle.std.specs.List.{list_any, list_all}
-use Rattle.std.proofs.lemmas.Bool.{and_from}
+use Rattle.std.proofs.lemmas.Bool.{and_from, or_parts}
 use Rattle.std.proofs.lemmas.List.Folds.{list_all-append}
 use Rattle.t32_base.specs.declared.process.ClusterNo.{ClusterNo}
 use Rattle.proc_state.specs.Mail.{without_first}
@@ -20,7 +20,6 @@ use Rattle.cert_sched.specs.Looked.{first_reached, given_by, is_reached, without
 use Rattle.cert_sched.specs.Simulation.{crash_entry}
 use Rattle.cert_sched.proofs.ListLaws.{list_all-weaker}
 use Rattle.cert_sched.proofs.LogLaws.{IsLegal-snoc}
-use Rattle.cert_sched.proofs.RisingLaws.{either_not}
 use Rattle.bus_order.specs.Script.{is_word_for}
 use Rattle.bus_order.specs.View.{BusView, KeepsScript, after_words, look_once, looks, no_marks, with_given}
 use Rattle.bus_order.proofs.WordsLaws.{all-found, all-without, length-without}
@@ -73,7 +72,7 @@ any-without t u apart (x ∷ xs) = by_test (t x) refl (any-without t u apart xs)
 none_first : {X : Type 0} (t : X → Bool) (xs : List X) → list_any t xs ≡ false → find t xs ≡ None
 none_first t [] none = refl
 none_first t (x ∷ xs) none =
-    let parts = either_not (t x) (list_any t xs) none in
+    let parts = or_parts (t x) (list_any t xs) none in
     ap (λ b. cond b (Some x) (find t xs)) parts.0 ∙ none_first t xs parts.1
 
 -- ---- what is added

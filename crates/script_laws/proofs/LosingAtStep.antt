@@ -2,20 +2,20 @@
 use Rattle.std.proofs.Common.{◌≡◌, ℕ, zero, suc, ◌+◌, ◌-◌, ◌^◌, ◌<◌, ◌≤◌, refl, sym, ◌∙◌, ap, arith, List, [], ◌∷◌, ◌++◌, length, take, drop, Bool, true, false, cond, not, ◌||◌, true≢false}
 use Rattle.std.specs.Prelude.{count_by, nat_le}
 use Rattle.std.specs.List.{list_any}
-use Rattle.std.proofs.lemmas.Bool.{and_from}
+use Rattle.std.proofs.lemmas.Bool.{and_from, or_parts}
 use Rattle.std.proofs.lemmas.Bool.Decides.{nat_tests}
 use Rattle.std.proofs.lemmas.List.{take-append-drop}
 use Rattle.std.proofs.lemmas.List.Folds.{list_any-append}
 use Rattle.std.proofs.lemmas.List.Sums.{sum_by-take-drop}
 use Rattle.t32_base.specs.declared.process.ClusterNo.{ClusterNo}
+use Rattle.t32_base.proofs.Facts.{one_at_most}
 use Rattle.bus_msg.specs.declared.entry.Cause.TheVariants.{Step}
 use Rattle.bus_msg.specs.declared.entry.Entry.{Entry}
 use Rattle.bus_msg.specs.PlacedAfter.{what}
 use Rattle.cert_sched.specs.Losses.{before_last, capped, heard, has_step_left, is_by_cluster, is_scripted_cause, is_step_crash, is_step_word, least_steps, may_be_lost_at, was_lost_in}
-use Rattle.cert_sched.proofs.RisingLaws.{either_not}
 use Rattle.bus_order.specs.Script.{has_unused}
 use Rattle.bus_order.specs.View.{BusView, KeepsScript, MayBeLost}
-use Rattle.script_laws.proofs.Counts.{count-cons, count_none, count_some, one_at_most}
+use Rattle.script_laws.proofs.Counts.{count-cons, count_none, count_some}
 
 -- one more element taken
 taken_length : (n : ℕ) (xs : List Entry) → length (take (suc n) xs) ≤ length (take n xs) + 1
@@ -28,7 +28,7 @@ taken_length (suc n) (x ∷ xs) = let more = taken_length n xs in omega (arith, 
 module _ (t : Entry → Bool) where
   none_last : (xs : List Entry) → list_any t xs ≡ false → before_last t xs ≡ []
   none_last [] none = refl
-  none_last (x ∷ xs) none = ap (λ b. cond b (x ∷ before_last t xs) []) (either_not (t x) (list_any t xs) none).1
+  none_last (x ∷ xs) none = ap (λ b. cond b (x ∷ before_last t xs) []) (or_parts (t x) (list_any t xs) none).1
 
   or_none : (a b : Bool) → b ≡ false → (a || b) ≡ a
   or_none true b none = refl

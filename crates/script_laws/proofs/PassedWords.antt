@@ -2,7 +2,7 @@
 use Rattle.std.proofs.Common.{◌≡◌, ℕ, ◌+◌, refl, sym, ◌∙◌, ap, arith, List, [], ◌∷◌, ◌++◌, Bool, true, false, not, ◌&&◌, ◌||◌, eqb, eqb-true, eq-eqb, true≢false}
 use Rattle.std.specs.Prelude.{nat_le}
 use Rattle.std.specs.List.{list_any, list_all}
-use Rattle.std.proofs.lemmas.Bool.{and_parts, and_from}
+use Rattle.std.proofs.lemmas.Bool.{and_parts, and_from, or_parts}
 use Rattle.std.proofs.lemmas.Bool.Decides.{nat_tests}
 use Rattle.std.proofs.lemmas.List.Folds.{list_any-append}
 use Rattle.t32_base.specs.declared.process.ClusterNo.{ClusterNo}
@@ -14,7 +14,6 @@ use Rattle.cert_sched.specs.declared.script.ScriptWord.{ScriptWord}
 use Rattle.cert_sched.specs.declared.script.ScriptWord.TheVariants.{CrashAt, CrashStep, DiskAt, ReturnAt}
 use Rattle.cert_sched.specs.Losses.{is_step_crash, is_step_word}
 use Rattle.cert_sched.proofs.ListLaws.{list_all-weaker}
-use Rattle.cert_sched.proofs.RisingLaws.{either_not}
 use Rattle.bus_order.specs.Script.{has_unused, is_unpassed}
 use Rattle.bus_order.specs.View.{BusView, KeepsScript}
 use Rattle.script_laws.proofs.Counts.{any_counted, count_none, count_some}
@@ -76,7 +75,7 @@ unpassed_next k log steps (ReturnAt j place) other h = refl
 all_next : (k : ClusterNo) (log : List Entry) (steps : ℕ) (script : List ScriptWord) → list_any (is_step_word k steps) script ≡ false → list_all (is_unpassed k log steps) script ≡ true → list_all (is_unpassed k log (steps + 1)) script ≡ true
 all_next k log steps [] none all = refl
 all_next k log steps (w ∷ script) none all =
-    let other = either_not (is_step_word k steps w) (list_any (is_step_word k steps) script) none in
+    let other = or_parts (is_step_word k steps w) (list_any (is_step_word k steps) script) none in
     let parts = and_parts (is_unpassed k log steps w) (list_all (is_unpassed k log steps) script) all in
     and_from (is_unpassed k log (steps + 1) w) (list_all (is_unpassed k log (steps + 1)) script) (unpassed_next k log steps w other.0 parts.0) (all_next k log steps script other.1 parts.1)
 

@@ -1,5 +1,6 @@
 -- What each step counts, whose letter it sends, and which step is the last of a process.
-use Rattle.std.proofs.Common.{◌≡◌, ℕ, zero, suc, ◌+◌, refl, sym, ◌∙◌, ap, subst, arith, Bool, true, false, cond, eqb, ltb, not, Option, Some, None, is_none, option_and_then, unwrap_or, true≢false, add-zero}
+use Rattle.std.proofs.Common.{◌≡◌, ℕ, zero, suc, ◌+◌, refl, sym, ◌∙◌, ap, subst, arith, Bool, true, false, cond, eqb, ltb, not, Option, Some, None, is_none, option_and_then, true≢false, add-zero}
+use Rattle.std.proofs.lemmas.Option.{same_Some}
 use Rattle.t32_base.specs.declared.process.End.{End}
 use Rattle.t32_base.specs.declared.process.Status.{Status}
 use Rattle.t32_base.specs.declared.process.Status.TheVariants.{Live, Closing, Ended}
@@ -168,9 +169,6 @@ ended_is_over s ended = by_case (s.small).status ended
 
 -- ---- several steps
 
-same_some : {X : Type 0} → (x y : X) → Some x ≡ Some y → x ≡ y
-same_some x y e = ap (λ o. unwrap_or o x) e
-
 -- n steps were counted, the process is the same, and no letter has arrived
 pub record CountsMany (n : ℕ) (s t : ProcState) : Type 0 where
   pub steps : (t.small).steps ≡ (s.small).steps + n
@@ -181,10 +179,10 @@ one_more : (n : ℕ) (s q t : ProcState) → CountsMany n s q → CountsOne q t 
 one_more n s q t many one = record { steps = omega (arith, many.steps, one.steps); pid = one.pid ∙ many.pid; next = one.next ∙ many.next }
 
 none_more : (s t : ProcState) → Some s ≡ Some t → CountsMany 0 s t
-none_more s t e = let same : s ≡ t = same_some s t e in record { steps = ap (λ (p : ProcState). (p.small).steps) (sym same) ∙ sym (add-zero (s.small).steps); pid = ap (λ (p : ProcState). (p.small).pid) (sym same); next = ap (λ (p : ProcState). p.next) (sym same) }
+none_more s t e = let same : s ≡ t = same_Some s t e in record { steps = ap (λ (p : ProcState). (p.small).steps) (sym same) ∙ sym (add-zero (s.small).steps); pid = ap (λ (p : ProcState). (p.small).pid) (sym same); next = ap (λ (p : ProcState). p.next) (sym same) }
 
 silent_is : (next : Next) (t : ProcState) → silent_of next ≡ Some t → next ≡ Silent t
-silent_is (Silent s) t e = ap Silent (same_some s t e)
+silent_is (Silent s) t e = ap Silent (same_Some s t e)
 silent_is Blocked t e = cc
 silent_is Forks t e = cc
 silent_is (Emits what s) t e = cc
@@ -194,7 +192,7 @@ emission_is : (next : Next) (e : Emission) (t : ProcState) → emission_of next 
 emission_is (Silent s) e t is = cc
 emission_is Blocked e t is = cc
 emission_is Forks e t is = cc
-emission_is (Emits what s) e t is = let same : ◌≡◌ {A = Emission × ProcState} (what, s) (e, t) = same_some _ _ is in λ i. Emits (same i).0 (same i).1
+emission_is (Emits what s) e t is = let same : ◌≡◌ {A = Emission × ProcState} (what, s) (e, t) = same_Some _ _ is in λ i. Emits (same i).0 (same i).1
 emission_is Over e t is = cc
 
 -- n silent steps are counted n times

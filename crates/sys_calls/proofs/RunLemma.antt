@@ -1,8 +1,9 @@
 -- Letters that arrive change no step that can be made without them.
-use Rattle.std.proofs.Common.{◌≡◌, ℕ, zero, suc, refl, ap, ◌∙◌, List, [], ◌∷◌, ◌++◌, Bool, true, false, cond, eqb, ltb, not, Option, Some, None, is_none, unwrap_or}
+use Rattle.std.proofs.Common.{◌≡◌, ℕ, zero, suc, refl, ap, ◌∙◌, List, [], ◌∷◌, ◌++◌, Bool, true, false, cond, eqb, ltb, not, Option, Some, None, is_none}
 use Rattle.std.specs.Prelude.{find, option_and_then, option_map}
 use Rattle.std.specs.Option.{option_or}
 use Rattle.std.proofs.lemmas.List.Folds.{find-append}
+use Rattle.std.proofs.lemmas.Option.{same_Some}
 use Rattle.t32_base.specs.declared.process.Status.{Status}
 use Rattle.t32_base.specs.declared.process.Status.TheVariants.{Live, Closing, Ended}
 use Rattle.t32_base.specs.declared.process.End.{End}
@@ -135,12 +136,9 @@ next_step-delivered p l = status-delivered l (p.small).status p
 
 -- ---- silent steps
 
-some_same : {X : Type 0} → (x y : X) → Some x ≡ Some y → x ≡ y
-some_same x y e = ap (λ o. unwrap_or o x) e
-
 silent_delivered : (p : ProcState) (l : Letter) (next : Next) (t : ProcState) → next_step p ≡ next → silent_of next ≡ Some t → silent_of (next_step (delivered p l)) ≡ Some (delivered t l)
 silent_delivered p l (Silent s) t is e =
-    ap silent_of (next_step-delivered p l (ap is_blocked is)) ∙ ap (λ n. silent_of (with_after (λ q. delivered q l) n)) is ∙ ap (λ q. Some (delivered q l)) (some_same s t e)
+    ap silent_of (next_step-delivered p l (ap is_blocked is)) ∙ ap (λ n. silent_of (with_after (λ q. delivered q l) n)) is ∙ ap (λ q. Some (delivered q l)) (same_Some s t e)
 silent_delivered p l Blocked t is e = cc
 silent_delivered p l Forks t is e = cc
 silent_delivered p l (Emits x s) t is e = cc
@@ -149,7 +147,7 @@ silent_delivered p l Over t is e = cc
 -- n silent steps are the same with one more letter in the mailbox
 pub silently-delivered : (n : ℕ) (s t : ProcState) (l : Letter) → silently n s ≡ Some t → silently n (delivered s l) ≡ Some (delivered t l)
 unfolding silently
-silently-delivered zero s t l e = ap (λ q. Some (delivered q l)) (some_same s t e)
+silently-delivered zero s t l e = ap (λ q. Some (delivered q l)) (same_Some s t e)
 silently-delivered (suc n) s t l e = by_case (silently n s) refl e (λ q is. silently-delivered n s q l is)
   where
     by_case : (o : Option ProcState) → silently n s ≡ o → option_and_then (λ q. silent_of (next_step q)) o ≡ Some t

@@ -1,6 +1,7 @@
 -- Instructions that step are silent steps.
-use Rattle.std.proofs.Common.{◌≡◌, ℕ, zero, suc, ◌+◌, ◌-◌, ◌≤◌, Bool, false, List, Option, Some, None, refl, sym, ap, ◌∙◌, eqb, arith, option_map, option_and_then, unwrap_or}
+use Rattle.std.proofs.Common.{◌≡◌, ℕ, zero, suc, ◌+◌, ◌-◌, ◌≤◌, Bool, false, List, Option, Some, None, refl, sym, ap, ◌∙◌, eqb, arith, option_map, option_and_then}
 use Rattle.std.proofs.lemmas.Bool.Decides.{nat_tests}
+use Rattle.std.proofs.lemmas.Option.{same_Some}
 use Rattle.t32_base.specs.declared.process.Status.{Status}
 use Rattle.t32_base.specs.declared.process.Status.TheVariants.{Live}
 use Rattle.t32_base.specs.Registers.{Registers}
@@ -9,9 +10,6 @@ use Rattle.rv_cpu.specs.Run.{Machine, stepped, one, ran}
 use Rattle.proc_state.specs.State.{ProcState, with_small}
 use Rattle.sys_calls.specs.Small.{spent, after_instructions}
 use Rattle.sys_calls.specs.Next.{Marked, next_step, step_by, live_step, after_exec, silent_of, silent_step, silently, silently_marked, step_marks, marks_by, marks_executed, marks_live}
-
-some_same : {X : Type 0} → (x y : X) → Some x ≡ Some y → x ≡ y
-some_same x y e = ap (λ o. unwrap_or o x) e
 
 -- the process after n instructions that left a machine
 abbrev moved : ℕ → ProcState → Machine → ProcState
@@ -38,7 +36,7 @@ counted p n regs bytes =
 by_outcome : (x : Executed) (n : ℕ) (p : ProcState) (m m' : Machine) (dirty : List Bool) → stepped x dirty ≡ Some m'
     → option_map (λ (q : ProcState). let r : Marked = record { state = q; marks = marks_executed x (moved n p m) dirty } in r) (silent_of (after_exec x (with_small (moved n p m) (spent (moved n p m).small)))) ≡ Some (moved_marked (suc n) p m')
 by_outcome (Steps regs bytes) n p m m' dirty e =
-    let is : record { regs = regs; bytes = bytes; dirty = dirty } ≡ m' = some_same _ m' e in
+    let is : record { regs = regs; bytes = bytes; dirty = dirty } ≡ m' = same_Some _ m' e in
     ap (λ q. Some (record { state = q; marks = dirty })) (counted p n regs bytes) ∙ ap (λ x. Some (moved_marked (suc n) p x)) is
 by_outcome Calls n p m m' dirty e = cc
 by_outcome (Traps code) n p m m' dirty e = cc
@@ -70,7 +68,7 @@ more_ran n p dirty m (Some m1) live some is e before = rw (before m1 is) (one_mo
 pub ran_silently : (n : ℕ) (p : ProcState) (dirty : List Bool) (m : Machine) → (p.small).status ≡ Live → n ≤ (p.small).left → ran n (of_process p dirty) ≡ Some m
     → silently_marked n (record { state = p; marks = dirty }) ≡ Some (moved_marked n p m)
 unfolding ran silently_marked
-ran_silently zero p dirty m live some steps = ap Some (sym (none_moved p dirty)) ∙ ap (λ x. Some (moved_marked 0 p x)) (some_same _ m steps)
+ran_silently zero p dirty m live some steps = ap Some (sym (none_moved p dirty)) ∙ ap (λ x. Some (moved_marked 0 p x)) (same_Some _ m steps)
 ran_silently (suc n) p dirty m live some steps =
     more_ran n p dirty m (ran n (of_process p dirty)) live some refl steps (λ m1 is. ran_silently n p dirty m1 live (omega arith) is)
 

@@ -1,6 +1,7 @@
 -- Between silent steps no signal can be taken: instructions leave what a take asks for.
-use Rattle.std.proofs.Common.{◌≡◌, ℕ, zero, suc, ◌+◌, ◌-◌, ◌≤◌, inl, inr, refl, sym, ◌∙◌, ap, subst, arith, Bool, false, List, Option, Some, None, option_and_then, unwrap_or}
+use Rattle.std.proofs.Common.{◌≡◌, ℕ, zero, suc, ◌+◌, ◌-◌, ◌≤◌, inl, inr, refl, sym, ◌∙◌, ap, subst, arith, Bool, false, List, Option, Some, None, option_and_then}
 use Rattle.std.proofs.lemmas.Bool.{cases_lt}
+use Rattle.std.proofs.lemmas.Option.{same_Some}
 use Rattle.t32_base.specs.declared.process.Status.TheVariants.{Live}
 use Rattle.rv_cpu.specs.Run.{Machine, one, ran}
 use Rattle.proc_state.specs.State.{ProcState, can_take}
@@ -9,16 +10,13 @@ use Rattle.sys_calls.specs.Steps.{StaysUntaken}
 use Rattle.sys_calls.specs.Small.{after_instructions}
 use Rattle.sys_calls.proofs.Running.{of_process, ran_silently, silently-marked}
 
-some_same : {X : Type 0} → (x y : X) → Some x ≡ Some y → x ≡ y
-some_same x y e = ap (λ o. unwrap_or o x) e
-
 -- one silent step more
 pub untaken_by_last : (n : ℕ) (s t : ProcState) → StaysUntaken n s → silently (suc n) s ≡ Some t → (can_take s ≡ false → can_take t ≡ false) → StaysUntaken (suc n) s
 untaken_by_last n s t before last after none m q within made = elim (cases_lt m (suc n)) [
   | inl below ↦ before none m q (omega (arith, below)) made
   | inr above ↦
       let at : m ≡ suc n = omega (arith, within, above) in
-      let same : t ≡ q = some_same t q (sym last ∙ ap (λ k. silently k s) (sym at) ∙ made) in
+      let same : t ≡ q = same_Some t q (sym last ∙ ap (λ k. silently k s) (sym at) ∙ made) in
       subst (λ r. can_take r ≡ false) same (after none)
 ]
 
@@ -26,7 +24,7 @@ pub untaken_none : (s : ProcState) → StaysUntaken 0 s
 unfolding silently
 untaken_none s none m q within made =
     let at : m ≡ 0 = omega (arith, within) in
-    let same : s ≡ q = some_same s q (ap (λ k. silently k s) (sym at) ∙ made) in
+    let same : s ≡ q = same_Some s q (ap (λ k. silently k s) (sym at) ∙ made) in
     subst (λ r. can_take r ≡ false) same none
 
 again : (n : ℕ) (o : Option ProcState) → option_and_then (λ q. silent_of (next_step q)) (option_and_then (silently n) o) ≡ option_and_then (silently (suc n)) o

@@ -1,5 +1,6 @@
 -- Only a read waits.
-use Rattle.std.proofs.Common.{◌≡◌, ℕ, Bool, true, false, cond, eqb, ltb, not, Option, Some, None, is_none, refl, sym, ap, ◌∙◌, unwrap_or}
+use Rattle.std.proofs.Common.{◌≡◌, ℕ, Bool, true, false, cond, eqb, ltb, not, Option, Some, None, is_none, refl, sym, ap, ◌∙◌}
+use Rattle.std.proofs.lemmas.Option.{same_Some}
 use Rattle.t32_base.specs.declared.letter.Arrived.{Arrived}
 use Rattle.t32_base.specs.declared.letter.To.{To}
 use Rattle.t32_base.specs.declared.letter.To.TheVariants.{Proc, Tty}
@@ -71,15 +72,12 @@ no_read p SigReturn e = let q = with_small p (spent p.small) in returns q (q.sma
 no_read p Close e = closes (with_small p (spent p.small)) (arg p 0) (leads_at (p.small).ends (arg p 0))
 no_read p Unknown e = refl
 
-some_same : {X : Type 0} → (x y : X) → Some x ≡ Some y → x ≡ y
-some_same x y e = ap (λ o. unwrap_or o x) e
-
 -- a read waits where it does after its checks
 a_read : (p : ProcState) (c : Call) (reading : Reading) → reading_of c p ≡ Some reading → is_blocked (read_call p reading) ≡ is_blocked (called c (with_small p (spent p.small)))
 a_read p ExitCall reading e = cc
 a_read p Write reading e = cc
-a_read p Read reading e = ap (λ r. is_blocked (read_call p r)) (sym (some_same (read_checked p) reading e)) ∙ alike p (read_checked p)
-a_read p ReadAny reading e = ap (λ r. is_blocked (read_call p r)) (sym (some_same (read_any_checked p) reading e)) ∙ alike p (read_any_checked p)
+a_read p Read reading e = ap (λ r. is_blocked (read_call p r)) (sym (same_Some (read_checked p) reading e)) ∙ alike p (read_checked p)
+a_read p ReadAny reading e = ap (λ r. is_blocked (read_call p r)) (sym (same_Some (read_any_checked p) reading e)) ∙ alike p (read_any_checked p)
 a_read p ForkCall reading e = cc
 a_read p GetPid reading e = cc
 a_read p Handler reading e = cc
@@ -121,8 +119,8 @@ reads p reading some is read =
 pub reads_called : (p : ProcState) (c : Call) (reading : Reading) → reading_of c p ≡ Some reading → called c (with_small p (spent p.small)) ≡ read_call (with_small p (spent p.small)) reading
 reads_called p ExitCall reading e = cc
 reads_called p Write reading e = cc
-reads_called p Read reading e = ap (λ r. read_call (with_small p (spent p.small)) r) (some_same (read_checked p) reading e)
-reads_called p ReadAny reading e = ap (λ r. read_call (with_small p (spent p.small)) r) (some_same (read_any_checked p) reading e)
+reads_called p Read reading e = ap (λ r. read_call (with_small p (spent p.small)) r) (same_Some (read_checked p) reading e)
+reads_called p ReadAny reading e = ap (λ r. read_call (with_small p (spent p.small)) r) (same_Some (read_any_checked p) reading e)
 reads_called p ForkCall reading e = cc
 reads_called p GetPid reading e = cc
 reads_called p Handler reading e = cc

@@ -3,7 +3,7 @@ use Rattle.std.proofs.Common.{◌≡◌, ℕ, ◌+◌, ◌<◌, ◌≤◌, ◌^�
 use Rattle.std.specs.List.{flat_map, list_all}
 use Rattle.std.specs.Prelude.{codes}
 use Rattle.std.specs.Fmt.{decimal}
-use Rattle.std.proofs.lemmas.Bool.{lt-leb}
+use Rattle.std.proofs.lemmas.Bool.{lt-leb, or_right}
 use Rattle.std.proofs.lemmas.Bool.Decides.{nat_tests}
 use Rattle.std.proofs.lemmas.List.Sums.{sum_by-cons, sum_by-append}
 use Rattle.text_parts.specs.Numbers.{number_of}
@@ -76,10 +76,6 @@ same_number a = grind (arith, nat_tests)
 or_first : (a b : Bool) → a ≡ true → (a || b) ≡ true
 or_first a b h = rw h refl
 
-or_second : (a b : Bool) → b ≡ true → (a || b) ≡ true
-or_second true b h = refl
-or_second false b h = h
-
 free : (s : System) (done : List (ℕ × ℕ)) (chan : ℕ × ℕ) (rest : List (ℕ × ℕ)) (root : ℕ) → is_system s ≡ true → done ++ chan ∷ rest ≡ s.chans → 1 ≤ root → root ≤ length s.roots → (eqb chan.0 root || eqb chan.1 root) ≡ true → leb 31 (links done root) ≡ false
 free s done chan rest root h e low high linked =
     let few : links (done ++ chan ∷ rest) root ≤ 31 = rw e (link_bounds s root h low high) in
@@ -95,7 +91,7 @@ leads_chan stage s done chan rest key h e ok =
     let first = number_again chan.0 small_first in
     let second = number_again chan.1 small_second in
     let free_first = free s done chan rest chan.0 h e p.least_first p.most_first (or_first (eqb chan.0 chan.0) (eqb chan.1 chan.0) (same_number chan.0)) in
-    let free_second = free s done chan rest chan.1 h e p.least_second p.most_second (or_second (eqb chan.0 chan.1) (eqb chan.1 chan.1) (same_number chan.1)) in
+    let free_second = free s done chan rest chan.1 h e p.least_second p.most_second (or_right (eqb chan.0 chan.1) (eqb chan.1 chan.1) (same_number chan.1)) in
     leads_one (at_chans stage s done) (at_chans Chans s (done ++ chan ∷ [])) keywords.Chan (codes "chan") (decimal chan.0 ∷ decimal chan.1 ∷ []) (both _ _ refl (both _ _ (plain_number chan.0 small_first) (both _ _ (plain_number chan.1 small_second) refl))) refl key refl
     (keeps_chan (at_chans stage s done) (decimal chan.0) (decimal chan.1) chan.0 chan.1 first second p.apart p.first p.second free_first free_second) (adds_chan stage s done chan (decimal chan.0) (decimal chan.1) first second)
 

@@ -2,6 +2,7 @@
 use Rattle.std.proofs.Common.{◌≡◌, ℕ, zero, suc, ◌+◌, ◌-◌, ◌<◌, ◌≤◌, Bool, true, false, cond, not, List, [], ◌∷◌, ◌++◌, length, get_or, take, drop, refl, sym, ap, ◌∙◌, arith}
 use Rattle.std.specs.List.{slice_split, onto_first, filter}
 use Rattle.std.proofs.lemmas.List.{take_rest, length-take, length-drop}
+use Rattle.std.proofs.lemmas.Bool.{false_from_ne_true}
 use Rattle.text_parts.specs.Lines.{is_newline, is_space, is_empty, lines_of, fields_of, before, from, trim_start}
 
 -- ---- before and from
@@ -31,23 +32,18 @@ pub record Scanned (p : ℕ → Bool) (xs : List ℕ) (i : ℕ) : Type 0 where
   pub front : take i xs ++ before p (drop i xs) ≡ before p xs
   pub rest : from p (drop i xs) ≡ from p xs
 
--- a cut at the first byte that passes, where a search found it
-not_true : (b : Bool) → (b ≡ true → ⊥) → b ≡ false
-not_true true h = absurd (h refl)
-not_true false h = refl
-
 pub cut_first : (p : ℕ → Bool) (xs : List ℕ) (k : ℕ) → k < length xs → p (get_or xs k 0) ≡ true → ((j : ℕ) → j < k → p (get_or xs j 0) ≡ true → ⊥) → (take k xs ≡ before p xs) × (drop k xs ≡ from p xs)
 cut_first p [] k lt passes none = absurd (omega arith)
 cut_first p (x ∷ xs) zero lt passes none = (sym (before-yes p x xs passes), sym (from-yes p x xs passes))
 cut_first p (x ∷ xs) (suc k) lt passes none =
-    let fails : p x ≡ false = not_true (p x) (none 0 (omega arith)) in
+    let fails : p x ≡ false = false_from_ne_true (p x) (none 0 (omega arith)) in
     let r = cut_first p xs k (omega arith) passes (λ j l e. none (suc j) (omega arith) e) in
     (ap (λ (t : List ℕ). x ∷ t) r.0 ∙ sym (before-no p x xs fails), r.1 ∙ sym (from-no p x xs fails))
 
 pub cut_none : (p : ℕ → Bool) (xs : List ℕ) → ((j : ℕ) → j < length xs → p (get_or xs j 0) ≡ true → ⊥) → (xs ≡ before p xs) × ([] ≡ from p xs)
 cut_none p [] none = (refl, refl)
 cut_none p (x ∷ xs) none =
-    let fails : p x ≡ false = not_true (p x) (none 0 (omega arith)) in
+    let fails : p x ≡ false = false_from_ne_true (p x) (none 0 (omega arith)) in
     let r = cut_none p xs (λ j l e. none (suc j) (omega arith) e) in
     (ap (λ (t : List ℕ). x ∷ t) r.0 ∙ sym (before-no p x xs fails), r.1 ∙ sym (from-no p x xs fails))
 

@@ -8,7 +8,7 @@ use Rattle.write_count.specs.Counting.{counts_of, total_of}
 use Rattle.write_count.proofs.CountLaws.{counts_of-append, length-counts_of, total_of-raised}
 use Rattle.sys_calls.specs.declared.steps.Emission.TheVariants.{Mail as Sent, Exit as Ended}
 use Rattle.bus_msg.specs.declared.entry.What.{What}
-use Rattle.bus_msg.specs.declared.entry.What.TheVariants.{Mail, Birth, Exit, Page, Sync, Fetch, PageIs, Crash, Return, Rebackup, Done, Stop}
+use Rattle.bus_msg.specs.declared.entry.What.TheVariants.{Mail, Birth, Exit}
 use Rattle.bus_msg.specs.Places.{same_pid}
 use Rattle.roll_forward.specs.Deeds.{Deed, Bears, Sends, births_in, child_in, letter_in, letters_in}
 use Rattle.cert_sched.specs.Deeds.{deeds_in}

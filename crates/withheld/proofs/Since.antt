@@ -1,9 +1,10 @@
 -- What one more entry makes of the count of a process, which is never more than the log has entries.
 use Rattle.std.proofs.Common.{◌≡◌, ℕ, ◌+◌, ◌≤◌, refl, ◌∙◌, ap, arith, List, [], ◌∷◌, ◌++◌, length, length-append, Bool, true, false, cond, ◌||◌}
 use Rattle.t32_base.specs.declared.process.Pid.{Pid}
+use Rattle.t32_base.proofs.Facts.{one_at_most}
 use Rattle.sys_text.specs.declared.system.System.{System}
 use Rattle.bus_msg.specs.declared.entry.What.{What}
-use Rattle.bus_msg.specs.declared.entry.What.TheVariants.{Mail, Birth, Exit, Page, Sync, Fetch, PageIs, Crash, Return, Rebackup, Done, Stop}
+use Rattle.bus_msg.specs.declared.entry.What.TheVariants.{Mail, Birth}
 use Rattle.bus_msg.specs.declared.entry.Entry.{Entry}
 use Rattle.bus_msg.specs.Places.{same_pid}
 use Rattle.bus_msg.specs.PlacedAfter.{what}
@@ -24,13 +25,9 @@ count_more system log e p stands = ap total_in (since-snoc log e p) ∙ by_start
 
 -- ---- no more than the log has entries
 
-at_most_one : (b : Bool) → cond b 1 0 ≤ 1
-at_most_one true = omega arith
-at_most_one false = omega arith
-
 one_deed : (p : Pid) (w : What) → deeds_told p w ≤ 1
-one_deed p (Mail at letter) = at_most_one (same_pid letter.from p)
-one_deed p (Birth parent at child end) = at_most_one (same_pid parent p)
+one_deed p (Mail at letter) = one_at_most (same_pid letter.from p)
+one_deed p (Birth parent at child end) = one_at_most (same_pid parent p)
 one_deed p _ = omega arith
 
 one_higher : (p : Pid) (w : What) (n : ℕ) → count_after p w n ≤ n + 1

@@ -4,11 +4,13 @@ use Rattle.std.specs.Prelude.{nat_le, option_and_then}
 use Rattle.std.specs.List.{list_all}
 use Rattle.std.specs.Option.{option_map_or}
 use Rattle.std.proofs.lemmas.Bool.{and_parts}
+use Rattle.std.proofs.lemmas.Option.{same_Some}
 use Rattle.t32_base.specs.declared.process.Pid.{Pid}
 use Rattle.t32_base.specs.declared.process.ClusterNo.{ClusterNo}
 use Rattle.t32_base.specs.declared.letter.Arrived.{Arrived}
 use Rattle.t32_base.specs.declared.letter.Letter.{Letter}
 use Rattle.t32_base.specs.Account.{Account, page_in}
+use Rattle.t32_base.proofs.Facts.{or_false}
 use Rattle.sys_text.specs.declared.system.System.{System}
 use Rattle.proc_state.specs.State.{ProcState, delivered, has_ended}
 use Rattle.sys_calls.specs.declared.steps.Emission.TheVariants.{Mail as Sent, Exit as Ended}
@@ -16,9 +18,8 @@ use Rattle.sys_calls.specs.Next.{silently}
 use Rattle.sys_calls.proofs.Counting.{silently_counts}
 use Rattle.sys_calls.proofs.RunLemma.{all_delivered, silently-all_delivered}
 use Rattle.plain_kernel.specs.Kernel.{Kernel, process_at}
-use Rattle.plain_kernel.proofs.Entries.{some_same}
 use Rattle.bus_msg.specs.declared.entry.What.{What}
-use Rattle.bus_msg.specs.declared.entry.What.TheVariants.{Mail, Birth, Exit, Page, Sync, Fetch, PageIs, Crash, Return, Rebackup, Done, Stop}
+use Rattle.bus_msg.specs.declared.entry.What.TheVariants.{Mail, Birth, Exit, Sync, Rebackup, Done}
 use Rattle.bus_msg.specs.declared.entry.By.TheVariants.{Cluster}
 use Rattle.bus_msg.specs.declared.entry.Entry.{Entry}
 use Rattle.bus_msg.specs.Places.{Places, same_pid}
@@ -46,7 +47,6 @@ use Rattle.cert_sched.proofs.RollLaws.{AllRoll, Rolls, all_roll, rolls_next, two
 use Rattle.cert_sched.proofs.MadeLaws.{apart_from}
 use Rattle.cert_sched.proofs.StepLaws.{SilentFrom, done_after-other, done_after-quiet, done_kernel, silent_from}
 use Rattle.cert_sched.proofs.ThereLaws.{unended_there}
-use Rattle.log_laws.proofs.pages.OneEntry.{or_nothing}
 use Rattle.log_laws.proofs.pages.PagesStay.{page_count-snoc}
 use Rattle.log_laws.specs.letters.Numbered.{are_below, are_in_order}
 use Rattle.log_laws.proofs.letters.LogReads.{itself, all_saved_numbered}
@@ -157,7 +157,7 @@ module _ (system : System) (log : List Entry) (e : Entry) (k : ClusterNo) (p : P
     where
       went : (now : ProcState) → process_after system (log ++ e ∷ []) p ≡ Some now → Came system log (what e) p now → now ≡ all_delivered was letters
       went now after (went_on w here birth g) =
-          let same : w ≡ was = some_same w was (sym here ∙ there) in
+          let same : w ≡ was = same_Some w was (sym here ∙ there) in
           let made : Replays g.made w [] g.to = subst (λ ds. Replays g.made w ds g.to) comes.no_deeds g.replays in
           let steps = (replays_counts g.made w g.to [] made).steps in
           let delivered_steps : (now.small).steps ≡ ((g.to).small).steps = ap (λ (x : ProcState). (x.small).steps) (g.arrives ∙ all_delivered-is g.to letters) in
@@ -212,7 +212,7 @@ module _ (system : System) (log : List Entry) (e : Entry) (k : ClusterNo) (p : P
   comes_to t = as_delivered t letters ∙ all_delivered-is t letters
 
   stated : has_state system (log ++ e ∷ []) p ≡ has_state system log p
-  stated = has_state-snoc system log e p ∙ ap (λ b. has_state system log p || b) (comes.leaves).no_cut ∙ or_nothing (has_state system log p)
+  stated = has_state-snoc system log e p ∙ ap (λ b. has_state system log p || b) (comes.leaves).no_cut ∙ or_false (has_state system log p)
 
   due_stays : is_due_at system (log ++ e ∷ []) p took (with_mail before) ≡ is_due_at system log p took before
   due_stays =
@@ -242,13 +242,13 @@ module _ (system : System) (log : List Entry) (e : Entry) (k : ClusterNo) (p : P
   -- where it was before its take, it is with the letters
   pub batch_reached : (t : ProcState) → silent_upto system log p (s.small).steps ≡ Some t → silent_upto system (log ++ e ∷ []) p (s.small).steps ≡ Some (with_letters t letters)
   batch_reached t is =
-      let here : before ≡ t = some_same before t (sym (b.may).reached ∙ ap (silent_upto system log p) (sym same.steps) ∙ is) in
+      let here : before ≡ t = same_Some before t (sym (b.may).reached ∙ ap (silent_upto system log p) (sym same.steps) ∙ is) in
       ap (silent_upto system (log ++ e ∷ []) p) same.steps ∙ reached ∙ ap Some (sym (as_delivered before letters) ∙ ap (λ (x : ProcState). with_letters x letters) here)
 
   -- so the batch is under way with the process as it is after the take from there
   pub batch_found : (at t : ProcState) → silent_upto system (log ++ e ∷ []) p (s.small).steps ≡ Some at → TakesTo took at t → BatchMay system (log ++ e ∷ []) k p t read took indices
   batch_found at t is takes =
-      let here : with_letters before letters ≡ at = some_same (with_letters before letters) at (ap Some (as_delivered before letters) ∙ sym reached ∙ ap (silent_upto system (log ++ e ∷ []) p) (sym same.steps) ∙ is) in
+      let here : with_letters before letters ≡ at = same_Some (with_letters before letters) at (ap Some (as_delivered before letters) ∙ sym reached ∙ ap (silent_upto system (log ++ e ∷ []) p) (sym same.steps) ∙ is) in
       let later : with_letters s letters ≡ t = sym (letters_come took before s letters b.takes).after ∙ ap (after_take took) here ∙ takes.after in
       subst (λ x. BatchMay system (log ++ e ∷ []) k p x read took indices) later batch_stays
 

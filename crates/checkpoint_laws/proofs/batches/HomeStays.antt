@@ -3,7 +3,7 @@ use Rattle.std.proofs.Common.{◌≡◌, ℕ, refl, sym, ◌∙◌, ap, List, []
 use Rattle.std.specs.Prelude.{find, option_map}
 use Rattle.std.specs.List.{list_any}
 use Rattle.std.specs.Option.{option_map_or}
-use Rattle.std.proofs.lemmas.Bool.{and_parts}
+use Rattle.std.proofs.lemmas.Bool.{and_parts, or_parts}
 use Rattle.t32_base.specs.declared.process.Pid.{Pid}
 use Rattle.t32_base.specs.declared.process.ClusterNo.{ClusterNo}
 use Rattle.sys_text.specs.declared.system.System.{System}
@@ -23,7 +23,7 @@ use Rattle.cert_sched.specs.Legal.{IsLegalBy, Stands}
 use Rattle.cert_sched.proofs.FreshLaws.{only_one, put_here}
 use Rattle.cert_sched.proofs.LogLaws.{placement-snoc}
 use Rattle.cert_sched.proofs.PidLaws.{placed_pids}
-use Rattle.cert_sched.proofs.RisingLaws.{NoTwo, either_not}
+use Rattle.cert_sched.proofs.RisingLaws.{NoTwo}
 use Rattle.cert_sched.proofs.RollLaws.{all_roll, two_apart}
 use Rattle.log_laws.specs.pages.Next.{moves_next}
 use Rattle.log_laws.proofs.pages.OneEntry.{turned}
@@ -35,7 +35,7 @@ use Rattle.log_laws.proofs.letters.LogReads.{itself}
 none_other : (t : Placed → Bool) (p : Pid) (n : ℕ) (qs : List Placed) → n ≡ p.0 → list_any (λ m. eqb m n) (placed_pids qs) ≡ false → list_any (λ (r : Placed). same_pid r.pid p && t r) qs ≡ false
 none_other t p n [] same none = refl
 none_other t p n (r ∷ qs) same none =
-    let parts = either_not (eqb (r.pid).0 n) (list_any (λ m. eqb m n) (placed_pids qs)) none in
+    let parts = or_parts (eqb (r.pid).0 n) (list_any (λ m. eqb m n) (placed_pids qs)) none in
     let other : same_pid r.pid p ≡ false = ap (eqb (r.pid).0) (sym same) ∙ parts.0 in
     λ i. (other i && t r) || none_other t p n qs same parts.1 i
 

@@ -6,18 +6,11 @@ use Rattle.std.proofs.lemmas.Bool.Decides.{nat_tests}
 use Rattle.std.proofs.lemmas.List.Folds.{list_any-append}
 use Rattle.t32_base.specs.declared.letter.Arrived.{Arrived}
 use Rattle.t32_base.specs.declared.letter.Letter.{Letter}
+use Rattle.t32_base.proofs.Facts.{or_false, or_true}
 use Rattle.cert_sched.specs.Deeds.{numbered}
 use Rattle.cert_sched.specs.Steps.{numbers_read}
 use Rattle.log_laws.specs.letters.Numbered.{are_below}
 use Rattle.checkpoint_laws.proofs.posts.TakenNumbers.{has}
-
-or_nothing : (b : Bool) → (b || false) ≡ b
-or_nothing true = refl
-or_nothing false = refl
-
-or_true : (b : Bool) → (b || true) ≡ true
-or_true true = refl
-or_true false = refl
 
 less_of : (m n : ℕ) → ltb m n ≡ true → m < n
 less_of m n less = grind (arith, nat_tests)
@@ -50,7 +43,7 @@ module _ (n : ℕ) (letters : List Letter) (mail : List Arrived) where
 
   -- a lower number is in the mailbox where it was
   same_there : (m : ℕ) → m < n → has m (mail ++ new) ≡ has m mail
-  same_there m less = list_any-append (λ (b : Arrived). eqb b.number m) mail new ∙ ap (λ b. has m mail || b) (none_lower m n letters less) ∙ or_nothing (has m mail)
+  same_there m less = list_any-append (λ (b : Arrived). eqb b.number m) mail new ∙ ap (λ b. has m mail || b) (none_lower m n letters less) ∙ or_false (has m mail)
 
   pub same_read : (saved : List Arrived) → are_below n saved ≡ true → numbers_read (saved ++ new) (mail ++ new) ≡ numbers_read saved mail
   same_read [] below = new_there

@@ -1,7 +1,8 @@
 -- What the log says with the rest of a batch at its end: every other process has the marks that it had, and the pages were sent up to where they were.
-use Rattle.std.proofs.Common.{◌≡◌, ℕ, ◌+◌, ◌≤◌, refl, sym, ◌∙◌, ap, arith, List, [], ◌∷◌, ◌++◌, Bool, true, false, ◌||◌, None, is_some, true≢false, Option}
+use Rattle.std.proofs.Common.{◌≡◌, ℕ, ◌+◌, ◌≤◌, refl, sym, ◌∙◌, ap, arith, List, [], ◌∷◌, ◌++◌, true, false, None, is_some, Option}
 use Rattle.t32_base.specs.declared.process.Pid.{Pid}
 use Rattle.t32_base.specs.declared.process.ClusterNo.{ClusterNo}
+use Rattle.t32_base.proofs.Facts.{or_first}
 use Rattle.sys_text.specs.declared.system.System.{System}
 use Rattle.sys_text.specs.Valid.{is_system}
 use Rattle.rv_mem.specs.Memory.{page_at}
@@ -60,14 +61,10 @@ module _ (system : System) (k : ClusterNo) (p q : Pid) (s : ProcState) (read : L
 
 -- ---- the pages that were sent
 
-first_false : (a b : Bool) → (a || b) ≡ false → a ≡ false
-first_false true b none = absurd (true≢false none)
-first_false false b none = refl
-
 -- before an entry that loses no cluster no more were sent
 sent_before : (system : System) (log : List Entry) (e : Entry) (q : Pid) (n : ℕ) → cluster_lost (what e) ≡ None → SentUpto system (log ++ e ∷ []) q n → SentUpto system log q n
 sent_before system log e q n none upto =
-    first_false (any_since_moved system log q (is_later_page q n)) (is_later_page q n (what e)) (sym (any_since-goes_on system log e q (is_later_page q n) (moves_none system log e none q)) ∙ upto)
+    or_first (any_since_moved system log q (is_later_page q n)) (is_later_page q n (what e)) (sym (any_since-goes_on system log e q (is_later_page q n) (moves_none system log e none q)) ∙ upto)
 
 module _ (system : System) (k : ClusterNo) (p : Pid) (s : ProcState) (read : List ℕ) (took : Option ℕ) (n : ℕ) where
   pub queued_own : (log : List Entry) (indices : List ℕ) → (s.small).steps ≤ n → SentUpto system log p n → SentUpto system (log_with system log (posts_left k p s read took indices)) p n

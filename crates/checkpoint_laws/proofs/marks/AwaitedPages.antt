@@ -1,6 +1,7 @@
 -- A process that lacks pages since a crash moved it has sent none since, and its account has nothing but what was kept.
 use Rattle.std.proofs.Common.{◌≡◌, ℕ, refl, sym, ◌∙◌, ap, List, [], ◌∷◌, ◌++◌, Bool, true, false, cond, ◌||◌, Option, Some, None, is_some, true≢false}
 use Rattle.std.specs.Option.{option_map_or}
+use Rattle.std.proofs.lemmas.Bool.{false_from_ne_true}
 use Rattle.t32_base.specs.declared.process.Pid.{Pid}
 use Rattle.t32_base.specs.Account.{Account, no_pages, committed, reverted}
 use Rattle.sys_text.specs.declared.system.System.{System}
@@ -65,10 +66,6 @@ record StaysStill (system : System) (log : List Entry) (p : Pid) : Type 0 where
   pub lacking : has_its_pages system log p ≡ false → IsStill system log p
   pub absent : is_some (process_after system log p) ≡ false → IsStill system log p
 
-contrary : (b : Bool) → (b ≡ true → ⊥) → b ≡ false
-contrary true not_so = absurd (not_so refl)
-contrary false not_so = refl
-
 module _ (system : System) (log : List Entry) (e : Entry) (p : Pid) (stands : Stands system log e) (keeps : KeepsWaits system log e) (before : StaysStill system log p) where
   account : Account
   account = account_after system log p
@@ -98,10 +95,10 @@ module _ (system : System) (log : List Entry) (e : Entry) (p : Pid) (stands : St
   page_there _ kind is = absurd (true≢false (sym is))
 
   still_absent : is_some (process_after system log p) ≡ false → IsStill system (log ++ e ∷ []) p
-  still_absent none = still_after (λ stays. (before.absent none, contrary (is_some_page p (what e)) (λ is. true≢false (sym (page_there (what e) stands.kind is) ∙ none))))
+  still_absent none = still_after (λ stays. (before.absent none, false_from_ne_true (is_some_page p (what e)) (λ is. true≢false (sym (page_there (what e) stands.kind is) ∙ none))))
 
   absent_before : is_some (process_after system (log ++ e ∷ []) p) ≡ false → is_some (process_after system log p) ≡ false
-  absent_before none = contrary (is_some (process_after system log p)) (λ there. true≢false (sym (there_stays system log e p there stands.applies) ∙ none))
+  absent_before none = false_from_ne_true (is_some (process_after system log p)) (λ there. true≢false (sym (there_stays system log e p there stands.applies) ∙ none))
 
   -- ---- where it lacks pages
 
@@ -117,13 +114,13 @@ module _ (system : System) (log : List Entry) (e : Entry) (p : Pid) (stands : St
     where
       -- where it is not born it lacked them before
       lacked : is_birth_of p (what e) ≡ false → moves_next system log e p ≡ false → has_its_pages system log p ≡ false
-      lacked no_birth stays = contrary (has_its_pages system log p) (λ has. true≢false (sym (pages_kept system log e p stands no_birth stays has) ∙ lacks))
+      lacked no_birth stays = false_from_ne_true (has_its_pages system log p) (λ has. true≢false (sym (pages_kept system log e p stands no_birth stays has) ∙ lacks))
 
       by_birth : (b : Bool) → is_birth_of p (what e) ≡ b → IsStill system (log ++ e ∷ []) p
       by_birth true birth = still_absent (born_absent birth)
       by_birth false other = still_after (λ stays. (
         before.lacking (lacked other stays),
-        contrary (is_some_page p (what e)) (λ is. true≢false (sym (sender_has system log p (what e) is keeps) ∙ lacked other stays)),
+        false_from_ne_true (is_some_page p (what e)) (λ is. true≢false (sym (sender_has system log p (what e) is keeps) ∙ lacked other stays)),
       ))
 
 still : (May : System → List Entry → Entry → Type 0) → IsWaitingRule May → (system : System) (log : List Entry) (p : Pid) → IsLegalBy May system log → has_its_pages system log p ≡ false → IsStill system log p

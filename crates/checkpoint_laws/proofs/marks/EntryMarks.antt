@@ -9,6 +9,7 @@ use Rattle.t32_base.specs.declared.process.Pid.{Pid}
 use Rattle.t32_base.specs.declared.letter.Letter.{Letter}
 use Rattle.t32_base.specs.declared.letter.Arrived.{Arrived}
 use Rattle.t32_base.specs.Account.{Account, no_pages, page_in, committed, reverted}
+use Rattle.t32_base.proofs.Facts.{or_false}
 use Rattle.sys_text.specs.declared.system.System.{System}
 use Rattle.sys_text.specs.Valid.{is_system}
 use Rattle.proc_state.specs.declared.process.Process.{Process}
@@ -30,7 +31,7 @@ use Rattle.cert_sched.proofs.OpenLaws.{unended_open}
 use Rattle.cert_sched.proofs.RecordLaws.{saved_letters-other}
 use Rattle.cert_sched.proofs.RollLaws.{Rolls, all_roll}
 use Rattle.cert_sched.proofs.ThereLaws.{unended_there}
-use Rattle.log_laws.proofs.pages.OneEntry.{any_since-goes_on, or_nothing}
+use Rattle.log_laws.proofs.pages.OneEntry.{any_since-goes_on}
 use Rattle.log_laws.proofs.letters.LogReads.{itself}
 use Rattle.checkpoint_laws.specs.posts.Marked.{IsMarked, arrived_below}
 use Rattle.checkpoint_laws.proofs.posts.Beside.{start_stays}
@@ -92,7 +93,7 @@ module _ (system : System) (log : List Entry) (e : Entry) (p : Pid) (leaves : Le
   sent_stay i steps =
       any_since-goes_on system log e p (is_page_at p i steps) leaves.stays
       ∙ ap (λ b. any_since_moved system log p (is_page_at p i steps) || b) (not_at p i steps (what e) leaves.no_page)
-      ∙ or_nothing (any_since_moved system log p (is_page_at p i steps))
+      ∙ or_false (any_since_moved system log p (is_page_at p i steps))
 
   module _ (valid : is_system system ≡ true) (legal : IsLegalBy Stands system log) (unended : IsUnended system log p) where
     -- the saved letters of the process, from its start

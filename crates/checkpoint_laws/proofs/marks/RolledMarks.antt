@@ -1,6 +1,7 @@
 -- A process that rolls forward has its marks after steps that are silent or withheld.
 use Rattle.std.proofs.Common.{◌≡◌, ℕ, zero, suc, ◌+◌, ◌<◌, sym, ◌∙◌, ap, subst, arith, List, length, Bool, true, false, slice_get, Some}
 use Rattle.std.specs.Option.{option_map_or}
+use Rattle.std.proofs.lemmas.Option.{same_Some}
 use Rattle.t32_base.specs.declared.process.Pid.{Pid}
 use Rattle.t32_base.specs.declared.process.Counts.{Counts}
 use Rattle.t32_base.specs.declared.letter.Arrived.{Arrived}
@@ -8,7 +9,6 @@ use Rattle.sys_text.specs.declared.system.System.{System}
 use Rattle.rv_mem.specs.Memory.{page_at}
 use Rattle.proc_state.specs.declared.process.Process.{Process}
 use Rattle.proc_state.specs.State.{state_of}
-use Rattle.plain_kernel.proofs.Entries.{some_same}
 use Rattle.roll_forward.specs.Advancing.{Going, going, rolled_on}
 use Rattle.roll_forward.proofs.RollLaws.{rolled_keeps}
 use Rattle.roll_forward.proofs.RolledLaws.{RolledKeeps, rolled_keeps as rolled_counts}
@@ -36,7 +36,7 @@ rolled_sent system log p n old new counts left births unborn upto rolled =
 -- no steps leave the marks
 none_rolled : (g h : Going) → rolled_on 0 g ≡ Some h → h.marks ≡ g.marks
 unfolding rolled_on
-none_rolled g h rolled = ap (λ (k : Going). k.marks) (sym (some_same g h rolled))
+none_rolled g h rolled = ap (λ (k : Going). k.marks) (sym (same_Some g h rolled))
 
 module _ (system : System) (log : List Entry) (p : Pid) (n : ℕ) (old new : Process) (counts left : Counts) (births unborn : List Pid) (rolls : RollsMarked system log p old) (upto : SentUpto system log p (old.small).steps)
     (rolled : rolled_on n (going old counts births) ≡ Some (going new left unborn)) where

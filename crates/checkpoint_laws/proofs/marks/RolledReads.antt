@@ -1,6 +1,7 @@
 -- What steps of a process that rolls forward leave, and that the letters read stay those that are in the mailbox no more.
 use Rattle.std.proofs.Common.{◌≡◌, ℕ, zero, suc, refl, sym, ◌∙◌, ap, subst, List, [], ◌∷◌, length, Bool, true, false, cond, ◌||◌, eqb, Option, Some, None}
 use Rattle.std.specs.Prelude.{option_and_then}
+use Rattle.std.proofs.lemmas.Option.{same_Some}
 use Rattle.t32_base.specs.declared.letter.Arrived.{Arrived}
 use Rattle.proc_state.specs.Mail.{without_first}
 use Rattle.sys_calls.specs.declared.steps.Emission.TheVariants.{Mail as Sent, Exit as Ended}
@@ -8,7 +9,6 @@ use Rattle.sys_calls.specs.Calls.{Next, Silent, Blocked, Forks, Emits, Over}
 use Rattle.sys_calls.specs.Next.{letter_taken, next_step, step_marks}
 use Rattle.sys_calls.specs.Steps.{read_after}
 use Rattle.sys_calls.proofs.Taking.{sends_takes_none}
-use Rattle.plain_kernel.proofs.Entries.{some_same}
 use Rattle.roll_forward.specs.Advancing.{Going, gone_on, rolled_on}
 use Rattle.cert_sched.specs.Parts.{put_rising, rising}
 use Rattle.cert_sched.specs.Steps.{numbers_read}
@@ -29,7 +29,7 @@ record StepsOn (g h : Going) : Type 0 where
 
 steps_on : (g h : Going) (next : Next) → next_step g.state ≡ next → gone_on g next ≡ Some h → StepsOn g h
 steps_on g h (Silent t) is gone =
-    subst (λ (k : Going). StepsOn g k) (some_same _ h gone) (record {
+    subst (λ (k : Going). StepsOn g k) (same_Some _ h gone) (record {
       sizes = subst (Keeps g.state) is (next_keeps g.state);
       marks = refl;
       read = refl;
@@ -39,7 +39,7 @@ steps_on g h Blocked is gone = cc
 steps_on g h Forks is gone = cc
 steps_on g h (Emits (Sent letter) t) is gone =
     let none = sends_takes_none g.state t (Sent letter) is in
-    subst (λ (k : Going). StepsOn g k) (some_same _ h gone) (record {
+    subst (λ (k : Going). StepsOn g k) (same_Some _ h gone) (record {
       sizes = subst (Keeps g.state) is (next_keeps g.state);
       marks = refl;
       read = refl;
@@ -95,7 +95,7 @@ pub record RolledOver (g h : Going) : Type 0 where
 
 pub rolled_over : (n : ℕ) (g h : Going) → rolled_on n g ≡ Some h → RolledOver g h
 unfolding rolled_on
-rolled_over zero g h rolled = subst (λ (k : Going). RolledOver g k) (some_same g h rolled) (record { pages = refl; marks = refl; reads = λ saved rises reads. reads })
+rolled_over zero g h rolled = subst (λ (k : Going). RolledOver g k) (same_Some g h rolled) (record { pages = refl; marks = refl; reads = λ saved rises reads. reads })
 rolled_over (suc n) g h rolled = by_case (rolled_on n g) refl rolled (λ k is. rolled_over n g k is)
   where
     by_case : (o : Option Going) → rolled_on n g ≡ o → option_and_then (λ k. gone_on k (next_step k.state)) o ≡ Some h → ((k : Going) → rolled_on n g ≡ Some k → RolledOver g k) → RolledOver g h

@@ -4,6 +4,7 @@ use Rattle.std.specs.List.{list_any}
 use Rattle.std.proofs.lemmas.Bool.{and_parts}
 use Rattle.std.proofs.lemmas.Bool.Decides.{nat_tests}
 use Rattle.t32_base.specs.declared.process.Pid.{Pid}
+use Rattle.t32_base.proofs.Facts.{or_false}
 use Rattle.sys_text.specs.declared.system.System.{System}
 use Rattle.bus_msg.specs.declared.entry.What.{What}
 use Rattle.bus_msg.specs.declared.entry.What.TheVariants.{Page}
@@ -13,7 +14,7 @@ use Rattle.bus_msg.specs.PlacedAfter.{what}
 use Rattle.cert_sched.specs.Told.{Told, told}
 use Rattle.cert_sched.specs.Moved.{any_since_moved, is_page_at, since_moved}
 use Rattle.log_laws.specs.pages.Next.{moves_next}
-use Rattle.log_laws.proofs.pages.OneEntry.{any_since-snoc, or_nothing}
+use Rattle.log_laws.proofs.pages.OneEntry.{any_since-snoc}
 use Rattle.checkpoint_laws.specs.marks.Beside.{is_some_page}
 use Rattle.checkpoint_laws.specs.marks.Sent.{SentUpto, is_later_page}
 
@@ -70,7 +71,7 @@ module _ (system : System) (log : List Entry) (p : Pid) where
   sent_on e n none upto =
       any_since-snoc system log e p (is_later_page p n)
       ∙ ap (λ b. cond (moves_next system log e p) false (any_since_moved system log p (is_later_page p n) || b)) none
-      ∙ ap (cond (moves_next system log e p) false) (or_nothing (any_since_moved system log p (is_later_page p n)) ∙ upto)
+      ∙ ap (cond (moves_next system log e p) false) (or_false (any_since_moved system log p (is_later_page p n)) ∙ upto)
       ∙ either (moves_next system log e p)
     where
       either : (b : Bool) → cond b false false ≡ false

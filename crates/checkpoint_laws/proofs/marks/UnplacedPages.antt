@@ -3,6 +3,7 @@ use Rattle.std.proofs.Common.{◌≡◌, ℕ, sym, ◌∙◌, ap, List, [], ◌�
 use Rattle.std.specs.List.{list_any}
 use Rattle.std.proofs.lemmas.List.{map-append}
 use Rattle.std.proofs.lemmas.List.Folds.{list_any-append}
+use Rattle.std.proofs.lemmas.Bool.{false_from_ne_true, or_left}
 use Rattle.t32_base.specs.declared.process.Pid.{Pid}
 use Rattle.sys_text.specs.declared.system.System.{System}
 use Rattle.bus_msg.specs.declared.entry.What.{What}
@@ -19,7 +20,7 @@ use Rattle.cert_sched.specs.Rules.{is_by_right}
 use Rattle.cert_sched.specs.Legal.{IsLegalBy, Stands}
 use Rattle.cert_sched.proofs.BuiltCuts.{by_home_there}
 use Rattle.cert_sched.proofs.CameLaws.{same_of}
-use Rattle.cert_sched.proofs.FamilyLaws.{In, or_left}
+use Rattle.cert_sched.proofs.FamilyLaws.{In}
 use Rattle.cert_sched.proofs.FreshLaws.{same_pids}
 use Rattle.cert_sched.proofs.Induction.{legal_induction}
 use Rattle.cert_sched.proofs.LogLaws.{placement-snoc}
@@ -46,10 +47,6 @@ sender_placed : (places : Places) (by : By) (p : Pid) (w : What) → is_by_right
 sender_placed places by p (Page q at index bytes) right is = ap (λ (r : Pid). list_any (λ m. eqb m r.0) (placed_pids places.placed)) (sym (same_of q p is)) ∙ found_among q places.placed (by_home_there places by q right)
 sender_placed places by p _ right is = absurd (true≢false (sym is))
 
-contrary : (b : Bool) → (b ≡ true → ⊥) → b ≡ false
-contrary true not_so = absurd (not_so refl)
-contrary false not_so = refl
-
 -- no page of it was sent, since a crash moved it or ever
 Unsent : System → List Entry → Type 0
 Unsent system log = (p : Pid) → list_any (λ m. eqb m p.0) (placed_pids (placement system log).placed) ≡ false → any_since_moved system log p (is_some_page p) ≡ false
@@ -62,11 +59,11 @@ unsent_more system log e before stands p none =
     ∙ either (moves_next system log e p)
   where
     not_there : list_any (λ m. eqb m p.0) (placed_pids (placement system log).placed) ≡ false
-    not_there = contrary (list_any (λ m. eqb m p.0) (placed_pids (placement system log).placed))
+    not_there = false_from_ne_true (list_any (λ m. eqb m p.0) (placed_pids (placement system log).placed))
         (λ there. true≢false (sym (ap (λ (places : Places). list_any (λ m. eqb m p.0) (placed_pids places.placed)) (placement-snoc system log e) ∙ stays_placed p.0 (what e) (placement system log) there) ∙ none))
 
     no_page : is_some_page p (what e) ≡ false
-    no_page = contrary (is_some_page p (what e)) (λ is. true≢false (sym (sender_placed (placement system log) (e.post).by p (what e) stands.by_right is) ∙ not_there))
+    no_page = false_from_ne_true (is_some_page p (what e)) (λ is. true≢false (sym (sender_placed (placement system log) (e.post).by p (what e) stands.by_right is) ∙ not_there))
 
     either : (b : Bool) → cond b false false ≡ false
     either true = refl

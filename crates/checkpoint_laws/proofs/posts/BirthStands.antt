@@ -5,6 +5,7 @@ use Rattle.std.specs.List.{list_any}
 use Rattle.std.specs.Ordering.{nat_cmp, is_eq}
 use Rattle.std.specs.FinMap.{find as find_in}
 use Rattle.std.proofs.lemmas.Bool.Decides.{nat_tests}
+use Rattle.std.proofs.lemmas.Bool.{or_parts}
 use Rattle.t32_base.specs.declared.process.Pid.{Pid}
 use Rattle.sys_text.specs.declared.system.System.{System}
 use Rattle.sys_text.specs.Valid.{is_system}
@@ -33,7 +34,6 @@ use Rattle.cert_sched.proofs.FamilyLaws.{not_in}
 use Rattle.cert_sched.proofs.FreshLaws.{born_rightly, child_new, numbered}
 use Rattle.cert_sched.proofs.LogLaws.{plain_after-snoc}
 use Rattle.cert_sched.proofs.PidLaws.{placed_pids}
-use Rattle.cert_sched.proofs.RisingLaws.{either_not}
 use Rattle.cert_sched.proofs.RunsLaws.{led, led-silent_upto, run_made}
 use Rattle.cert_sched.proofs.StepLaws.{SilentFrom, silent_from}
 use Rattle.cert_sched.proofs.ThereLaws.{found_among}
@@ -62,7 +62,7 @@ untied n m apart = grind (arith, nat_tests)
 not_found : (p : Pid) (es : List (Pid × ProcState)) → list_any (λ m. eqb m p.0) (state_pids es) ≡ false → find_in pid_cmp p es ≡ None
 not_found p [] none = refl
 not_found p (e ∷ es) none =
-    let parts = either_not (eqb (e.0).0 p.0) (list_any (λ m. eqb m p.0) (state_pids es)) none in
+    let parts = or_parts (eqb (e.0).0 p.0) (list_any (λ m. eqb m p.0) (state_pids es)) none in
     ap (λ b. cond b (Some e.1) (find_in pid_cmp p es)) (untied p.0 (e.0).0 parts.0) ∙ not_found p es parts.1
 
 module _ (system : System) (log : List Entry) (by : By) (p : Pid) (s : ProcState) (child : Pid) (valid : is_system system ≡ true) (legal : IsLegalBy Stands system log) (may : MaySend system log by p s) (forks : next_step s ≡ Forks)

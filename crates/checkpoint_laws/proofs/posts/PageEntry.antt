@@ -6,6 +6,7 @@ use Rattle.std.specs.Option.{option_map_or}
 use Rattle.std.proofs.lemmas.Grind.{flat_map-append}
 use Rattle.t32_base.specs.declared.process.Pid.{Pid}
 use Rattle.t32_base.specs.Account.{Account, no_pages, committed, reverted, with_page}
+use Rattle.t32_base.proofs.Facts.{or_false}
 use Rattle.sys_text.specs.declared.system.System.{System}
 use Rattle.sys_calls.specs.Next.{silently}
 use Rattle.plain_kernel.specs.Kernel.{Kernel}
@@ -25,7 +26,6 @@ use Rattle.cert_sched.specs.Rules.{is_over, ends_run}
 use Rattle.cert_sched.proofs.LogLaws.{placement-snoc, no_items, process_after-quiet, account_after-snoc}
 use Rattle.cert_sched.proofs.RecordLaws.{backup_record-other, has_state-snoc}
 use Rattle.cert_sched.proofs.Induction.{is_over-snoc}
-use Rattle.log_laws.proofs.pages.OneEntry.{or_nothing}
 use Rattle.checkpoint_laws.proofs.posts.Beside.{start_stays, since_stays, saved_stay}
 
 -- an account after an entry that says this, at this placement
@@ -68,7 +68,7 @@ module _ (system : System) (log : List Entry) (e : Entry) (p : Pid) (at i : ℕ)
   page_record q = backup_record-other system log e q (ap (is_cut q) is) (ap (is_birth_of q) is) (ap (deeds_in q) is) (ap (letter_for q) is)
 
   pub page_stated : (q : Pid) → has_state system (log ++ e ∷ []) q ≡ has_state system log q
-  page_stated q = has_state-snoc system log e q ∙ ap (λ w. has_state system log q || is_cut q w) is ∙ or_nothing (has_state system log q)
+  page_stated q = has_state-snoc system log e q ∙ ap (λ w. has_state system log q || is_cut q w) is ∙ or_false (has_state system log q)
 
   pub page_children : (q : Pid) → has_unsynced_child system (log ++ e ∷ []) q ≡ has_unsynced_child system log q
   page_children q =

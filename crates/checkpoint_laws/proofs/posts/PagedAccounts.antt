@@ -11,7 +11,7 @@ use Rattle.sys_text.specs.declared.system.System.{System}
 use Rattle.sys_text.specs.Valid.{is_system}
 use Rattle.proc_state.specs.State.{ProcState}
 use Rattle.bus_msg.specs.declared.entry.What.{What}
-use Rattle.bus_msg.specs.declared.entry.What.TheVariants.{Mail, Birth, Exit, Page, Sync, Fetch, PageIs, Crash, Return, Rebackup, Done, Stop}
+use Rattle.bus_msg.specs.declared.entry.What.TheVariants.{Page}
 use Rattle.bus_msg.specs.declared.entry.Entry.{Entry}
 use Rattle.bus_msg.specs.Places.{same_pid}
 use Rattle.bus_msg.specs.PlacedAfter.{what}

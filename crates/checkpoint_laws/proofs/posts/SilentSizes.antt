@@ -1,10 +1,10 @@
 -- Silent steps leave the number of pages and the size of the memory.
 use Rattle.std.proofs.Common.{◌≡◌, ℕ, zero, suc, refl, sym, ◌∙◌, ap, length, Option, Some, None}
 use Rattle.std.specs.Prelude.{option_and_then}
+use Rattle.std.proofs.lemmas.Option.{same_Some}
 use Rattle.proc_state.specs.State.{ProcState}
 use Rattle.sys_calls.specs.Calls.{Next, Silent, Blocked, Forks, Emits, Over}
 use Rattle.sys_calls.specs.Next.{next_step, silently, silent_of}
-use Rattle.plain_kernel.proofs.Entries.{some_same}
 use Rattle.log_laws.proofs.pages.StepSizes.{SameSize, Keeps, next_keeps}
 
 as_large : (s t u : ProcState) → SameSize s t → t ≡ u → SameSize s u
@@ -12,11 +12,11 @@ as_large s t u same is = record { pages = ap (λ (x : ProcState). (x.small).page
 
 pub silent_sizes : (n : ℕ) (s t : ProcState) → silently n s ≡ Some t → SameSize s t
 unfolding silently
-silent_sizes zero s t is = as_large s s t (record { pages = refl; bytes = refl }) (some_same s t is)
+silent_sizes zero s t is = as_large s s t (record { pages = refl; bytes = refl }) (same_Some s t is)
 silent_sizes (suc n) s t is = by_case (silently n s) refl is (λ q made. silent_sizes n s q made)
   where
     by_next : (q : ProcState) (next : Next) → SameSize s q → Keeps q next → silent_of next ≡ Some t → SameSize s t
-    by_next q (Silent u) before keeps e = as_large s u t (record { pages = keeps.pages ∙ before.pages; bytes = keeps.bytes ∙ before.bytes }) (some_same u t e)
+    by_next q (Silent u) before keeps e = as_large s u t (record { pages = keeps.pages ∙ before.pages; bytes = keeps.bytes ∙ before.bytes }) (same_Some u t e)
     by_next q Blocked before keeps e = cc
     by_next q Forks before keeps e = cc
     by_next q (Emits m u) before keeps e = cc

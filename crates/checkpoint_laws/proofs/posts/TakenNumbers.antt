@@ -4,9 +4,10 @@ use Rattle.std.specs.Prelude.{filter, find}
 use Rattle.std.specs.List.{list_any}
 use Rattle.std.proofs.lemmas.Bool.{and_parts, and_from}
 use Rattle.std.proofs.lemmas.Bool.Decides.{nat_tests}
+use Rattle.std.proofs.lemmas.Option.{same_Some}
 use Rattle.t32_base.specs.declared.letter.Arrived.{Arrived}
+use Rattle.t32_base.proofs.Facts.{or_false, or_true, and_true, and_false}
 use Rattle.proc_state.specs.Mail.{without_first}
-use Rattle.plain_kernel.proofs.Entries.{some_same}
 use Rattle.cert_sched.specs.Parts.{put_rising, rising}
 use Rattle.cert_sched.specs.Steps.{numbers_read}
 use Rattle.cert_sched.proofs.RisingLaws.{rising-append, put_all-put, put_all-none}
@@ -40,22 +41,6 @@ turned_apart m n less = grind (arith, nat_tests)
 
 turned : (m n : ℕ) → eqb m n ≡ false → eqb n m ≡ false
 turned m n other = grind (arith, nat_tests)
-
-or_nothing : (b : Bool) → (b || false) ≡ b
-or_nothing true = refl
-or_nothing false = refl
-
-or_true : (b : Bool) → (b || true) ≡ true
-or_true true = refl
-or_true false = refl
-
-and_true : (b : Bool) → (b && true) ≡ b
-and_true true = refl
-and_true false = refl
-
-and_false : (b : Bool) → (b && false) ≡ false
-and_false true = refl
-and_false false = refl
 
 -- ---- letters in order
 
@@ -113,7 +98,7 @@ found_has wanted [] a found = cc
 found_has wanted (x ∷ xs) a found = by_test (wanted x) found (found_has wanted xs a)
   where
     by_test : (b : Bool) → cond b (Some x) (find wanted xs) ≡ Some a → (find wanted xs ≡ Some a → has a.number xs ≡ true) → (eqb x.number a.number || has a.number xs) ≡ true
-    by_test true is more = ap (λ b. b || has a.number xs) (eq-eqb x.number a.number (ap (λ (b : Arrived). b.number) (some_same x a is)))
+    by_test true is more = ap (λ b. b || has a.number xs) (eq-eqb x.number a.number (ap (λ (b : Arrived). b.number) (same_Some x a is)))
     by_test false is more = ap (λ b. eqb x.number a.number || b) (more is) ∙ or_true (eqb x.number a.number)
 
 -- without it the others have their numbers still
@@ -143,7 +128,7 @@ without_has n wanted (x ∷ xs) a rises found =
 
     by_test : (b : Bool) → cond b (Some x) (find wanted xs) ≡ Some a → are_above x.number xs ≡ true → (find wanted xs ≡ Some a → has n (without_first wanted xs) ≡ (has n xs && not (eqb n a.number)))
         → has n (cond b xs (x ∷ without_first wanted xs)) ≡ ((eqb x.number n || has n xs) && not (eqb n a.number))
-    by_test true is above more = at_first (eqb n x.number) refl (some_same x a is) above
+    by_test true is above more = at_first (eqb n x.number) refl (same_Some x a is) above
     by_test false is above more = at_other (eqb x.number n) refl is above (more is)
 
 -- ---- one number more passes
@@ -161,7 +146,7 @@ module _ (x : ℕ) (before after : ℕ → Bool) (not_before : before x ≡ fals
   same_above [] above = refl
   same_above (a ∷ letters) above =
       let parts = and_parts (ltb x a.number) (are_above x letters) above in
-      let same : after a.number ≡ before a.number = one_more a.number ∙ ap (λ b. before a.number || b) (turned_apart x a.number parts.0) ∙ or_nothing (before a.number) in
+      let same : after a.number ≡ before a.number = one_more a.number ∙ ap (λ b. before a.number || b) (turned_apart x a.number parts.0) ∙ or_false (before a.number) in
       let more = same_above letters parts.1 in
       λ i. cond (same i) (a ∷ more i) (more i)
 
@@ -206,7 +191,7 @@ module _ (x : ℕ) (before after : ℕ → Bool) (not_before : before x ≡ fals
           ∙ sym (ap (λ b. put_rising x (map number (cond b (a ∷ rest) rest))) (ap before here ∙ not_before))
       by_number false is there above more =
           let over : ltb x a.number ≡ false = not_under a.number x (has_above a.number x letters above there) in
-          let same : after a.number ≡ before a.number = one_more a.number ∙ ap (λ b. before a.number || b) is ∙ or_nothing (before a.number) in
+          let same : after a.number ≡ before a.number = one_more a.number ∙ ap (λ b. before a.number || b) is ∙ or_false (before a.number) in
           ap (λ b. map number (cond b (a ∷ rest_after) rest_after)) same ∙ by_test (before a.number) over (more there)
 
 -- ---- one letter more was read

@@ -3,6 +3,7 @@ use Rattle.std.proofs.Common.{◌≡◌, ℕ, ◌+◌, ◌*◌, ◌-◌, ◌≤�
 use Rattle.std.specs.Prelude.{option_map, sum_by}
 use Rattle.std.specs.Option.{option_map_or}
 use Rattle.t32_base.specs.declared.process.Pid.{Pid}
+use Rattle.t32_base.proofs.Facts.{or_false}
 use Rattle.sys_text.specs.declared.system.System.{System}
 use Rattle.sys_text.specs.Valid.{is_system}
 use Rattle.rv_mem.specs.Memory.{page_at}
@@ -26,7 +27,7 @@ use Rattle.cert_sched.proofs.BirthKind.{is_birth}
 use Rattle.cert_sched.proofs.LogLaws.{no_items}
 use Rattle.cert_sched.proofs.RecordLaws.{has_state-snoc}
 use Rattle.cert_sched.proofs.StepLaws.{silent_from, done_kernel}
-use Rattle.log_laws.proofs.pages.OneEntry.{any_since-goes_on, moves_none, or_nothing}
+use Rattle.log_laws.proofs.pages.OneEntry.{any_since-goes_on, moves_none}
 use Rattle.log_laws.proofs.pages.Leaving.{one_if}
 use Rattle.checkpoint_laws.proofs.posts.Beside.{start_stays}
 use Rattle.checkpoint_laws.specs.remaining.Load.{kernel_load, log_births, log_load}
@@ -60,7 +61,7 @@ module _ (system : System) (log : List Entry) (e : Entry) (stands : Stands syste
   no_birth r = ap (is_birth_of r) is
 
   stated_same : has_state system (log ++ e ∷ []) p ≡ has_state system log p
-  stated_same = has_state-snoc system log e p ∙ ap (λ b. has_state system log p || b) (ap (is_cut p) is) ∙ or_nothing (has_state system log p)
+  stated_same = has_state-snoc system log e p ∙ ap (λ b. has_state system log p || b) (ap (is_cut p) is) ∙ or_false (has_state system log p)
 
   start_same : (r : Pid) → start_of system (log ++ e ∷ []) r ≡ start_of system log r
   start_same r = start_stays system log e r (ap (is_cut r) is) (no_birth r)

@@ -7,12 +7,12 @@ use Rattle.std.specs.Ordering.{is_eq}
 use Rattle.std.specs.FinMap.{find, put, is_sorted}
 use Rattle.std.specs.FinMap.Entries.{by_order}
 use Rattle.std.proofs.lemmas.List.Sums.{sum_by-cons}
+use Rattle.std.proofs.lemmas.Option.{same_Some}
 use Rattle.t32_base.specs.declared.process.Pid.{Pid}
 use Rattle.t32_base.specs.Small.{SmallState}
 use Rattle.proc_state.specs.State.{ProcState}
 use Rattle.sys_calls.specs.Fork.{fork_child, fork_parent}
 use Rattle.plain_kernel.specs.Kernel.{Kernel, pid_cmp, process_at, with_process}
-use Rattle.plain_kernel.proofs.Entries.{some_same}
 use Rattle.plain_kernel.proofs.Forking.{ForkMade, fork-apart}
 use Rattle.plain_kernel.proofs.Others.{process_at-other}
 use Rattle.plain_kernel.proofs.Pids.{IsRising, left_true, right_true, not_found}
@@ -32,7 +32,7 @@ module _ (f : SmallState → ℕ) where
           → sum_by of_entry (by_order o ((p, t) ∷ e ∷ es) ((e.0, t) ∷ es) (e ∷ put pid_cmp p t es)) + f s.small ≡ sum_by of_entry (e ∷ es) + f t.small
       by_case Less is found more = absurd (true≢false (ap is_some (sym found ∙ not_found p e.0 es is (left_true _ _ rising))))
       by_case Equal is found more =
-          let same : f (e.1).small ≡ f s.small = ap (λ (s : ProcState). f s.small) (some_same e.1 s found) in
+          let same : f (e.1).small ≡ f s.small = ap (λ (s : ProcState). f s.small) (same_Some e.1 s found) in
           omega (arith, sum_by-cons of_entry (e.0, t) es, sum_by-cons of_entry e es, same)
       by_case Greater is found more = omega (arith, sum_by-cons of_entry e (put pid_cmp p t es), sum_by-cons of_entry e es, more found)
 

@@ -5,6 +5,7 @@ use Rattle.std.specs.Prelude.{◌≢◌, option_and_then, option_map, sum_by, un
 use Rattle.std.specs.List.{list_any}
 use Rattle.std.specs.Option.{option_map_or}
 use Rattle.std.proofs.lemmas.Bool.{and_parts}
+use Rattle.std.proofs.lemmas.Option.{same_Some}
 use Rattle.t32_base.specs.declared.process.Pid.{Pid}
 use Rattle.t32_base.specs.Small.{SmallState}
 use Rattle.proc_state.specs.State.{ProcState, can_take, is_live}
@@ -18,7 +19,6 @@ use Rattle.sys_calls.proofs.ForkLaws.{forks_can}
 use Rattle.sys_calls.proofs.Weighing.{Leaves, next_leaves, emits_leaves}
 use Rattle.plain_kernel.specs.Kernel.{Kernel, process_at, with_process, emitted}
 use Rattle.plain_kernel.specs.Apply.{after_step, fork_step, one_step, take_step}
-use Rattle.plain_kernel.proofs.Entries.{some_same}
 use Rattle.plain_kernel.proofs.Forking.{ForkMade, fork-other, fork-parent, fork-small, fork-steps_other}
 use Rattle.plain_kernel.proofs.Laws.{process_at-same}
 use Rattle.plain_kernel.proofs.Others.{small_at, small_at-emitted, one_step-other, one_step-small, process_at-other}
@@ -92,11 +92,11 @@ most-here p k j made = by_process (process_at k p) refl made
         omega (arith, now, was, less)
 
     by_next : (s : ProcState) (next : Next) → process_at k p ≡ Some s → next_step s ≡ next → after_step k p next ≡ Some j → most_in j p ≤ most_in k p
-    by_next s (Silent t) there is e = subst (λ (i : Kernel). most_in i p ≤ most_in k p) (some_same (with_process k p t) j e) (put_most s t there (silent_most s t is))
+    by_next s (Silent t) there is e = subst (λ (i : Kernel). most_in i p ≤ most_in k p) (same_Some (with_process k p t) j e) (put_most s t there (silent_most s t is))
     by_next s (Emits what t) there is e =
         let same = most_same (with_process k p t) (emitted (with_process k p t) what) p (small_at-emitted (with_process k p t) what p) in
         let most = put_most s t there (emits_most s t what is) in
-        subst (λ (i : Kernel). most_in i p ≤ most_in k p) (some_same (emitted (with_process k p t) what) j e) (omega (arith, same, most))
+        subst (λ (i : Kernel). most_in i p ≤ most_in k p) (same_Some (emitted (with_process k p t) what) j e) (omega (arith, same, most))
     by_next s Blocked there is e = cc
     by_next s Forks there is e = cc
     by_next s Over there is e = cc

@@ -4,13 +4,13 @@ use Rattle.std.specs.Prelude.{option_and_then, option_map, sum_by}
 use Rattle.std.specs.List.{list_any}
 use Rattle.std.specs.Option.{option_map_or}
 use Rattle.std.proofs.lemmas.Bool.Decides.{nat_tests}
+use Rattle.std.proofs.lemmas.Option.{same_Some}
 use Rattle.t32_base.specs.declared.process.Pid.{Pid}
 use Rattle.t32_base.specs.Small.{SmallState}
 use Rattle.sys_text.specs.declared.system.System.{System}
 use Rattle.sys_text.specs.Valid.{is_system}
 use Rattle.proc_state.specs.State.{ProcState}
 use Rattle.plain_kernel.specs.Kernel.{process_at}
-use Rattle.plain_kernel.proofs.Entries.{some_same}
 use Rattle.bus_msg.specs.declared.entry.What.TheVariants.{Sync}
 use Rattle.bus_msg.specs.declared.entry.Entry.{Entry}
 use Rattle.bus_msg.specs.declared.placed.Placed.{Placed}
@@ -159,7 +159,7 @@ module _ (system : System) (log : List Entry) (e : Entry) (stands : Stands syste
   }
 
   due : is_due system log p None synced.at ≡ true
-  due = some_same (is_due system log p None synced.at) true (sym (ap (option_map (is_due system log p None)) synced.reached) ∙ holds.due)
+  due = same_Some (is_due system log p None synced.at) true (sym (ap (option_map (is_due system log p None)) synced.reached) ∙ holds.due)
 
   -- in the kernel after it the process is there, as it was cut
   at_kernel : done (there system log e stands).new p ≡ ((synced.at).small).steps

@@ -24,7 +24,7 @@ use Rattle.backup_records.specs.Records.{are_rising, record_in, records_after}
 use Rattle.log_laws.specs.births.Unsynced.{unsynced_births}
 use Rattle.cluster_core.specs.Families.{CanJoin}
 use Rattle.cluster_core.proofs.births.FamilyNext.{can_join}
-use Rattle.cluster_core.specs.View.{ClusterView, Held, Runs, Rolls, with_server, Waits, held_at, held_of}
+use Rattle.cluster_core.specs.View.{ClusterView, Held, Runs, with_server, Waits, held_at, held_of}
 use Rattle.cluster_core.specs.Parts.{AllOwn}
 use Rattle.cluster_core.specs.Recovered.{moved_by, CanWait, with_all_waiting}
 use Rattle.cluster_core.specs.Follows.{FollowsBuilt, IsOpen, StandsBetween}

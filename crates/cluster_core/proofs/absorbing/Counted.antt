@@ -1,13 +1,13 @@
 -- Counts over a log that gets one entry more, and counts that stand still at the greatest number.
-use Rattle.std.proofs.Common.{◌≡◌, ℕ, ◌+◌, ◌≤◌, sym, ◌∙◌, ap, arith, zero-add, List, [], ◌∷◌, ◌++◌, length, length-append, Bool, true, false, cond, ◌||◌}
+use Rattle.std.proofs.Common.{◌≡◌, ℕ, ◌+◌, ◌≤◌, sym, ◌∙◌, ap, arith, zero-add, List, [], ◌∷◌, ◌++◌, length, length-append, Bool, false, cond, ◌||◌}
 use Rattle.std.specs.Prelude.{count_by}
 use Rattle.std.proofs.lemmas.List.Folds.{list_any-append}
 use Rattle.std.proofs.lemmas.List.Sums.{sum_by-append}
+use Rattle.std.proofs.lemmas.Bool.{or_parts}
 use Rattle.t32_base.specs.declared.process.ClusterNo.{ClusterNo}
 use Rattle.bus_msg.specs.declared.entry.Entry.{Entry}
 use Rattle.bus_msg.specs.PlacedAfter.{what}
 use Rattle.cert_sched.specs.Losses.{capped, is_by_cluster, is_crash_of, least_steps, was_lost_in}
-use Rattle.cert_sched.proofs.RisingLaws.{either_not}
 use Rattle.cluster_core.specs.View.{next_count}
 
 pub capped_next : (n s : ℕ) → capped n ≤ s → capped (n + 1) ≤ next_count s
@@ -25,10 +25,6 @@ count_more k log e =
     let sent : count_by (is_by_cluster k) (log ++ e ∷ []) ≡ count_by (is_by_cluster k) log + cond (is_by_cluster k e) 1 0 = count_by-snoc (is_by_cluster k) log e in
     omega (arith, long, sent)
 
-pub at_most_one : (b : Bool) → cond b 1 0 ≤ 1
-at_most_one true = omega arith
-at_most_one false = omega arith
-
 -- who was not lost in a log was not in the log before
 pub lost_before : (log : List Entry) (e : Entry) (k : ClusterNo) → was_lost_in (log ++ e ∷ []) k ≡ false → was_lost_in log k ≡ false
-lost_before log e k kept = (either_not (was_lost_in log k) (is_crash_of k (what e) || false) (sym (list_any-append (λ (e : Entry). is_crash_of k (what e)) log (e ∷ [])) ∙ kept)).0
+lost_before log e k kept = (or_parts (was_lost_in log k) (is_crash_of k (what e) || false) (sym (list_any-append (λ (e : Entry). is_crash_of k (what e)) log (e ∷ [])) ∙ kept)).0

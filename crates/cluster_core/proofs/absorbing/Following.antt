@@ -4,18 +4,19 @@ use Rattle.std.specs.Prelude.{filter, ◌≢◌, is_some, option_map, ⊤}
 use Rattle.std.specs.List.{list_all}
 use Rattle.std.specs.Option.{option_map_or}
 use Rattle.std.proofs.lemmas.Bool.{and_parts}
+use Rattle.std.proofs.lemmas.Option.{same_Some}
 use Rattle.t32_base.specs.declared.process.Pid.{Pid}
 use Rattle.t32_base.specs.declared.process.ClusterNo.{ClusterNo}
 use Rattle.t32_base.specs.declared.process.Counts.{Counts}
 use Rattle.t32_base.specs.declared.letter.BackRec.{BackRec}
 use Rattle.t32_base.specs.declared.letter.Letter.{Letter}
+use Rattle.t32_base.proofs.Facts.{one_at_most}
 use Rattle.sys_text.specs.declared.system.System.{System}
 use Rattle.sys_text.specs.Valid.{is_system}
 use Rattle.proc_state.specs.declared.process.Process.{Process}
 use Rattle.proc_state.specs.State.{ProcState, state_of}
 use Rattle.sys_calls.specs.declared.steps.Emission.{Emission}
 use Rattle.sys_calls.specs.declared.steps.Emission.TheVariants.{Mail as Sent, Exit as Ended}
-use Rattle.plain_kernel.proofs.Entries.{some_same}
 use Rattle.bus_msg.specs.declared.entry.What.{What}
 use Rattle.bus_msg.specs.declared.entry.By.{By}
 use Rattle.bus_msg.specs.declared.entry.By.TheVariants.{Cluster, Bus}
@@ -73,7 +74,7 @@ use Rattle.replay_laws.proofs.rolling.ByRule.{built_stands}
 use Rattle.cluster_core.proofs.syncs.Marking.{arrival_marked, exit_other, marked_after, queue_tells, told_leaves, with_one}
 use Rattle.cluster_core.proofs.losses.Homes.{HomeHere, home_exit, home_here, pids_home, without}
 use Rattle.cluster_core.proofs.absorbing.ByKind.{by_kind, by_page, lone_is, may_told, is_of_page, told_may}
-use Rattle.cluster_core.proofs.absorbing.Counted.{at_most_one, capped_less, capped_next, count_more, lost_before}
+use Rattle.cluster_core.proofs.absorbing.Counted.{capped_less, capped_next, count_more, lost_before}
 use Rattle.cluster_core.proofs.absorbing.Served.{accounts_next, foreign_no_answer, accounts_sent, ahead_after}
 use Rattle.cluster_core.specs.Serving.{IsAheadThere, Serves}
 use Rattle.page_server.specs.Account.{PagerState}
@@ -182,7 +183,7 @@ now_arrives_told system log e n k post p steps s own may apart placed was = by_m
     moved : (q : Pid) → u.pid ≡ q → q.0 ≢ ((n.told).pid).0 → option_map (taken_by post.what) (after_items system log post.what) ≡ Some s
         → option_map (taken_by post.what) (after_items system (log ++ e ∷ []) post.what) ≡ Some (with_arrival (n.told).emission q s)
     moved q of apart is =
-        let left : taken_by post.what u.after ≡ s = some_same (taken_by post.what u.after) s (sym (ap (option_map (taken_by post.what)) u.items) ∙ is) in
+        let left : taken_by post.what u.after ≡ s = same_Some (taken_by post.what u.after) s (sym (ap (option_map (taken_by post.what)) u.items) ∙ is) in
         let ends : u.after ≡ s = sym (taken_same post.what u.pid u.at u.emission u.after u.tells) ∙ left in
         let sends = sends_still system log e n.told u.pid u.at u.emission u.after (λ same. apart (ap (λ (r : Pid). r.0) (sym of) ∙ same)) u.is in
         ap (option_map (taken_by post.what)) (items_told system (log ++ e ∷ []) post.what u.pid u.at u.emission (with_arrival (n.told).emission u.pid u.after) sends u.tells)
@@ -191,7 +192,7 @@ now_arrives_told system log e n k post p steps s own may apart placed was = by_m
 
     by_move : (b : Bool) → is_move_of p post ≡ b → state_now system log (post ∷ []) p steps ≡ Some s → state_now system (log ++ e ∷ []) (post ∷ []) p steps ≡ Some (with_arrival (n.told).emission p s)
     by_move true is was =
-        let of : u.pid ≡ p = some_same u.pid p (sym u.process ∙ moves_it p (post ∷ []) post.what (move_is true is)) in
+        let of : u.pid ≡ p = same_Some u.pid p (sym u.process ∙ moves_it p (post ∷ []) post.what (move_is true is)) in
         ap (state_by system (log ++ e ∷ []) p steps) (move_is true is) ∙ moved p of apart (sym (ap (state_by system log p steps) (move_is true is)) ∙ was)
     by_move false is was =
         ap (state_by system (log ++ e ∷ []) p steps) (move_is false is)
@@ -615,7 +616,7 @@ now_told system log e n p steps s count placed was = by_pid (same_pid (n.told).p
     by_pid true is =
         let me : t.pid ≡ p = pid_same t.pid p (eqb-true (t.pid).0 p.0 is) in
         let after : option_map (taken_by (what e)) (after_items system log (what e)) ≡ Some s = sym (ap (state_by system log p steps) (move_is true is)) ∙ was in
-        let left : taken_by (what e) t.after ≡ s = some_same (taken_by (what e) t.after) s (sym (ap (option_map (taken_by (what e))) t.items) ∙ after) in
+        let left : taken_by (what e) t.after ≡ s = same_Some (taken_by (what e) t.after) s (sym (ap (option_map (taken_by (what e))) t.items) ∙ after) in
         let ends : t.after ≡ s = sym (taken_same (what e) t.pid t.at t.emission t.after t.tells) ∙ left in
         let counted : ((t.after).small).steps ≡ steps = ap (λ (s : ProcState). (s.small).steps) ends ∙ count in
         (λ i. silent_upto system (log ++ e ∷ []) (sym me i) (sym counted i)) ∙ told_now system log e t ∙ (λ i. Some (with_arrival t.emission (me i) (ends i)))
@@ -656,7 +657,7 @@ pub counted_own : (system : System) (log : List Entry) (e : Entry) (k : ClusterN
     → capped (least_steps (log ++ e ∷ []) (log ++ e ∷ []) k + 0) ≤ next_count steps
 counted_own system log e k tried steps is h =
     let before : capped (least_steps log log k + 1) ≤ steps = subst (λ b. capped (least_steps log log k + cond b 1 0) ≤ steps) is h in
-    let one : cond (is_by_cluster k e) 1 0 ≤ 1 = at_most_one (is_by_cluster k e) in
+    let one : cond (is_by_cluster k e) 1 0 ≤ 1 = one_at_most (is_by_cluster k e) in
     let more = count_more k log e in
     capped_less (least_steps (log ++ e ∷ []) (log ++ e ∷ []) k + 0) (least_steps log log k + 1 + 1) (next_count steps) (omega (arith, more, one)) (capped_next (least_steps log log k + 1) steps before)
 

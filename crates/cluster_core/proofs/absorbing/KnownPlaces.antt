@@ -7,7 +7,7 @@ use Rattle.t32_base.specs.declared.process.ClusterNo.{ClusterNo}
 use Rattle.t32_base.specs.declared.letter.BackRec.{BackRec}
 use Rattle.sys_text.specs.declared.system.System.{System}
 use Rattle.bus_msg.specs.declared.entry.What.{What}
-use Rattle.bus_msg.specs.declared.entry.What.TheVariants.{Mail, Birth, Exit, Page, Sync, Fetch, PageIs, Crash, Return, Rebackup, Done, Stop}
+use Rattle.bus_msg.specs.declared.entry.What.TheVariants.{Birth, Exit, Sync, Crash, Return, Rebackup}
 use Rattle.bus_msg.specs.declared.placed.Placed.{Placed}
 use Rattle.bus_msg.specs.Places.{Places, is_cluster, placed_at, same_cluster, same_pid, unended_at}
 use Rattle.bus_msg.specs.PlacedAfter.{after_exit, after_loss, after_sync, changed_at, child_of, lost_cluster, moved_to, placed_after, raised_serial, with_birth}

@@ -8,6 +8,7 @@ use Rattle.std.proofs.lemmas.Nat.Bits.{bit_at-lt, bit_at-pow_same, bit_at_or}
 use Rattle.std.proofs.lemmas.List.Folds.{list_any-append}
 use Rattle.std.proofs.lemmas.Option.{slice_get_within}
 use Rattle.std.proofs.lemmas.Bool.Decides.{nat_tests}
+use Rattle.std.proofs.lemmas.Bool.{or_right, or_left}
 use Rattle.t32_base.specs.declared.process.Pid.{Pid}
 use Rattle.t32_base.specs.declared.process.ClusterNo.{ClusterNo}
 use Rattle.t32_base.specs.declared.process.End.{End}
@@ -104,23 +105,15 @@ backup_named places k p h = by_placed (unended_at places p) h
     by_placed None h = absurd (true≢false (sym h))
     by_placed (Some q) h = by_backup q.backup h
 
-or_last : (a b : Bool) → b ≡ true → (a || b) ≡ true
-or_last true b h = refl
-or_last false b h = h
-
-or_first : (a b : Bool) → a ≡ true → (a || b) ≡ true
-or_first true b h = refl
-or_first false b h = absurd (true≢false (sym h))
-
 -- a letter goes to the backup of its receiver
 receiver_goes : (places : Places) (k : ClusterNo) (from p : Pid) (to : To) → lives_in places k ≡ true → is_receiver p to ≡ true → list_any (λ j. same_cluster j k) (backup_of places p) ≡ true → goes_to (letter_dests places from to) k ≡ true
 receiver_goes places k from p (Proc q end) lives is named =
     let same : p ≡ q = sym (pid_same q p (eqb-true q.0 p.0 is)) in
     named_goes places k (home_of places q ++ backup_of places q ++ backup_of places from) lives
     (list_any-append (λ j. same_cluster j k) (home_of places q ++ backup_of places q) (backup_of places from)
-    ∙ or_first _ (list_any (λ j. same_cluster j k) (backup_of places from))
+    ∙ or_left _ (list_any (λ j. same_cluster j k) (backup_of places from))
     (list_any-append (λ j. same_cluster j k) (home_of places q) (backup_of places q)
-    ∙ or_last (list_any (λ j. same_cluster j k) (home_of places q)) _ (ap (λ r. list_any (λ j. same_cluster j k) (backup_of places r)) (sym same) ∙ named)))
+    ∙ or_right (list_any (λ j. same_cluster j k) (home_of places q)) _ (ap (λ r. list_any (λ j. same_cluster j k) (backup_of places r)) (sym same) ∙ named)))
 receiver_goes places k from p (Tty t) lives is named = absurd (true≢false (sym is))
 
 -- and to that of its sender
@@ -128,7 +121,7 @@ sender_goes : (places : Places) (k : ClusterNo) (from : Pid) (to : To) → lives
 sender_goes places k from (Proc q end) lives named =
     named_goes places k (home_of places q ++ backup_of places q ++ backup_of places from) lives
     (list_any-append (λ j. same_cluster j k) (home_of places q ++ backup_of places q) (backup_of places from)
-    ∙ or_last (list_any (λ j. same_cluster j k) (home_of places q ++ backup_of places q)) _ named)
+    ∙ or_right (list_any (λ j. same_cluster j k) (home_of places q ++ backup_of places q)) _ named)
 sender_goes places k from (Tty t) lives named = named_goes places k (backup_of places from) lives named
 
 -- a cluster that has the backup of a process lives
@@ -222,7 +215,7 @@ cut_left system log k recs pid small read took live keeps elsewhere = all_left (
             let same : r.pid ≡ pid = sym (pid_same pid r.pid (eqb-true pid.0 (r.pid).0 is)) in
             let named : list_any (λ j. same_cluster j k) (backup_of places pid) ≡ true = ap (λ p. list_any (λ j. same_cluster j k) (backup_of places p)) (sym same) ∙ backup_named places k r.pid here in
             absurd (true≢false (sym (named_goes places k (backup_of places pid ++ servers_in places) (backup_lives system log k r.pid live here)
-            (list_any-append (λ j. same_cluster j k) (backup_of places pid) (servers_in places) ∙ or_first _ (list_any (λ j. same_cluster j k) (servers_in places)) named)) ∙ elsewhere))
+            (list_any-append (λ j. same_cluster j k) (backup_of places pid) (servers_in places) ∙ or_left _ (list_any (λ j. same_cluster j k) (servers_in places)) named)) ∙ elsewhere))
         by_pid false is = refl
 
 -- so does a birth

@@ -10,8 +10,9 @@ use Rattle.page_accounts.specs.Keeps.{KeepsAccounts}
 use Rattle.sys_text.specs.declared.system.System.{System}
 use Rattle.t32_base.specs.Streams.{one_more}
 use Rattle.t32_base.specs.declared.process.ClusterNo.{ClusterNo}
+use Rattle.t32_base.proofs.Facts.{and_false}
 use Rattle.bus_msg.specs.declared.entry.What.{What}
-use Rattle.bus_msg.specs.declared.entry.What.TheVariants.{Mail, Birth, Exit, Page, Sync, Fetch, PageIs, Crash, Return, Rebackup, Done, Stop}
+use Rattle.bus_msg.specs.declared.entry.What.TheVariants.{Page}
 use Rattle.bus_msg.specs.declared.entry.Post.{Post}
 use Rattle.bus_msg.specs.declared.entry.Entry.{Entry}
 use Rattle.bus_msg.specs.Places.{Places}
@@ -37,13 +38,9 @@ use Rattle.cluster_core.proofs.absorbing.Counted.{count_by-snoc, lost_before}
 abbrev pub answers : ClusterNo → Entry → Bool
 answers k e = is_page_is_entry (what e) && is_by_cluster k e
 
-none_of : (b : Bool) → (b && false) ≡ false
-none_of true = refl
-none_of false = refl
-
 -- what another sent is none
 pub foreign_no_answer : (k : ClusterNo) (e : Entry) → is_by_cluster k e ≡ false → answers k e ≡ false
-foreign_no_answer k e foreign = ap (λ b. is_page_is_entry (what e) && b) foreign ∙ none_of (is_page_is_entry (what e))
+foreign_no_answer k e foreign = ap (λ b. is_page_is_entry (what e) && b) foreign ∙ and_false (is_page_is_entry (what e))
 
 -- ---- an entry more
 

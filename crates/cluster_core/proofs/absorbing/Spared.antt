@@ -4,6 +4,7 @@ use Rattle.std.specs.Prelude.{option_and_then, option_map}
 use Rattle.std.specs.List.{list_all}
 use Rattle.std.specs.Option.{option_map_or}
 use Rattle.std.proofs.lemmas.Bool.{and_parts}
+use Rattle.std.proofs.lemmas.Option.{same_Some}
 use Rattle.t32_base.specs.declared.process.Pid.{Pid}
 use Rattle.t32_base.specs.declared.process.ClusterNo.{ClusterNo}
 use Rattle.t32_base.specs.declared.letter.BackRec.{BackRec}
@@ -13,7 +14,6 @@ use Rattle.proc_state.specs.State.{ProcState, state_of}
 use Rattle.sys_calls.specs.declared.steps.Emission.{Emission}
 use Rattle.sys_calls.specs.Next.{silently, last_emission}
 use Rattle.sys_calls.proofs.RunLemma.{all_delivered}
-use Rattle.plain_kernel.proofs.Entries.{some_same}
 use Rattle.bus_msg.specs.declared.entry.What.{What}
 use Rattle.bus_msg.specs.declared.entry.By.{By}
 use Rattle.bus_msg.specs.declared.entry.Post.{Post}
@@ -186,7 +186,7 @@ module _ (system : System) (valid : is_system system ≡ true) (log : List Entry
       (λ pid at end is s. ap (option_map (λ (r : Emission × ProcState). r.1)) (named pid is s at)) (λ rests is s. refl) (λ is s. refl) w tells
     where
       named : (r : Pid) → Some r ≡ Some p → Spares system log e p → (at : ℕ) → emission_at system later r at ≡ emission_at system log r at
-      named r is s at = let same : p ≡ r = sym (some_same r p is) in subst (λ q. emission_at system later q at ≡ emission_at system log q at) same (s.emission at)
+      named r is s at = let same : p ≡ r = sym (same_Some r p is) in subst (λ q. emission_at system later q at ≡ emission_at system log q at) same (s.emission at)
 
   -- it stands where it stood, beside at most one post
   state_stays : (q : Queued) (p : Pid) (steps : ℕ) → AreTogether q → Spares system log e p → state_now system later (posts_of q) p steps ≡ state_now system log (posts_of q) p steps

@@ -3,6 +3,7 @@ use Rattle.std.proofs.lemmas.Bool.{false≢true}
 use Rattle.std.specs.Prelude.{IsTrue, List, ◌∷◌, [], min, unwrap_or, Result, Ok, Err, OnOk, OnErr}
 use Rattle.t32_base.specs.declared.process.Pid.{Pid}
 use Rattle.std.specs.Option.{IsSomeAnd}
+use Rattle.std.proofs.lemmas.Option.{same_Some}
 use Rattle.t32_base.specs.Small.{SmallState}
 use Rattle.t32_base.specs.declared.process.Counts.{Counts}
 use Rattle.t32_base.specs.declared.letter.Letter.{Letter}
@@ -19,7 +20,6 @@ use Rattle.roll_forward.specs.Rolling.{CanRoll, RollingState}
 use Rattle.roll_forward.specs.Advancing.{Going, going_of, gone_on, rolled_on}
 use Rattle.roll_forward.proofs.AheadLaws.{runs_out_ahead}
 use Rattle.roll_forward.proofs.Delivering.{RunsOut-delivered}
-use Rattle.plain_kernel.proofs.Entries.{some_same}
 use Rattle.page_waits.specs.Begun.{begun}
 use Rattle.page_waits.specs.Waiting.{WaitingState, CanGoOn, rolling_of, start_of}
 use Rattle.cluster_core.specs.declared.resident.Standing.TheVariants.{Runs as IsRunning, Rolls as IsRolling}
@@ -49,7 +49,7 @@ goes_on_runs_out w r can is = by_state (w.kept).state can is
         → RunsOut (state_of r.process) r.counts r.births r.ahead
     by_state None can is = cc
     by_state (Some small) can is =
-        subst (λ (r : RollingState). RunsOut (state_of r.process) r.counts r.births r.ahead) (some_same (begun (start_of w small) w.kept) r is)
+        subst (λ (r : RollingState). RunsOut (state_of r.process) r.counts r.births r.ahead) (same_Some (begun (start_of w small) w.kept) r is)
         (runs_out_ahead (start_of w small) (w.kept).counts (w.kept).births can)
 
 -- ---- steps of roll-forward

@@ -1,9 +1,10 @@
 -- A cluster that follows a log, where the birth of a child of a process here is queued: beside the birth, and with it.
-use Rattle.std.proofs.Common.{◌≡◌, ℕ, ◌+◌, ◌≤◌, refl, sym, ◌∙◌, ap, subst, arith, List, [], ◌∷◌, ◌++◌, Bool, true, false, cond, ◌&&◌, ◌||◌, eq-eqb, Option, Some, None, true≢false, inr}
+use Rattle.std.proofs.Common.{◌≡◌, ℕ, ◌+◌, ◌≤◌, refl, sym, ◌∙◌, ap, subst, arith, List, [], ◌∷◌, ◌++◌, Bool, true, false, cond, ◌&&◌, eq-eqb, Option, Some, None, inr}
 use Rattle.std.specs.Prelude.{is_some, option_map}
 use Rattle.std.specs.List.{list_all}
 use Rattle.t32_base.specs.declared.process.Pid.{Pid}
 use Rattle.t32_base.specs.declared.process.ClusterNo.{ClusterNo}
+use Rattle.t32_base.proofs.Facts.{or_first}
 use Rattle.sys_text.specs.declared.system.System.{System}
 use Rattle.sys_text.specs.Valid.{is_system}
 use Rattle.proc_state.specs.declared.process.Process.{Process}
@@ -67,10 +68,6 @@ calls_still system heard log e k other =
     let none : ◌≡◌ {A = ℕ} (cond (is_page_is_entry (what e) && is_by_cluster k e) 1 0) 0 = ap (λ (b : Bool). cond (b && is_by_cluster k e) 1 0) other in
     omega (arith, answered, none)
 
-first_false : (a b : Bool) → (a || b) ≡ false → a ≡ false
-first_false true b none = absurd (true≢false none)
-first_false false b none = refl
-
 -- ---- a birth of a process here
 
 module _ (system : System) (log : List Entry) (c : ClusterView) (b : BearsChild system log c) (valid : is_system system ≡ true) (open_log : IsOpen BuiltMayFollow system log) where
@@ -104,7 +101,7 @@ module _ (system : System) (log : List Entry) (c : ClusterView) (b : BearsChild 
 
     sent_before : (n : ℕ) → SentUpto system (log ++ birth ∷ []) q n → SentUpto system log q n
     sent_before n upto =
-        first_false (any_since_moved system log q (is_later_page q n)) (is_later_page q n (what birth)) (sym (any_since-goes_on system log birth q (is_later_page q n) leaves.stays) ∙ upto)
+        or_first (any_since_moved system log q (is_later_page q n)) (is_later_page q n (what birth)) (sym (any_since-goes_on system log birth q (is_later_page q n) leaves.stays) ∙ upto)
 
     marks_with : (o : Option Process) → ((process : Process) → o ≡ Some process → (process.mail).next ≡ arrived_count log q) → MarkedIfThere CarriesMarks system log q o → MarkedIfThere CarriesMarks system (log ++ birth ∷ []) q o
     marks_with None came m = tt

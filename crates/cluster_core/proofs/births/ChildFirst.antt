@@ -20,7 +20,7 @@ use Rattle.quanta.specs.declared.limits.Limits.{Limits}
 use Rattle.quanta.specs.Limited.{is_due}
 use Rattle.cluster_core.specs.ChildrenFirst.{child_before, comes_after_at, comes_after_children, is_hindered, runs_at}
 use Rattle.cluster_core.specs.Quantum.{SyncsNow}
-use Rattle.cluster_core.specs.View.{Held, Runs, Rolls, Waits, can_act, held_of, page_lacked}
+use Rattle.cluster_core.specs.View.{Held, Runs, can_act, held_of, page_lacked}
 
 -- ---- who comes after its children
 

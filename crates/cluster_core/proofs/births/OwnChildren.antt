@@ -4,6 +4,7 @@ use Rattle.std.specs.Prelude.{filter, option_map}
 use Rattle.std.specs.Option.{option_map_or, unwrap_or}
 use Rattle.t32_base.specs.declared.process.Pid.{Pid}
 use Rattle.t32_base.specs.declared.process.ClusterNo.{ClusterNo}
+use Rattle.t32_base.proofs.Facts.{same_pid_of}
 use Rattle.sys_text.specs.Valid.{is_system}
 use Rattle.bus_msg.specs.declared.entry.Entry.{Entry}
 use Rattle.bus_msg.specs.declared.placed.Placed.{Placed}
@@ -16,7 +17,7 @@ use Rattle.cert_sched.proofs.FamilyLaws.{Pair, Member}
 use Rattle.log_laws.proofs.records.Standing.{built_stands}
 use Rattle.birth_notice.specs.Family.{are_births, children_of, first_unsynced, is_of, lowest}
 use Rattle.birth_notice.proofs.BirthLaws.{births_kept}
-use Rattle.birth_notice.proofs.LowestLaws.{lowest-born, same_of}
+use Rattle.birth_notice.proofs.LowestLaws.{lowest-born}
 use Rattle.birth_notice.proofs.WalkLaws.{down, first-none, first-some, left, left-most}
 use Rattle.log_laws.specs.births.Unsynced.{unsynced_births}
 use Rattle.log_laws.proofs.births.FamilyKept.{births_may_stand}
@@ -40,7 +41,7 @@ module _ (births : List Pair) (t : Pair → Bool) (at : Pid → Bool) (ok : are_
     where
       by_test : (b : Pair) → Member b births → (x : Bool) → is_of p b ≡ x → (t b && is_of p b) ≡ is_of p b
       by_test b m true is =
-          let parent : b.0 ≡ p = same_of b.0 p (eqb-true (b.0).0 p.0 is) in
+          let parent : b.0 ≡ p = same_pid_of b.0 p (eqb-true (b.0).0 p.0 is) in
           ap (λ y. y && is_of p b) (stays b m (ap at parent ∙ here)).0
       by_test b m false is = (λ i. t b && is i) ∙ and_false (t b) ∙ sym is
         where
@@ -52,7 +53,7 @@ module _ (births : List Pair) (t : Pair → Bool) (at : Pid → Bool) (ok : are_
   child_at p c here low =
       let one = one_passes (λ (b : Pair). is_of p b && same_pid b.1 c) births (lowest-born births p c low) in
       let both = halves (is_of p one.pair) (same_pid (one.pair).1 c) one.passes in
-      ap at (sym (same_of (one.pair).1 c (eqb-true ((one.pair).1).0 c.0 both.1))) ∙ (stays one.pair one.member (ap at (same_of (one.pair).0 p (eqb-true ((one.pair).0).0 p.0 both.0)) ∙ here)).1
+      ap at (sym (same_pid_of (one.pair).1 c (eqb-true ((one.pair).1).0 c.0 both.1))) ∙ (stays one.pair one.member (ap at (same_pid_of (one.pair).0 p (eqb-true ((one.pair).0).0 p.0 both.0)) ∙ here)).1
     where
       halves : (x y : Bool) → (x && y) ≡ true → (x ≡ true) × (y ≡ true)
       halves true y is = (refl, is)

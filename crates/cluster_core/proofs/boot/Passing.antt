@@ -6,6 +6,7 @@ use Rattle.std.specs.List.{list_any}
 use Rattle.std.specs.Map.{lookup}
 use Rattle.std.specs.Ordering.{is_eq, nat_cmp}
 use Rattle.std.proofs.lemmas.Bool.Decides.{nat_tests}
+use Rattle.std.proofs.lemmas.Bool.{or_parts}
 use Rattle.t32_base.specs.declared.process.Pid.{Pid}
 use Rattle.proc_state.specs.declared.process.Process.{Process}
 use Rattle.proc_state.specs.State.{ProcState}
@@ -14,7 +15,7 @@ use Rattle.plain_kernel.specs.Maps.{at_key}
 use Rattle.plain_kernel.specs.Maps.{processes_of as states_of}
 use Rattle.bus_msg.specs.Places.{same_pid}
 use Rattle.cert_sched.proofs.BootPids.{state_pids}
-use Rattle.cert_sched.proofs.RisingLaws.{NoTwo, either_not}
+use Rattle.cert_sched.proofs.RisingLaws.{NoTwo}
 use Rattle.cluster_core.specs.Booting.{running_at}
 use Rattle.cluster_core.specs.Residents.{pids_in}
 use Rattle.cluster_core.specs.View.{Held, Runs, held_of}
@@ -114,7 +115,7 @@ pids_pass test (e ∷ ss) = by_test (test (e.0).0) (pids_pass test ss)
 -- no number stands twice among them where none does among all
 passing_none : (t test : ℕ → Bool) (ns : List ℕ) → list_any t ns ≡ false → list_any t (filter test ns) ≡ false
 passing_none t test [] none = refl
-passing_none t test (n ∷ ns) none = by_test (test n) (either_not (t n) (list_any t ns) none) (passing_none t test ns)
+passing_none t test (n ∷ ns) none = by_test (test n) (or_parts (t n) (list_any t ns) none) (passing_none t test ns)
   where
     by_test : (b : Bool) → (t n ≡ false) × (list_any t ns ≡ false) → (list_any t ns ≡ false → list_any t (filter test ns) ≡ false) → list_any t (cond b (n ∷ filter test ns) (filter test ns)) ≡ false
     by_test true parts more = ap (λ b. b || list_any t (filter test ns)) parts.0 ∙ more parts.1

@@ -11,7 +11,7 @@ use Rattle.proc_state.specs.declared.process.Process.{Process}
 use Rattle.bus_msg.specs.Places.{same_pid}
 use Rattle.plain_kernel.specs.Maps.{at_key, pid_of}
 use Rattle.quanta.specs.declared.limits.Limits.{Limits}
-use Rattle.cluster_core.specs.View.{Held, Runs, Rolls, Waits, held_of, page_lacked}
+use Rattle.cluster_core.specs.View.{Held, Runs, held_of, page_lacked}
 use Rattle.cluster_core.specs.Residents.{pids_in, with_changed, with_more}
 use Rattle.cluster_core.specs.Slots.{IsKept, stands_in}
 use Rattle.cluster_core.specs.Bearing.{ForksAt, ForksFrom, HasForked, forked, newborn, with_born, with_fork}

@@ -1,13 +1,12 @@
 -- Which forks are still to be made again after a birth: the parent runs, and so does its child.
 use Rattle.std.proofs.Common.{◌≡◌, ◌⊎◌, refl, sym, ◌∙◌, ap, subst, List, [], ◌∷◌, ◌++◌, Bool, true, false, eqb-true, inl, inr, Some, true≢false}
 use Rattle.std.specs.List.{list_any}
-use Rattle.std.proofs.lemmas.Bool.{and_parts}
+use Rattle.std.proofs.lemmas.Bool.{and_parts, or_parts}
 use Rattle.t32_base.specs.declared.process.Pid.{Pid}
 use Rattle.proc_state.specs.declared.process.Process.{Process}
 use Rattle.bus_msg.specs.Places.{same_pid}
 use Rattle.birth_notice.specs.Family.{stands_in}
 use Rattle.cert_sched.proofs.FamilyLaws.{Pair}
-use Rattle.cert_sched.proofs.RisingLaws.{either_not}
 use Rattle.log_laws.proofs.births.Filters.{one_passes, passes_any}
 use Rattle.cluster_core.specs.View.{Held, Runs, held_of, is_waiting}
 use Rattle.cluster_core.specs.Bearing.{with_born}
@@ -22,7 +21,7 @@ stands_apart births new parent child none born =
     let one = one_passes (bears_by parent child) births born in
     let both = and_parts (same_pid (one.pair).0 parent) (same_pid (one.pair).1 child) one.passes in
     let apart = by_test one.pair (stands_in new one.pair) refl (λ is. passes_any (stands_in new) births one.pair one.member is) in
-    let halves = either_not (same_pid new (one.pair).0) (same_pid new (one.pair).1) apart in
+    let halves = or_parts (same_pid new (one.pair).0) (same_pid new (one.pair).1) apart in
     (ap (same_pid new) (sym (pid_same (one.pair).0 parent (eqb-true ((one.pair).0).0 parent.0 both.0))) ∙ halves.0, ap (same_pid new) (sym (pid_same (one.pair).1 child (eqb-true ((one.pair).1).0 child.0 both.1))) ∙ halves.1)
   where
     by_test : (b : Pair) (t : Bool) → stands_in new b ≡ t → (stands_in new b ≡ true → list_any (stands_in new) births ≡ true) → t ≡ false

@@ -1,10 +1,10 @@
 -- A process that made steps again can make its further forks again.
 use Rattle.std.proofs.Common.{◌≡◌, ℕ, ◌∙◌, sym, ap, subst, cond, List, ◌∷◌, Bool, true, false, Some, inl, inr, refl}
+use Rattle.std.proofs.lemmas.Option.{same_Some}
 use Rattle.t32_base.specs.declared.process.Pid.{Pid}
 use Rattle.t32_base.specs.declared.process.Counts.{Counts}
 use Rattle.proc_state.specs.declared.process.Process.{Process}
 use Rattle.proc_state.specs.State.{ProcState, state_of}
-use Rattle.plain_kernel.proofs.Entries.{some_same}
 use Rattle.roll_forward.specs.RunsOut.{nothing_left}
 use Rattle.cluster_core.specs.Bearing.{forked}
 use Rattle.cluster_core.specs.Changed.{with_changed}
@@ -22,7 +22,7 @@ ForksOn here (Rolls p counts births) = (n : ℕ) → AtForks (CanBeginAgain here
 ForksOn here _ = Unit {0}
 
 on_there : (here : List (Pid × Held)) (p : Pid) (h : Held) → held_of here p ≡ Some h → ForksOn here h → CanForkAgainAt here p
-on_there here p h there on process counts births at = subst (ForksOn here) (some_same h (Rolls process counts births) (sym there ∙ at)) on
+on_there here p h there on process counts births at = subst (ForksOn here) (same_Some h (Rolls process counts births) (sym there ∙ at)) on
 
 on_less : (old new : List (Pid × Held)) (h : Held) → ((s : ProcState) (q : Pid) → CanBeginAgain old s q → CanBeginAgain new s q) → ForksOn old h → ForksOn new h
 on_less old new (Rolls p counts births) less on = λ n. at_forks_less (CanBeginAgain old) (CanBeginAgain new) less n (state_of p) counts births (on n)

@@ -1,6 +1,7 @@
 -- What holds at the forks that a process comes to which rolls forward: so it does after its steps, and after a fork.
-use Rattle.std.proofs.Common.{◌≡◌, ℕ, zero, suc, ◌+◌, refl, ◌∙◌, subst, arith, List, [], ◌∷◌, Option, Some, None}
+use Rattle.std.proofs.Common.{◌≡◌, ℕ, zero, suc, ◌+◌, refl, subst, arith, List, [], ◌∷◌, Option, Some, None}
 use Rattle.std.specs.Prelude.{option_and_then}
+use Rattle.std.proofs.lemmas.Option.{same_Some}
 use Rattle.t32_base.specs.declared.process.Pid.{Pid}
 use Rattle.t32_base.specs.declared.process.Counts.{Counts}
 use Rattle.proc_state.specs.declared.process.Process.{Process}
@@ -8,7 +9,6 @@ use Rattle.proc_state.specs.State.{ProcState, state_of}
 use Rattle.sys_calls.specs.declared.steps.Emission.TheVariants.{Mail as Sent, Exit as Ended}
 use Rattle.sys_calls.specs.Calls.{Next, Silent, Blocked, Forks, Emits, Over}
 use Rattle.sys_calls.specs.Next.{next_step}
-use Rattle.plain_kernel.proofs.Entries.{some_same}
 use Rattle.roll_forward.specs.Advancing.{Going, going, gone_on, rolled_on}
 use Rattle.roll_forward.specs.RunsOut.{RunsOn, RunsOut}
 use Rattle.cluster_core.specs.Bearing.{forked}
@@ -21,17 +21,17 @@ use Rattle.cluster_core.proofs.absorbing.Standing.{runs_on}
 
 -- a step that is no fork leads to what comes after it
 gone_step : (g h : Going) (After : ProcState → Counts → List Pid → Type 0) (next : Next) → RunsOn g.state g.counts After next g.births → gone_on g next ≡ Some h → After h.state h.counts h.births
-gone_step g h After (Silent t) on e = subst (λ (k : Going). After k.state k.counts k.births) (some_same _ h e) on
+gone_step g h After (Silent t) on e = subst (λ (k : Going). After k.state k.counts k.births) (same_Some _ h e) on
 gone_step g h After Blocked on e = cc
 gone_step g h After Forks on e = cc
-gone_step g h After (Emits (Sent letter) t) on e = subst (λ (k : Going). After k.state k.counts k.births) (some_same _ h e) on.1
+gone_step g h After (Emits (Sent letter) t) on e = subst (λ (k : Going). After k.state k.counts k.births) (same_Some _ h e) on.1
 gone_step g h After (Emits (Ended end) t) on e = cc
 gone_step g h After Over on e = cc
 
 -- steps that are withheld, before each of which something was left
 pub at_forks_rolled : (Holds : ProcState → Pid → Type 0) (n ahead : ℕ) (g h : Going) → RunsOut g.state g.counts g.births (n + ahead) → rolled_on n g ≡ Some h → ((m : ℕ) → AtForks Holds m g.state g.counts g.births) → (m : ℕ) → AtForks Holds m h.state h.counts h.births
 unfolding rolled_on
-at_forks_rolled Holds zero ahead g h runs is holds m = subst (λ (k : Going). AtForks Holds m k.state k.counts k.births) (some_same g h is) (holds m)
+at_forks_rolled Holds zero ahead g h runs is holds m = subst (λ (k : Going). AtForks Holds m k.state k.counts k.births) (same_Some g h is) (holds m)
 at_forks_rolled Holds (suc n) ahead g h runs is holds m =
     let count : suc n + ahead ≡ n + suc ahead = omega arith in
     let longer : RunsOut g.state g.counts g.births (n + suc ahead) = subst (λ k. RunsOut g.state g.counts g.births k) count runs in

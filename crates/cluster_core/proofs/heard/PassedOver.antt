@@ -38,7 +38,7 @@ use Rattle.cluster_core.specs.Parts.{AllOwn, IsHeldOwn}
 use Rattle.cluster_core.specs.Recovered.{left_by, moved_by, with_all_waiting}
 use Rattle.cluster_core.specs.Residents.{pids_in}
 use Rattle.cluster_core.specs.Serving.{Serves}
-use Rattle.cluster_core.specs.View.{ClusterView, Held, Runs, Rolls, Waits, held_of, page_held, with_server}
+use Rattle.cluster_core.specs.View.{ClusterView, Held, Waits, held_of, page_held, with_server}
 use Rattle.cluster_core.proofs.absorbing.Absorbed.{absorbs}
 use Rattle.cluster_core.proofs.absorbing.Arriving.{comes_here, goes_elsewhere}
 use Rattle.cluster_core.proofs.absorbing.Counted.{count_by-snoc, lost_before}

@@ -5,12 +5,12 @@ use Rattle.std.specs.List.{list_all, list_any, AllByRecursion}
 use Rattle.std.specs.Option.{option_or}
 use Rattle.std.proofs.lemmas.Bool.{and_from, and_parts, or_left, or_right}
 use Rattle.std.proofs.lemmas.Bool.Decides.{nat_tests}
+use Rattle.std.proofs.lemmas.Option.{same_Some}
 use Rattle.slab.specs.Slab.{Slab, get}
 use Rattle.t32_base.specs.declared.process.Pid.{Pid}
 use Rattle.t32_base.specs.declared.process.ClusterNo.{ClusterNo}
 use Rattle.bus_msg.specs.Places.{same_pid}
 use Rattle.plain_kernel.specs.Maps.{at_key, pid_of}
-use Rattle.plain_kernel.proofs.Entries.{some_same}
 use Rattle.cert_sched.specs.Parts.{first_of}
 use Rattle.quanta.specs.declared.limits.Limits.{Limits}
 use Rattle.cluster_core.specs.declared.quantum.Quantum.{Quantum}
@@ -52,8 +52,8 @@ first_is_least t (x ∷ xs) n rise found q there passes = by_tests (t x) (at_key
 
     by_tests : (b c : Bool) → t x ≡ b → at_key q x ≡ c → cond b (Some x) (find t xs) ≡ Some n → (c || list_any (at_key q) xs) ≡ true
         → (find t xs ≡ Some n → (q : ℕ) → list_any (at_key q) xs ≡ true → t q ≡ true → ltb q n ≡ false) → ltb q n ≡ false
-    by_tests true true is at found there more = (λ i. ltb (sym (eqb-true x q (sym (at_key_is q x) ∙ at)) i) n) ∙ ap (ltb x) (sym (some_same x n found)) ∙ not_below x
-    by_tests true false is at found there more = later_not x q n (above xs parts.0 there) (some_same x n found)
+    by_tests true true is at found there more = (λ i. ltb (sym (eqb-true x q (sym (at_key_is q x) ∙ at)) i) n) ∙ ap (ltb x) (sym (same_Some x n found)) ∙ not_below x
+    by_tests true false is at found there more = later_not x q n (above xs parts.0 there) (same_Some x n found)
     by_tests false true is at found there more = absurd (true≢false (sym passes ∙ ap t (sym (eqb-true x q (sym (at_key_is q x) ∙ at))) ∙ is))
     by_tests false false is at found there more = more found q there passes
 
@@ -126,7 +126,7 @@ next_of_those ready able last n rise rise_able among next there = by_case (find 
         found_passes (x ∷ xs) found = by_test (ltb last x) refl found (found_passes xs)
           where
             by_test : (b : Bool) → ltb last x ≡ b → cond b (Some x) (find (λ m. ltb last m) xs) ≡ Some m → (find (λ m. ltb last m) xs ≡ Some m → ltb last m ≡ true) → ltb last m ≡ true
-            by_test true is found more = ap (ltb last) (sym (some_same x m found)) ∙ is
+            by_test true is found more = ap (ltb last) (sym (same_Some x m found)) ∙ is
             by_test false is found more = more found
 
     none_able : (xs : List ℕ) → ((q : ℕ) → list_any (at_key q) xs ≡ true → ltb last q ≡ false) → find (λ m. ltb last m) xs ≡ None
@@ -141,7 +141,7 @@ next_of_those ready able last n rise rise_able among next there = by_case (find 
 
     by_case : (o : Option ℕ) → find (λ m. ltb last m) ready ≡ o → option_or o (first_of ready) ≡ Some n → next_ready able last ≡ Some n
     by_case (Some m) is found =
-        let same : m ≡ n = some_same m n found in
+        let same : m ≡ n = same_Some m n found in
         let at : find (λ m. ltb last m) ready ≡ Some n = is ∙ found in
         ap (λ o. option_or o (first_of able))
         (found_first (λ m. ltb last m) able n rise_able there (passes n at) (λ q any above. first_is_least (λ m. ltb last m) ready n rise at q (among q any) above))
@@ -212,7 +212,7 @@ module _ (limits : Limits) (family : List (Pid × Pid)) (whole : List (Pid × He
           let same : e.0 ≡ pid_of n = pid_same e.0 (pid_of n) (eqb-true (e.0).0 n at) in
           absurd (true≢false (sym free ∙ ap (λ p. not (is_hindered limits family whole p)) (sym same) ∙ ap not hinders))
       by_tests true false h at has hinders there more =
-          let same : e.1 ≡ p = some_same e.1 p there in
+          let same : e.1 ≡ p = same_Some e.1 p there in
           absurd (true≢false (sym steps ∙ ap (can_act limits) (sym same) ∙ has))
       by_tests false true false at has hinders there more = or_right (at_key n (e.0).0) (list_any (at_key n) (pids_in (filter turns here))) (more there)
       by_tests false true true at has hinders there more = more there

@@ -3,6 +3,7 @@ use Rattle.std.proofs.Common.{◌≡◌, ℕ, zero, suc, length, ◌+◌, ◌*�
 use Rattle.std.specs.Prelude.{find, option_map}
 use Rattle.std.specs.List.{list_any, sum_by}
 use Rattle.std.proofs.lemmas.List.Sums.{sum_by-cons}
+use Rattle.std.proofs.lemmas.Bool.{or_parts}
 use Rattle.t32_base.specs.declared.process.Pid.{Pid}
 use Rattle.t32_base.specs.declared.process.Counts.{Counts}
 use Rattle.proc_state.specs.declared.process.Process.{Process}
@@ -10,7 +11,7 @@ use Rattle.proc_state.specs.State.{state_of}
 use Rattle.sys_calls.specs.Small.{weight_with_children}
 use Rattle.sys_calls.proofs.Bearing.{silently_lightens}
 use Rattle.bus_msg.specs.Places.{same_pid}
-use Rattle.cert_sched.proofs.RisingLaws.{NoTwo, either_not}
+use Rattle.cert_sched.proofs.RisingLaws.{NoTwo}
 use Rattle.roll_forward.specs.Advancing.{Going, going, rolled_on}
 use Rattle.write_count.specs.Counting.{no_counts}
 use Rattle.quanta.specs.Quantum.{RunsOn}
@@ -30,7 +31,7 @@ weight_of e = held_load e.1
 others_same : (p : Pid) (now : Held) (here : List (Pid × Held)) → list_any (λ m. eqb m p.0) (pids_in here) ≡ false → sum_held (with_changed p now here) ≡ sum_held here
 others_same p now [] none = refl
 others_same p now (e ∷ here) none =
-    let parts = either_not (eqb (e.0).0 p.0) (list_any (λ m. eqb m p.0) (pids_in here)) none in
+    let parts = or_parts (eqb (e.0).0 p.0) (list_any (λ m. eqb m p.0) (pids_in here)) none in
     ap (λ b. sum_held (cond b (p, now) e ∷ with_changed p now here)) parts.0 ∙ sum_by-cons weight_of e (with_changed p now here) ∙ ap (λ n. held_load e.1 + n) (others_same p now here parts.1)
     ∙ sym (sum_by-cons weight_of e here)
 

@@ -20,7 +20,7 @@ use Rattle.cert_sched.specs.Deeds.{is_end_of, letter_for, to_process}
 use Rattle.cert_sched.proofs.StepLaws.{Tells}
 use Rattle.cert_sched.proofs.MailLaws.{with_arrival}
 use Rattle.quanta.specs.declared.limits.Limits.{Limits}
-use Rattle.cluster_core.specs.View.{Held, Runs, Rolls, Waits, IsHeldWithin, arrived, arrived_held, held_of}
+use Rattle.cluster_core.specs.View.{Held, Runs, Rolls, IsHeldWithin, arrived, arrived_held, held_of}
 use Rattle.cluster_core.specs.Residents.{pids_in, with_changed}
 use Rattle.cluster_core.specs.Calls.{here_after, with_letter}
 use Rattle.cluster_core.proofs.absorbing.ByKind.{by_kind}

@@ -12,7 +12,8 @@ use Rattle.std.specs.declared.cmp.Ordering.TheVariants.{Less, Greater}
 use Rattle.std.specs.Map.{lookup, remove_entry}
 use Rattle.std.specs.BTreeMap.{insert_entry}
 use Rattle.std.proofs.lemmas.Bool.Decides.{nat_tests}
-use Rattle.std.proofs.lemmas.Bool.{false≢true}
+use Rattle.std.proofs.lemmas.Bool.{false≢true, or_parts}
+use Rattle.std.proofs.lemmas.Option.{same_Some}
 use Rattle.slab.specs.Slab.{Slab, get, Updates}
 use Rattle.t32_base.specs.declared.process.Pid.{Pid}
 use Rattle.t32_base.specs.declared.process.ClusterNo.{ClusterNo}
@@ -21,9 +22,8 @@ use Rattle.cluster_core.specs.View.{Held, can_act, page_lacked}
 use Rattle.cluster_core.specs.Calls.{rests_in}
 use Rattle.bus_msg.specs.Places.{same_pid}
 use Rattle.plain_kernel.specs.Maps.{at_key, pid_of}
-use Rattle.plain_kernel.proofs.Entries.{some_same}
 use Rattle.cert_sched.specs.Parts.{first_of}
-use Rattle.cert_sched.proofs.RisingLaws.{NoTwo, either_not}
+use Rattle.cert_sched.proofs.RisingLaws.{NoTwo}
 use Rattle.cluster_core.specs.Residents.{is_stuck, are_rising, are_settled, pids_in, next_ready, is_stuck_at, lacks_none_at, RunsOnAt, RunsRest, SyncsAt, with_changed, with_more}
 use Rattle.cluster_core.specs.Slots.{in_slot, stands_in, IsSlot, IsKept}
 use Rattle.t32_base.specs.declared.streams.NoMemory.{NoMemory}
@@ -62,8 +62,8 @@ kept_written limits slots new n key now keys ready asking able_now lacks_now fou
             let pid : e.0 ≡ n = eqb-true e.0 n (one ∙ is) in
             record {
               filled = ap is_some at;
-              able = λ p there steps. ap (λ m. list_any (at_key m) ready) pid ∙ able_now (ap (can_act limits) (some_same now p (sym at ∙ there)) ∙ steps);
-              lacks = λ p there some. ap (λ m. list_any (at_key m) asking) pid ∙ lacks_now (ap (λ (h : Held). is_some (page_lacked h)) (some_same now p (sym at ∙ there)) ∙ some);
+              able = λ p there steps. ap (λ m. list_any (at_key m) ready) pid ∙ able_now (ap (can_act limits) (same_Some now p (sym at ∙ there)) ∙ steps);
+              lacks = λ p there some. ap (λ m. list_any (at_key m) asking) pid ∙ lacks_now (ap (λ (h : Held). is_some (page_lacked h)) (same_Some now p (sym at ∙ there)) ∙ some);
             }
         by_test false is =
             let same : get new e.1 ≡ get slots e.1 = updates.others e.1 (λ same. true≢false (sym (eq-eqb e.1 key same) ∙ is)) in
@@ -120,7 +120,7 @@ none_here limits slots ready asking n (e ∷ es) kept none = let parts = in_fron
     in_front : (o : Option Held) → IsSome o → list_any (λ (e : Pid × Held). same_pid e.0 (pid_of n)) (in_slot (pid_of e.0) o (stands_in slots es)) ≡ false
         → (eqb e.0 n ≡ false) × (list_any (λ (e : Pid × Held). same_pid e.0 (pid_of n)) (stands_in slots es) ≡ false)
     in_front None there none = absurd (false≢true there)
-    in_front (Some p) there none = either_not (eqb e.0 n) (list_any (λ (e : Pid × Held). same_pid e.0 (pid_of n)) (stands_in slots es)) none
+    in_front (Some p) there none = or_parts (eqb e.0 n) (list_any (λ (e : Pid × Held). same_pid e.0 (pid_of n)) (stands_in slots es)) none
 
 pub stands_put : (limits : Limits) (slots : Slab Held) (ready asking : List ℕ) (n key : ℕ) (p : Held) (es : List (ℕ × ℕ)) → get slots key ≡ Some p → AllByRecursion (IsSlot limits slots ready asking) es → OtherPids n es
     → stands_in slots (insert_entry nat_cmp es n key) ≡ with_more (pid_of n) p (stands_in slots es)
@@ -138,11 +138,11 @@ stands_put limits slots ready asking n key p (e ∷ es) there kept others = ap (
 
 any_put : (t : ℕ → Bool) (n key : ℕ) (es : List (ℕ × ℕ)) → OtherPids n es → list_any t (slot_keys es) ≡ false → t key ≡ false → list_any t (slot_keys (insert_entry nat_cmp es n key)) ≡ false
 any_put t n key [] others none other = ap (λ b. b || false) other
-any_put t n key (e ∷ es) others none other = ap (λ es. list_any t (slot_keys es)) (put_first n key e es others.0) ∙ by_test (ltb n e.0) (any_put t n key es others.1 (either_not (t e.1) (list_any t (slot_keys es)) none).1 other)
+any_put t n key (e ∷ es) others none other = ap (λ es. list_any t (slot_keys es)) (put_first n key e es others.0) ∙ by_test (ltb n e.0) (any_put t n key es others.1 (or_parts (t e.1) (list_any t (slot_keys es)) none).1 other)
   where
     by_test : (b : Bool) → list_any t (slot_keys (insert_entry nat_cmp es n key)) ≡ false → list_any t (slot_keys (cond b ((n, key) ∷ e ∷ es) (e ∷ insert_entry nat_cmp es n key))) ≡ false
     by_test true more = λ i. other i || none i
-    by_test false more = λ i. (either_not (t e.1) (list_any t (slot_keys es)) none).0 i || more i
+    by_test false more = λ i. (or_parts (t e.1) (list_any t (slot_keys es)) none).0 i || more i
 
 none_keyed : (key : ℕ) (es : List (ℕ × ℕ)) → AllByRecursion (λ (e : ℕ × ℕ). eqb e.1 key ≡ false) es → list_any (λ m. eqb m key) (slot_keys es) ≡ false
 none_keyed key [] all = refl
@@ -177,7 +177,7 @@ kept_added limits slots n key keys ready asking there unkeyed others listed asks
 any_removed : (t u : ℕ → Bool) (es : List (ℕ × ℕ)) → list_any t (slot_keys es) ≡ false → list_any t (slot_keys (remove_entry u es)) ≡ false
 any_removed t u [] none = none
 any_removed t u (e ∷ es) none =
-    let parts = either_not (t e.1) (list_any t (slot_keys es)) none in
+    let parts = or_parts (t e.1) (list_any t (slot_keys es)) none in
     by_test parts.0 parts.1 (u e.0) (any_removed t u es parts.1)
   where
     by_test : t e.1 ≡ false → list_any t (slot_keys es) ≡ false → (b : Bool) → list_any t (slot_keys (remove_entry u es)) ≡ false → list_any t (slot_keys (cond b es (e ∷ remove_entry u es))) ≡ false
@@ -294,12 +294,12 @@ find_any t n (x ∷ xs) found = by_test (t x) found (λ found. find_any t n xs f
     or_true false = refl
 
     by_test : (b : Bool) → cond b (Some x) (find t xs) ≡ Some n → (find t xs ≡ Some n → list_any (at_key n) xs ≡ true) → (at_key n x || list_any (at_key n) xs) ≡ true
-    by_test true found more = ap (λ b. b || list_any (at_key n) xs) (at_key_is n x ∙ eq-eqb x n (some_same x n found))
+    by_test true found more = ap (λ b. b || list_any (at_key n) xs) (at_key_is n x ∙ eq-eqb x n (same_Some x n found))
     by_test false found more = ap (λ b. at_key n x || b) (more found) ∙ or_true (at_key n x)
 
 pub first_any : (n : ℕ) (xs : List ℕ) → first_of xs ≡ Some n → list_any (at_key n) xs ≡ true
 first_any n [] first = cc
-first_any n (x ∷ xs) first = ap (λ b. b || list_any (at_key n) xs) (at_key_is n x ∙ eq-eqb x n (some_same x n first))
+first_any n (x ∷ xs) first = ap (λ b. b || list_any (at_key n) xs) (at_key_is n x ∙ eq-eqb x n (same_Some x n first))
 
 pub next_is_ready : (ready : List ℕ) (last n : ℕ) → next_ready ready last ≡ Some n → list_any (at_key n) ready ≡ true
 next_is_ready ready last n next = by_case (find (λ m. ltb last m) ready) refl next
@@ -345,7 +345,7 @@ filled_at limits slots ready asking n key [] found kept = cc
 filled_at limits slots ready asking n key (e ∷ es) found kept = by_test (at_key n e.0) found (λ found. filled_at limits slots ready asking n key es found kept.1)
   where
     by_test : (b : Bool) → cond b (Some e.1) (lookup (at_key n) es) ≡ Some key → (lookup (at_key n) es ≡ Some key → IsSome (get slots key)) → IsSome (get slots key)
-    by_test true found more = ap (λ k. is_some (get slots k)) (sym (some_same e.1 key found)) ∙ (kept.0).filled
+    by_test true found more = ap (λ k. is_some (get slots k)) (sym (same_Some e.1 key found)) ∙ (kept.0).filled
     by_test false found more = more found
 
 pub never_empty : (limits : Limits) (slots : Slab Held) (n key : ℕ) (keys : List (ℕ × ℕ)) (ready asking : List ℕ) → IsKept limits slots keys ready asking → lookup (at_key n) keys ≡ Some key → get slots key ≡ None → ⊥

@@ -32,9 +32,9 @@ use Rattle.t32_base.specs.Small.{SmallState}
 use Rattle.page_waits.specs.Waiting.{WaitingState, is_whole, start_of, with_page}
 use Rattle.cluster_core.specs.Work.{any_waits}
 use Rattle.page_waits.specs.Begun.{begun}
-use Rattle.cert_sched.proofs.RisingLaws.{either_not}
 use Rattle.roll_forward.specs.RunsOut.{nothing_left}
 use Rattle.std.specs.Option.{IfSome, option_map_or}
+use Rattle.std.proofs.lemmas.Bool.{or_parts}
 
 -- ---- one of them
 
@@ -82,7 +82,7 @@ settled_rest limits (e ∷ here) = λ i. one_rest limits e.1 i && settled_rest l
 none_waits : (limits : Limits) (here : List (Pid × Held)) → any_waits here ≡ false → are_settled limits here ≡ are_stuck limits here
 none_waits limits [] none = refl
 none_waits limits (e ∷ here) none =
-    let parts = either_not (is_waiting e.1) (any_waits here) none in
+    let parts = or_parts (is_waiting e.1) (any_waits here) none in
     λ i. by_stuck (is_stuck limits e.1) (is_waiting e.1) parts.0 i && none_waits limits here parts.1 i
   where
     and_true : (a : Bool) → (a && true) ≡ a

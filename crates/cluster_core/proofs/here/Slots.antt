@@ -7,13 +7,13 @@ use Rattle.std.specs.Ordering.{nat_cmp}
 use Rattle.std.specs.declared.cmp.Ordering.TheVariants.{Less}
 use Rattle.std.specs.Map.{lookup, remove_entry}
 use Rattle.std.proofs.lemmas.Bool.Decides.{nat_tests}
-use Rattle.std.proofs.lemmas.Bool.{false≢true}
+use Rattle.std.proofs.lemmas.Bool.{false≢true, or_parts}
+use Rattle.std.proofs.lemmas.Option.{same_Some}
 use Rattle.slab.specs.Slab.{Slab, get, Updates}
 use Rattle.t32_base.specs.declared.process.Pid.{Pid}
 use Rattle.bus_msg.specs.Places.{same_pid}
 use Rattle.plain_kernel.specs.Maps.{at_key, pid_of}
-use Rattle.plain_kernel.proofs.Entries.{some_same}
-use Rattle.cert_sched.proofs.RisingLaws.{NoTwo, either_not}
+use Rattle.cert_sched.proofs.RisingLaws.{NoTwo}
 use Rattle.cluster_core.specs.View.{Held, held_of}
 use Rattle.cluster_core.specs.Slots.{in_slot, stands_in}
 
@@ -74,18 +74,18 @@ IsOne n key e = eqb e.0 n ≡ eqb e.1 key
 other_key : (n key k : ℕ) (es : List (ℕ × ℕ)) → lookup (at_key n) es ≡ Some key → list_any (λ m. eqb m k) (slot_keys es) ≡ false → eqb key k ≡ false
 other_key n key k [] found none = cc
 other_key n key k (e ∷ es) found none =
-    let parts = either_not (eqb e.1 k) (list_any (λ m. eqb m k) (slot_keys es)) none in
+    let parts = or_parts (eqb e.1 k) (list_any (λ m. eqb m k) (slot_keys es)) none in
     by_test (at_key n e.0) found parts.0 (λ later. other_key n key k es later parts.1)
   where
     by_test : (b : Bool) → cond b (Some e.1) (lookup (at_key n) es) ≡ Some key → eqb e.1 k ≡ false → (lookup (at_key n) es ≡ Some key → eqb key k ≡ false) → eqb key k ≡ false
-    by_test true found apart more = let same : e.1 ≡ key = some_same e.1 key found in subst (λ m. eqb m k ≡ false) same apart
+    by_test true found apart more = let same : e.1 ≡ key = same_Some e.1 key found in subst (λ m. eqb m k ≡ false) same apart
     by_test false found apart more = more found
 
 -- no later entry has the pid or the key of the first
 others_apart : (n key x k : ℕ) (es : List (ℕ × ℕ)) → AllByRecursion (λ y. nat_cmp x y ≡ Less) (pids es) → list_any (λ m. eqb m k) (slot_keys es) ≡ false → x ≡ n → k ≡ key → AllByRecursion (IsOne n key) es
 others_apart n key x k [] later none is_pid is_key = tt
 others_apart n key x k (e ∷ es) later none is_pid is_key =
-    let parts = either_not (eqb e.1 k) (list_any (λ m. eqb m k) (slot_keys es)) none in
+    let parts = or_parts (eqb e.1 k) (list_any (λ m. eqb m k) (slot_keys es)) none in
     (later_is_other x e.0 n later.0 is_pid ∙ sym (subst (λ j. eqb e.1 j ≡ false) is_key parts.0), others_apart n key x k es later.1 parts.1 is_pid is_key)
 
 pub one_key : (n key : ℕ) (es : List (ℕ × ℕ)) → IsStrictlySortedBy nat_cmp (pids es) → NoTwo (slot_keys es) → lookup (at_key n) es ≡ Some key → AllByRecursion (IsOne n key) es
@@ -95,7 +95,7 @@ one_key n key (e ∷ es) ordered apart found = by_test (eqb e.0 n) refl (subst (
   where
     by_test : (b : Bool) → eqb e.0 n ≡ b → cond b (Some e.1) (lookup (at_key n) es) ≡ Some key → (lookup (at_key n) es ≡ Some key → AllByRecursion (IsOne n key) es) → AllByRecursion (IsOne n key) (e ∷ es)
     by_test true is found more =
-        let same : e.1 ≡ key = some_same e.1 key found in
+        let same : e.1 ≡ key = same_Some e.1 key found in
         (is ∙ sym (eq-eqb e.1 key same), others_apart n key e.0 e.1 es ordered.0 apart.0 (eqb-true e.0 n is) same)
     by_test false is found more = (is ∙ sym (turned key e.1 (other_key n key e.1 es found apart.0)), more found)
 
@@ -115,7 +115,7 @@ process_there slots n key p [] found is = cc
 process_there slots n key p (e ∷ es) found is = by_test (eqb e.0 n) refl (subst (λ b. cond b (Some e.1) (lookup (at_key n) es) ≡ Some key) (at_key_is n e.0) found) (λ found. process_there slots n key p es found is)
   where
     by_test : (b : Bool) → eqb e.0 n ≡ b → cond b (Some e.1) (lookup (at_key n) es) ≡ Some key → (lookup (at_key n) es ≡ Some key → held_of (stands_in slots es) (pid_of n) ≡ Some p) → held_of (stands_in slots (e ∷ es)) (pid_of n) ≡ Some p
-    by_test true same found more = in_slot_found (pid_of e.0) (pid_of n) (get slots e.1) p (stands_in slots es) same (ap (get slots) (some_same e.1 key found) ∙ is)
+    by_test true same found more = in_slot_found (pid_of e.0) (pid_of n) (get slots e.1) p (stands_in slots es) same (ap (get slots) (same_Some e.1 key found) ∙ is)
     by_test false other found more = in_slot_find (pid_of e.0) (pid_of n) (get slots e.1) (stands_in slots es) other ∙ more found
 
 -- ---- a pid that is not there
@@ -175,7 +175,7 @@ passes_here : (t : Held → Bool) (n pid : ℕ) (o : Option Held) (rest : List (
 passes_here t n pid None rest there passes = absurd (false≢true there)
 passes_here t n pid (Some q) rest there passes =
     let parts = both_true (not (eqb pid n) || t q) (passes_at t (pid_of n) rest) passes in
-    (λ p same at. ap t (sym (some_same q p same)) ∙ (λ i. not (sym at i) || t q) ∙ parts.0, parts.1)
+    (λ p same at. ap t (sym (same_Some q p same)) ∙ (λ i. not (sym at i) || t q) ∙ parts.0, parts.1)
 
 -- where it passes, what is in the slot of its key passes
 pub passes_each : (t : Held → Bool) (slots : Slab Held) (n : ℕ) (es : List (ℕ × ℕ)) → AllByRecursion (λ (e : ℕ × ℕ). IsSome (get slots e.1)) es → passes_at t (pid_of n) (stands_in slots es) ≡ true
@@ -197,7 +197,7 @@ passes_there t slots n key was (e ∷ es) one there passes = by_test (eqb e.1 ke
     here : (o : Option Held) (m : ℕ) → o ≡ Some was → passes_at t (pid_of n) (stands_in slots es) ≡ true → passes_at t (pid_of n) (in_slot (pid_of m) o (stands_in slots es)) ≡ true
     here None m same more = more
     here (Some q) m same more =
-        let passed : t q ≡ true = ap t (some_same q was same) ∙ passes in
+        let passed : t q ≡ true = ap t (same_Some q was same) ∙ passes in
         (λ i. (not (eqb m n) || passed i) && more i) ∙ or_true (not (eqb m n))
 
     elsewhere : (o : Option Held) (m : ℕ) → eqb m n ≡ false → passes_at t (pid_of n) (stands_in slots es) ≡ true → passes_at t (pid_of n) (in_slot (pid_of m) o (stands_in slots es)) ≡ true
@@ -229,8 +229,8 @@ written slots new n key was now g (e ∷ es) one there updates changes = by_test
     here (Some q) None m is_was is_now same more = cc
     here (Some q) (Some r) m is_was is_now same more =
         let at : m ≡ n = eqb-true m n same in
-        let was_is : q ≡ was = some_same q was is_was in
-        let now_is : r ≡ now = some_same r now is_now in
+        let was_is : q ≡ was = same_Some q was is_was in
+        let now_is : r ≡ now = same_Some r now is_now in
         let goes : g (pid_of m, q) ≡ (pid_of m, r) = (λ i. g (pid_of (at i), was_is i)) ∙ changes ∙ (λ i. (pid_of (sym at i), sym now_is i)) in
         let head : cond (eqb m n) (g (pid_of m, q)) (pid_of m, q) ≡ (pid_of m, r) = ap (λ b. cond b (g (pid_of m, q)) (pid_of m, q)) same ∙ goes in
         λ i. sym head i ∷ more i
@@ -279,5 +279,5 @@ entry_goes slots t key [] found none = refl
 entry_goes slots t key (e ∷ es) found none = by_test (t e.0) found (λ found. entry_goes slots t key es found none)
   where
     by_test : (b : Bool) → cond b (Some e.1) (lookup t es) ≡ Some key → (lookup t es ≡ Some key → stands_in slots (remove_entry t es) ≡ stands_in slots es) → stands_in slots (cond b es (e ∷ remove_entry t es)) ≡ stands_in slots (e ∷ es)
-    by_test true found more = ap (λ o. in_slot (pid_of e.0) o (stands_in slots es)) (sym (ap (get slots) (some_same e.1 key found) ∙ none))
+    by_test true found more = ap (λ o. in_slot (pid_of e.0) o (stands_in slots es)) (sym (ap (get slots) (same_Some e.1 key found) ∙ none))
     by_test false found more = ap (λ rest. in_slot (pid_of e.0) (get slots e.1) rest) (more found)

@@ -2,13 +2,12 @@
 use Rattle.std.proofs.Common.{◌≡◌, ◌≤◌, sym, ◌∙◌, ap, List, [], ◌∷◌, Bool, true, false, cond, ltb, ◌||◌, Some, is_some}
 use Rattle.std.specs.Prelude.{nat_lt}
 use Rattle.std.specs.List.{list_all, list_any}
-use Rattle.std.proofs.lemmas.Bool.{and_parts}
+use Rattle.std.proofs.lemmas.Bool.{and_parts, or_parts}
 use Rattle.t32_base.specs.declared.process.Pid.{Pid}
 use Rattle.t32_base.specs.declared.letter.BackRec.{BackRec}
 use Rattle.bus_msg.specs.Places.{same_pid}
 use Rattle.backup_records.specs.Records.{are_rising, record_in}
 use Rattle.page_waits.specs.Waiting.{page_count}
-use Rattle.cert_sched.proofs.RisingLaws.{either_not}
 use Rattle.cluster_core.specs.View.{Held}
 use Rattle.cluster_core.specs.Residents.{with_more}
 use Rattle.cluster_core.specs.Recovered.{CanWait}
@@ -19,7 +18,7 @@ use Rattle.cluster_core.proofs.losses.MovedRecords.{above_found, apart, record_p
 pub none_beside : (q : Pid) (x : Held) (here : List (Pid × Held)) (p : Pid) → same_pid q p ≡ false → list_any (λ (e : Pid × Held). same_pid e.0 p) here ≡ false → list_any (λ (e : Pid × Held). same_pid e.0 p) (with_more q x here) ≡ false
 none_beside q x [] p other none = λ i. other i || false
 none_beside q x (e ∷ here) p other none =
-    let parts = either_not (same_pid e.0 p) (list_any (λ (e : Pid × Held). same_pid e.0 p) here) none in
+    let parts = or_parts (same_pid e.0 p) (list_any (λ (e : Pid × Held). same_pid e.0 p) here) none in
     by_order (ltb q.0 (e.0).0) parts.0 (none_beside q x here p other parts.1)
   where
     by_order : (b : Bool) → same_pid e.0 p ≡ false → list_any (λ (e : Pid × Held). same_pid e.0 p) (with_more q x here) ≡ false → list_any (λ (e : Pid × Held). same_pid e.0 p) (cond b ((q, x) ∷ e ∷ here) (e ∷ with_more q x here)) ≡ false

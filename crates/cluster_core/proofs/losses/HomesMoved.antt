@@ -3,7 +3,7 @@ use Rattle.std.proofs.Common.{◌≡◌, ℕ, refl, sym, ◌∙◌, ap, arith, L
 use Rattle.std.specs.Prelude.{filter, find, nat_lt}
 use Rattle.std.specs.List.{list_all, list_any}
 use Rattle.std.specs.Option.{option_map_or}
-use Rattle.std.proofs.lemmas.Bool.{and_parts}
+use Rattle.std.proofs.lemmas.Bool.{and_parts, or_parts}
 use Rattle.std.proofs.lemmas.Bool.Decides.{nat_tests}
 use Rattle.t32_base.specs.declared.process.Pid.{Pid}
 use Rattle.t32_base.specs.declared.process.ClusterNo.{ClusterNo}
@@ -16,7 +16,7 @@ use Rattle.crash_notice.specs.Splitting.{is_moved_here}
 use Rattle.plain_kernel.specs.Maps.{pid_of}
 use Rattle.cert_sched.specs.Parts.{put_rising, rising}
 use Rattle.cert_sched.proofs.PidLaws.{placed_pids}
-use Rattle.cert_sched.proofs.RisingLaws.{NoTwo, either_not, put_all, put_all-put, put_rising-swap, rising-any}
+use Rattle.cert_sched.proofs.RisingLaws.{NoTwo, put_all, put_all-put, put_rising-swap, rising-any}
 use Rattle.backup_records.specs.Records.{are_rising, record_in}
 use Rattle.log_laws.proofs.records.RisingRecords.{rising_same}
 use Rattle.page_waits.specs.Begun.{number_of}
@@ -125,7 +125,7 @@ any_moved lost k (q ∷ qs) p two = by_tests (is_moved_here lost k q) refl (same
   where
     fewer : (t : ℕ → Bool) (rs : List Placed) → list_any t (placed_pids rs) ≡ false → list_any t (pids_moved lost k rs) ≡ false
     fewer t [] none = refl
-    fewer t (r ∷ rs) none = let parts = either_not (t (r.pid).0) (list_any t (placed_pids rs)) none in by_move (is_moved_here lost k r) parts.0 (fewer t rs parts.1)
+    fewer t (r ∷ rs) none = let parts = or_parts (t (r.pid).0) (list_any t (placed_pids rs)) none in by_move (is_moved_here lost k r) parts.0 (fewer t rs parts.1)
       where
         by_move : (m : Bool) → t (r.pid).0 ≡ false → list_any t (pids_moved lost k rs) ≡ false → list_any t (map (λ (q : Placed). (q.pid).0) (cond m (r ∷ filter (is_moved_here lost k) rs) (filter (is_moved_here lost k) rs))) ≡ false
         by_move true first more = λ i. first i || more i
@@ -190,7 +190,7 @@ rises_parts n ns rises =
 put_rises : (n : ℕ) (ns : List ℕ) → list_any (λ m. eqb m n) ns ≡ false → Rises ns → Rises (put_rising n ns)
 put_rises n [] none rises = refl
 put_rises n (m ∷ ns) none rises =
-    let apart = either_not (eqb m n) (list_any (λ m. eqb m n) ns) none in
+    let apart = or_parts (eqb m n) (list_any (λ m. eqb m n) ns) none in
     let parts = rises_parts m ns rises in
     by_order (ltb n m) refl apart.0 parts.0 (put_rises n ns apart.1 parts.1)
   where

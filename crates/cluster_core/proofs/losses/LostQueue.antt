@@ -3,12 +3,12 @@ use Rattle.std.proofs.Common.{◌≡◌, ◌⊎◌, ℕ, refl, sym, ◌∙◌, a
 use Rattle.std.specs.Prelude.{option_map}
 use Rattle.std.specs.List.{list_all}
 use Rattle.std.proofs.lemmas.Bool.{and_parts}
+use Rattle.std.proofs.lemmas.Option.{same_Some}
 use Rattle.t32_base.specs.declared.process.Pid.{Pid}
 use Rattle.t32_base.specs.declared.process.ClusterNo.{ClusterNo}
 use Rattle.sys_text.specs.declared.system.System.{System}
 use Rattle.sys_text.specs.Valid.{is_system}
 use Rattle.plain_kernel.specs.Kernel.{Kernel}
-use Rattle.plain_kernel.proofs.Entries.{some_same}
 use Rattle.bus_msg.specs.declared.entry.What.{What}
 use Rattle.bus_msg.specs.declared.entry.What.TheVariants.{Crash}
 use Rattle.bus_msg.specs.declared.entry.Cause.{Cause}
@@ -189,7 +189,7 @@ module _ (system : System) (valid : is_system system ≡ true) (log : List Entry
           u = telling system log (entry_of system log post) may (no_end k places post.by post.what may.built from (may.stands).by_right)
 
           of : u.pid ≡ p
-          of = some_same u.pid p (sym u.process ∙ moves_it p (post ∷ []) post.what (ap (λ b. option_map (λ (post : Post). post.what) (cond b (Some post) None)) is))
+          of = same_Some u.pid p (sym u.process ∙ moves_it p (post ∷ []) post.what (ap (λ b. option_map (λ (post : Post). post.what) (cond b (Some post) None)) is))
 
           by_it : is_by post.by (home_at places p) ≡ true
           by_it = ap (λ p. is_by post.by (home_at places p)) (sym of) ∙ by_home_of places post.by u.pid u.by_home

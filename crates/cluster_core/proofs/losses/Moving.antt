@@ -3,12 +3,12 @@ use Rattle.std.proofs.Common.{◌≡◌, ℕ, ◌≤◌, refl, sym, ◌∙◌, a
 use Rattle.std.specs.Prelude.{replicate}
 use Rattle.std.specs.List.{list_all}
 use Rattle.std.specs.Option.{IfSome}
+use Rattle.std.proofs.lemmas.Option.{same_Some}
 use Rattle.t32_base.specs.declared.process.Pid.{Pid}
 use Rattle.t32_base.specs.declared.letter.BackRec.{BackRec}
 use Rattle.t32_base.specs.Small.{SmallState}
 use Rattle.sys_text.specs.declared.system.System.{System}
 use Rattle.sys_text.specs.Valid.{is_system}
-use Rattle.plain_kernel.proofs.Entries.{some_same}
 use Rattle.bus_msg.specs.declared.entry.Entry.{Entry}
 use Rattle.cert_sched.specs.Built.{BuiltMayFollow}
 use Rattle.cert_sched.specs.Deeds.{starts}
@@ -53,4 +53,4 @@ module _ (system : System) (valid : is_system system ≡ true) (log : List Entry
       own_state None is = tt
       own_state (Some small) is =
           let same : Some (s.start).small ≡ Some small = sym (stated_at_start system log p s.start r (stated (ap is_some is)) s.started kept) ∙ is in
-          ap (λ (small : SmallState). small.pid) (some_same small (s.start).small (sym same)) ∙ process_after-own system (upto_last (starts p) log) p s.start s.started
+          ap (λ (small : SmallState). small.pid) (same_Some small (s.start).small (sym same)) ∙ process_after-own system (upto_last (starts p) log) p s.start s.started

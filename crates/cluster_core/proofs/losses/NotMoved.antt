@@ -3,7 +3,7 @@ use Rattle.std.proofs.Common.{◌≡◌, ℕ, refl, sym, ◌∙◌, ap, subst, L
 use Rattle.std.specs.Prelude.{find, option_map}
 use Rattle.std.specs.List.{list_any}
 use Rattle.std.specs.Option.{option_map_or}
-use Rattle.std.proofs.lemmas.Bool.{and_parts, not-true}
+use Rattle.std.proofs.lemmas.Bool.{and_parts, not-true, or_parts}
 use Rattle.t32_base.specs.declared.process.Pid.{Pid}
 use Rattle.t32_base.specs.declared.process.ClusterNo.{ClusterNo}
 use Rattle.t32_base.specs.declared.process.End.{End}
@@ -32,7 +32,6 @@ use Rattle.cert_sched.proofs.FreshLaws.{only_one}
 use Rattle.cert_sched.proofs.Induction.{legal_induction}
 use Rattle.cert_sched.proofs.LogLaws.{IsLegal-snoc, placement-snoc}
 use Rattle.cert_sched.proofs.PidLaws.{apart_of}
-use Rattle.cert_sched.proofs.RisingLaws.{either_not}
 use Rattle.cert_sched.proofs.StatedLaws.{stated_there}
 use Rattle.cert_sched.proofs.UnendedLaws.{loss_keeps, unended_map}
 use Rattle.log_laws.specs.pages.Next.{moves_next}
@@ -50,7 +49,7 @@ use Rattle.cluster_core.proofs.syncs.SyncedHomes.{backup_kept, synced_found}
 none_other : (t : Placed → Bool) (p : Pid) (q : Placed) (qs : List Placed) → same_pid q.pid p ≡ true → list_any (λ (r : Placed). same_pid r.pid q.pid) qs ≡ false → list_any (λ (r : Placed). same_pid r.pid p && t r) qs ≡ false
 none_other t p q [] is none = refl
 none_other t p q (r ∷ qs) is none =
-    let parts = either_not (same_pid r.pid q.pid) (list_any (λ (r : Placed). same_pid r.pid q.pid) qs) none in
+    let parts = or_parts (same_pid r.pid q.pid) (list_any (λ (r : Placed). same_pid r.pid q.pid) qs) none in
     let other : same_pid r.pid p ≡ false = ap (λ n. eqb (r.pid).0 n) (sym (eqb-true (q.pid).0 p.0 is)) ∙ parts.0 in
     λ i. (other i && t r) || none_other t p q qs is parts.1 i
 

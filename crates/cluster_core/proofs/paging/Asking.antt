@@ -9,12 +9,12 @@ use Rattle.std.specs.List.{list_any, AllByRecursion}
 use Rattle.std.specs.Map.{lookup}
 use Rattle.std.proofs.lemmas.Bool.Decides.{nat_tests}
 use Rattle.std.proofs.lemmas.Bool.{false≢true}
+use Rattle.std.proofs.lemmas.Option.{same_Some}
 use Rattle.slab.specs.Slab.{Slab, get, Updates}
 use Rattle.t32_base.specs.declared.process.Pid.{Pid}
 use Rattle.t32_base.specs.declared.process.ClusterNo.{ClusterNo}
 use Rattle.t32_base.specs.declared.streams.NoMemory.{NoMemory}
 use Rattle.plain_kernel.specs.Maps.{at_key, pid_of}
-use Rattle.plain_kernel.proofs.Entries.{some_same}
 use Rattle.cert_sched.specs.Parts.{first_of}
 use Rattle.quanta.specs.declared.limits.Limits.{Limits}
 use Rattle.cluster_core.specs.declared.quantum.Quantum.{Quantum}
@@ -36,7 +36,7 @@ able_listed limits slots ready asking n key was [] found there kept acts = cc
 able_listed limits slots ready asking n key was (e ∷ es) found there kept acts = by_test (at_key n e.0) (at_key_is n e.0) found (λ found. able_listed limits slots ready asking n key was es found there kept.1 acts)
   where
     by_test : (b : Bool) → b ≡ eqb e.0 n → cond b (Some e.1) (lookup (at_key n) es) ≡ Some key → (lookup (at_key n) es ≡ Some key → list_any (at_key n) ready ≡ true) → list_any (at_key n) ready ≡ true
-    by_test true is found more = ap (λ m. list_any (at_key m) ready) (sym (eqb-true e.0 n (sym is))) ∙ (kept.0).able was (ap (get slots) (some_same e.1 key found) ∙ there) acts
+    by_test true is found more = ap (λ m. list_any (at_key m) ready) (sym (eqb-true e.0 n (sym is))) ∙ (kept.0).able was (ap (get slots) (same_Some e.1 key found) ∙ there) acts
     by_test false is found more = more found
 
 -- and asks where it has a page to ask for
@@ -46,7 +46,7 @@ lacks_listed limits slots ready asking n key was [] found there kept some = cc
 lacks_listed limits slots ready asking n key was (e ∷ es) found there kept some = by_test (at_key n e.0) (at_key_is n e.0) found (λ found. lacks_listed limits slots ready asking n key was es found there kept.1 some)
   where
     by_test : (b : Bool) → b ≡ eqb e.0 n → cond b (Some e.1) (lookup (at_key n) es) ≡ Some key → (lookup (at_key n) es ≡ Some key → list_any (at_key n) asking ≡ true) → list_any (at_key n) asking ≡ true
-    by_test true is found more = ap (λ m. list_any (at_key m) asking) (sym (eqb-true e.0 n (sym is))) ∙ (kept.0).lacks was (ap (get slots) (some_same e.1 key found) ∙ there) some
+    by_test true is found more = ap (λ m. list_any (at_key m) asking) (sym (eqb-true e.0 n (sym is))) ∙ (kept.0).lacks was (ap (get slots) (same_Some e.1 key found) ∙ there) some
     by_test false is found more = more found
 
 -- ---- after a quantum
@@ -163,7 +163,7 @@ least_of n (x ∷ xs) least q there = by_test (at_key q x) refl there (least_of 
 
 first_least : (r : Option (Bor ℕ)) (xs : List ℕ) (n : ℕ) → IfSome r (λ k. All (IsLeBy nat_cmp k.now) xs) → option_copied r ≡ Some n → All (IsLeBy nat_cmp n) xs
 first_least None xs n least is = cc
-first_least (Some k) xs n least is = subst (λ m. All (IsLeBy nat_cmp m) xs) (some_same k.now n is) least
+first_least (Some k) xs n least is = subst (λ m. All (IsLeBy nat_cmp m) xs) (same_Some k.now n is) least
 
 pub lowest_asks : (limits : Limits) (slots : Slab Held) (keys : List (ℕ × ℕ)) (ready asking : List ℕ) (first : Option (Bor ℕ)) (n : ℕ) → IsKept limits slots keys ready asking → IfSome first (λ k. All (IsLeBy nat_cmp k.now) asking) → option_copied first ≡ Some n
     → is_lowest_lacking (pid_of n) (stands_in slots keys) ≡ true

@@ -1,8 +1,8 @@
 -- A cluster that asks for the lowest page that the lowest process there lacks.
-use Rattle.std.proofs.Common.{◌≡◌, ℕ, ◌+◌, refl, sym, ◌∙◌, ap, subst, arith, List, [], ◌∷◌, Bool, true, false, cond, ◌&&◌, ◌||◌, eqb, eq-eqb, Some, is_some, inl, inr, true≢false}
-use Rattle.std.proofs.lemmas.Bool.Decides.{nat_tests}
+use Rattle.std.proofs.Common.{◌≡◌, ℕ, ◌+◌, refl, sym, ◌∙◌, ap, subst, List, [], ◌∷◌, Bool, true, false, cond, ◌&&◌, ◌||◌, eqb, eq-eqb, Some, is_some, inl, inr, true≢false}
 use Rattle.t32_base.specs.declared.process.Pid.{Pid}
 use Rattle.t32_base.specs.declared.process.ClusterNo.{ClusterNo}
+use Rattle.t32_base.proofs.Facts.{eqb_turned}
 use Rattle.sys_text.specs.Valid.{is_system}
 use Rattle.bus_msg.specs.declared.entry.Entry.{Entry}
 use Rattle.bus_msg.specs.Places.{same_pid}
@@ -17,7 +17,7 @@ use Rattle.page_waits.specs.Waiting.{WaitingState, next_page}
 use Rattle.replay_laws.specs.pages.Waits.{WaitsAs, none_queued}
 use Rattle.replay_laws.proofs.pages.Asks.{next_asked, next_fetch}
 use Rattle.cluster_core.specs.declared.worked.Worked.TheVariants.{Queued}
-use Rattle.cluster_core.specs.View.{ClusterView, Held, Runs, Rolls, Waits, asked_held, held_at, next_count, page_lacked}
+use Rattle.cluster_core.specs.View.{ClusterView, Held, Waits, asked_held, held_at, next_count, page_lacked}
 use Rattle.cluster_core.specs.Holds.{IsHeldAs, is_fetch_queued}
 use Rattle.cluster_core.specs.Follows.{FollowsBuilt, IsOpen}
 use Rattle.cluster_core.specs.Queue.{One}
@@ -43,16 +43,13 @@ pub who_lacks : (h : Held) (index : ℕ) → page_lacked h ≡ Some index → La
 who_lacks (Waits waiting) index lacks = record { waiting = waiting; is = refl; next = lacks }
 who_lacks _ index lacks = cc
 
-numbers_turned : (m n : ℕ) → eqb m n ≡ eqb n m
-numbers_turned m n = grind (arith, nat_tests)
-
 -- it is the cluster's own
 pub fetch_own : (k : ClusterNo) (p : Pid) (index : ℕ) → (is_from k (fetch_post k p index).by && true) ≡ true
 fetch_own k p index = ap (λ b. b && true) (eq-eqb k.0 k.0 refl)
 
 -- it asks for that page alone
 fetch_queued : (k : ClusterNo) (p : Pid) (index i : ℕ) → eqb i index ≡ is_fetch_queued p (fetch_post k p index ∷ []) i
-fetch_queued k p index i = numbers_turned i index ∙ sym (by_tests (same_pid p p) (eqb index i) (same_itself p))
+fetch_queued k p index i = eqb_turned i index ∙ sym (by_tests (same_pid p p) (eqb index i) (same_itself p))
   where
     by_tests : (b c : Bool) → b ≡ true → ((b && c) || false) ≡ c
     by_tests true true own = refl

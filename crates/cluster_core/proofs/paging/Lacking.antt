@@ -3,6 +3,7 @@ use Rattle.std.proofs.Common.{◌≡◌, ℕ, refl, sym, ◌∙◌, ap, subst, L
 use Rattle.std.specs.Prelude.{find, option_and_then, option_map, slice_get, ◌≢◌}
 use Rattle.std.specs.List.{list_any}
 use Rattle.std.specs.Option.{option_map_or}
+use Rattle.std.proofs.lemmas.Bool.{or_parts}
 use Rattle.t32_base.specs.declared.process.Pid.{Pid}
 use Rattle.sys_text.specs.Valid.{is_system}
 use Rattle.bus_msg.specs.declared.entry.By.TheVariants.{Cluster}
@@ -16,7 +17,7 @@ use Rattle.cert_sched.specs.Moved.{waiting_fetches}
 use Rattle.cert_sched.specs.Schedule.{placement}
 use Rattle.cert_sched.specs.Simulation.{bears}
 use Rattle.cert_sched.specs.Rules.{is_by}
-use Rattle.cert_sched.proofs.RisingLaws.{NoTwo, either_not}
+use Rattle.cert_sched.proofs.RisingLaws.{NoTwo}
 use Rattle.page_server.specs.Account.{PagerState}
 use Rattle.page_accounts.specs.Answering.{earliest}
 use Rattle.page_waits.specs.Waiting.{WaitingState, next_page}
@@ -83,7 +84,7 @@ none_passes test [] p h none there = cc
 none_passes test (e ∷ here) p h none there = by_pid (same_pid e.0 p) there (none_passes test here p h parts.1)
   where
     parts : (test e.1 ≡ false) × (list_any (λ (e : Pid × Held). test e.1) here ≡ false)
-    parts = either_not (test e.1) (list_any (λ (e : Pid × Held). test e.1) here) none
+    parts = or_parts (test e.1) (list_any (λ (e : Pid × Held). test e.1) here) none
 
     by_pid : (b : Bool) → option_map (λ (e : Pid × Held). e.1) (cond b (Some e) (find (λ (e : Pid × Held). same_pid e.0 p) here)) ≡ Some h → (held_of here p ≡ Some h → test h ≡ false) → test h ≡ false
     by_pid true at more =

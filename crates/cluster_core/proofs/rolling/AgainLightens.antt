@@ -2,6 +2,7 @@
 use Rattle.std.proofs.Common.{◌≡◌, ℕ, ◌+◌, ◌*◌, ◌≤◌, refl, sym, ◌∙◌, ap, subst, arith, List, [], ◌∷◌, Bool, true, false, cond, eqb, eqb-true, is_none, inl, inr}
 use Rattle.std.specs.List.{list_any}
 use Rattle.std.proofs.lemmas.List.Sums.{sum_by-cons}
+use Rattle.std.proofs.lemmas.Bool.{or_parts}
 use Rattle.t32_base.specs.declared.process.Pid.{Pid}
 use Rattle.t32_base.specs.declared.process.Counts.{Counts}
 use Rattle.proc_state.specs.declared.process.Process.{Process}
@@ -12,7 +13,7 @@ use Rattle.sys_calls.proofs.Bearing.{fork_lightens}
 use Rattle.sys_calls.proofs.ForkLaws.{forks_can}
 use Rattle.roll_forward.specs.RunsOut.{nothing_left}
 use Rattle.bus_msg.specs.Places.{same_pid}
-use Rattle.cert_sched.proofs.RisingLaws.{NoTwo, either_not}
+use Rattle.cert_sched.proofs.RisingLaws.{NoTwo}
 use Rattle.cluster_core.specs.Bearing.{forked, newborn}
 use Rattle.cluster_core.specs.Changed.{with_changed}
 use Rattle.cluster_core.specs.ForkingAgain.{begun_with, going_held, with_begun, with_mail_of, ForksAgain, NoPart, Part, RollsAgain, RollsPart}
@@ -60,7 +61,7 @@ module _ (process : Process) (child : Pid) where
   none_begun : (here : List (Pid × Held)) → list_any (λ m. eqb m child.0) (pids_in here) ≡ false → sum_held (with_begun child (newborn process child) here) ≡ sum_held here
   none_begun [] none = refl
   none_begun (e ∷ here) none =
-      let parts = either_not (eqb (e.0).0 child.0) (list_any (λ m. eqb m child.0) (pids_in here)) none in
+      let parts = or_parts (eqb (e.0).0 child.0) (list_any (λ m. eqb m child.0) (pids_in here)) none in
       ap (λ b. sum_held (cond b (e.0, begun_with (newborn process child) e.1) e ∷ with_begun child (newborn process child) here)) parts.0
       ∙ sum_by-cons (λ (e : Pid × Held). held_load e.1) e (with_begun child (newborn process child) here) ∙ ap (λ n. held_load e.1 + n) (none_begun here parts.1) ∙ sym (sum_by-cons (λ (e : Pid × Held). held_load e.1) e here)
 

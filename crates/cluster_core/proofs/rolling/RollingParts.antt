@@ -5,11 +5,11 @@ use Rattle.std.specs.List.{list_all}
 use Rattle.std.specs.Option.{option_map_or}
 use Rattle.std.proofs.lemmas.Bool.{and_parts}
 use Rattle.std.proofs.lemmas.Bool.Decides.{nat_tests}
+use Rattle.std.proofs.lemmas.Option.{same_Some}
 use Rattle.t32_base.specs.declared.process.Pid.{Pid}
 use Rattle.t32_base.specs.declared.process.Counts.{Counts}
 use Rattle.proc_state.specs.declared.process.Process.{Process}
 use Rattle.proc_state.specs.State.{state_of}
-use Rattle.plain_kernel.proofs.Entries.{some_same}
 use Rattle.roll_forward.specs.RunsOut.{nothing_left}
 use Rattle.bus_msg.specs.Places.{same_pid}
 use Rattle.page_waits.specs.Waiting.{WaitingState}
@@ -256,20 +256,20 @@ module _ (p : Pid) (old mid : List (Pid × Held)) (made : Bool) (born : Option P
 
   -- the child that its next fork takes is the one that it took
   pub bears_next : (next : Pid) → option_and_then child_again (held_of old p) ≡ Some next → next ≡ child
-  bears_next next is = some_same next child (sym is ∙ ap (option_and_then child_again) there)
+  bears_next next is = same_Some next child (sym is ∙ ap (option_and_then child_again) there)
 
   -- what was asked of it before the fork is asked of the fork
   pub begins_same : CanForkAgainNow p old → CanBeginAgain old (state_of (f.stood).process) child
   begins_same n =
       let s = n.stands in
       let one : Some (Rolls s.process s.counts (s.child ∷ s.births)) ≡ Some (Rolls (f.stood).process (f.stood).counts (child ∷ (f.stood).births)) = sym (n.there ∙ ap Some s.is) ∙ there in
-      subst (BeginsAt old) (some_same (Rolls s.process s.counts (s.child ∷ s.births)) (Rolls (f.stood).process (f.stood).counts (child ∷ (f.stood).births)) one) n.begins
+      subst (BeginsAt old) (same_Some (Rolls s.process s.counts (s.child ∷ s.births)) (Rolls (f.stood).process (f.stood).counts (child ∷ (f.stood).births)) one) n.begins
 
   -- where the child waited, it begins
   pub fork_made : (q : Process) (new : List (Pid × Held)) → made ≡ true → born ≡ Some q → new ≡ with_begun child q mid → ForksAgain p old new
   fork_made q new is is_born begun =
       let same : Some (newborn (f.stood).process child) ≡ Some q = sym (f.child ∙ ap (λ b. cond b (Some (newborn (f.stood).process child)) None) is) ∙ is_born in
-      let who : newborn (f.stood).process child ≡ q = some_same (newborn (f.stood).process child) q same in
+      let who : newborn (f.stood).process child ≡ q = same_Some (newborn (f.stood).process child) q same in
       record {
         process = (f.stood).process;
         counts = (f.stood).counts;
@@ -309,7 +309,7 @@ module _ (p : Pid) (old mid : List (Pid × Held)) (made : Bool) (born : Option P
   begins_with q can waits is is_born h at = by_old (held_of old child) refl waits
     where
       same : newborn (f.stood).process child ≡ q
-      same = some_same (newborn (f.stood).process child) q (sym (f.child ∙ ap (λ b. cond b (Some (newborn (f.stood).process child)) None) is) ∙ is_born)
+      same = same_Some (newborn (f.stood).process child) q (sym (f.child ∙ ap (λ b. cond b (Some (newborn (f.stood).process child)) None) is) ∙ is_born)
 
       apart : same_pid child p ≡ false
       apart = by_pid (same_pid child p) refl
@@ -336,5 +336,5 @@ module _ (p : Pid) (old mid : List (Pid × Held)) (made : Bool) (born : Option P
       by_old : (o : Option Held) → held_of old child ≡ o → option_map_or waits_for_fork o false ≡ true → CanBeginWith q h
       by_old None at_old waits = absurd (true≢false (sym waits))
       by_old (Some k) at_old waits =
-          let kept : k ≡ h = some_same k h (sym at_old ∙ found) in
+          let kept : k ≡ h = same_Some k h (sym at_old ∙ found) in
           subst (λ (x : Process). CanBeginWith x h) same (subst (CanBeginWith (newborn (f.stood).process child)) kept (by_held k kept at_old waits))

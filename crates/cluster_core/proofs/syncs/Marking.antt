@@ -1,5 +1,5 @@
 -- The marks of the processes that a cluster runs, with the entry that comes next and with the one post that is queued.
-use Rattle.std.proofs.Common.{◌≡◌, ◌≤◌, ◌-◌, ℕ, refl, sym, ◌∙◌, ap, subst, arith, List, [], ◌∷◌, ◌++◌, Bool, true, false, cond, ◌&&◌, ◌||◌, ne_eqb, Option, Some, None, true≢false, ◌⊎◌, inl, inr}
+use Rattle.std.proofs.Common.{◌≡◌, ◌≤◌, ◌-◌, ℕ, refl, sym, ◌∙◌, ap, subst, arith, List, [], ◌∷◌, ◌++◌, Bool, true, false, cond, ◌&&◌, ne_eqb, Option, Some, None, true≢false, ◌⊎◌, inl, inr}
 use Rattle.std.specs.Prelude.{⊤, ◌≢◌, nat_lt, option_and_then, option_map}
 use Rattle.std.specs.List.{list_all}
 use Rattle.std.specs.Option.{option_map_or}
@@ -7,6 +7,7 @@ use Rattle.std.proofs.lemmas.Bool.{and_parts}
 use Rattle.t32_base.specs.declared.process.Pid.{Pid}
 use Rattle.t32_base.specs.declared.process.ClusterNo.{ClusterNo}
 use Rattle.t32_base.specs.declared.letter.Letter.{Letter}
+use Rattle.t32_base.proofs.Facts.{or_first}
 use Rattle.sys_text.specs.declared.system.System.{System}
 use Rattle.sys_text.specs.Valid.{is_system}
 use Rattle.proc_state.specs.declared.process.Process.{Process}
@@ -83,14 +84,10 @@ not_later : (p : Pid) (n : ℕ) (w : What) → is_some_page p w ≡ false → is
 not_later p n (Page pid at index bytes) none = ap (λ b. b && nat_lt n at) none
 not_later p n _ none = refl
 
-first_false : (a b : Bool) → (a || b) ≡ false → a ≡ false
-first_false true b none = absurd (true≢false none)
-first_false false b none = refl
-
 module _ (system : System) (log : List Entry) (e : Entry) (p : Pid) (leaves : LeavesMarks system log e p) where
   sent_before : (n : ℕ) → SentUpto system (log ++ e ∷ []) p n → SentUpto system log p n
   sent_before n upto =
-      first_false (any_since_moved system log p (is_later_page p n)) (is_later_page p n (what e)) (sym (any_since-goes_on system log e p (is_later_page p n) leaves.stays) ∙ upto)
+      or_first (any_since_moved system log p (is_later_page p n)) (is_later_page p n (what e)) (sym (any_since-goes_on system log e p (is_later_page p n) leaves.stays) ∙ upto)
 
   module _ (valid : is_system system ≡ true) (legal : IsLegalBy Stands system log) (unended : IsUnended system log p) (s : Process) (came : (s.mail).next ≡ arrived_count log p) where
     low : (s.mail).next ≤ arrived_count log p

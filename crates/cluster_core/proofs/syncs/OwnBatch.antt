@@ -3,13 +3,13 @@ use Rattle.std.proofs.Common.{◌≡◌, ◌⊎◌, ℕ, ◌+◌, refl, sym, ◌
 use Rattle.std.specs.Prelude.{◌≢◌, option_map}
 use Rattle.std.specs.List.{list_all}
 use Rattle.std.proofs.lemmas.Bool.{and_parts}
+use Rattle.std.proofs.lemmas.Option.{same_Some}
 use Rattle.t32_base.specs.declared.process.Pid.{Pid}
 use Rattle.t32_base.specs.declared.process.ClusterNo.{ClusterNo}
 use Rattle.sys_text.specs.declared.system.System.{System}
 use Rattle.sys_text.specs.Valid.{is_system}
 use Rattle.proc_state.specs.declared.process.Process.{Process}
 use Rattle.proc_state.specs.State.{ProcState, state_of}
-use Rattle.plain_kernel.proofs.Entries.{some_same}
 use Rattle.bus_msg.specs.declared.entry.Entry.{Entry}
 use Rattle.bus_msg.specs.declared.entry.Post.{Post}
 use Rattle.bus_msg.specs.Places.{Places, same_pid}
@@ -114,7 +114,7 @@ module _ (system : System) (valid : is_system system ≡ true) (log : List Entry
   -- who is not the process that synchronises
   other : (q : Pid) → same_pid p q ≡ false → q.0 ≢ ((tells system valid log e of now next).pid).0
   other q apart same =
-      let of_it : (tells system valid log e of now next).pid ≡ p = some_same (tells system valid log e of now next).pid p (sym (tells system valid log e of now next).process ∙ told) in
+      let of_it : (tells system valid log e of now next).pid ≡ p = same_Some (tells system valid log e of now next).pid p (sym (tells system valid log e of now next).process ∙ told) in
       true≢false (sym (eq-eqb p.0 q.0 (sym (same ∙ ap (λ (r : Pid). r.0) of_it))) ∙ apart)
 
   -- what is held stays what the log says
@@ -124,7 +124,7 @@ module _ (system : System) (valid : is_system system ≡ true) (log : List Entry
       by_pid : (same : Bool) → same_pid p q ≡ same → IsHeldAs system later rest q h
       by_pid true is =
           let me : p ≡ q = pid_same p q (eqb-true p.0 q.0 is) in
-          let running : Runs process ≡ h = some_same (Runs process) h (sym there ∙ ap (held_at b) me ∙ at) in
+          let running : Runs process ≡ h = same_Some (Runs process) h (sym there ∙ ap (held_at b) me ∙ at) in
           subst (λ h. IsHeldAs system later rest q h) running (subst (λ r. state_now system later rest r (process.small).steps ≡ Some (state_of process)) me runs)
       by_pid false is =
           requeued system later p q rest h aside is
@@ -195,7 +195,7 @@ follows_own_batch c log e server valid own now next s y serves = by_indices y.in
         server (subst (λ x. Serves (placement system log) x b.server server) (sym whole) (subst (λ (v : ClusterView). Serves (placement system log) e v.server server) same serves)) aside_all aside runs queued)))
       where
         whole : entry_of system log head ≡ e
-        whole = some_same (entry_of system log head) e (ap (λ ps. option_map (entry_of system log) (head_of ps)) (sym posts) ∙ s.head)
+        whole = same_Some (entry_of system log head) e (ap (λ ps. option_map (entry_of system log) (head_of ps)) (sym posts) ∙ s.head)
 
         same : c ≡ left b rest
         same = s.sent ∙ ap (after_sent b) posts ∙ sent

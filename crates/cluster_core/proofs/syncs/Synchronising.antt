@@ -2,6 +2,7 @@
 use Rattle.std.proofs.Common.{◌≡◌, ℕ, ◌+◌, refl, sym, ◌∙◌, ap, subst, List, [], ◌∷◌, ◌++◌, Bool, true, false, cond, eq-eqb, ne_eqb, Option, Some, None, slice_get, true≢false}
 use Rattle.std.specs.Prelude.{◌≢◌, option_map}
 use Rattle.std.specs.Option.{option_map_or}
+use Rattle.std.proofs.lemmas.Option.{same_Some}
 use Rattle.t32_base.specs.declared.process.Pid.{Pid}
 use Rattle.t32_base.specs.declared.process.ClusterNo.{ClusterNo}
 use Rattle.t32_base.specs.declared.letter.BackRec.{BackRec}
@@ -10,7 +11,6 @@ use Rattle.sys_text.specs.declared.system.System.{System}
 use Rattle.sys_text.specs.Valid.{is_system}
 use Rattle.proc_state.specs.State.{ProcState}
 use Rattle.plain_kernel.specs.Kernel.{Kernel}
-use Rattle.plain_kernel.proofs.Entries.{some_same}
 use Rattle.bus_msg.specs.declared.entry.What.{What}
 use Rattle.bus_msg.specs.declared.entry.What.TheVariants.{Page, Sync}
 use Rattle.bus_msg.specs.declared.entry.By.{By}
@@ -122,7 +122,7 @@ module _ (system : System) (valid : is_system system ≡ true) (log : List Entry
       }
         where
           process : (q : Pid) → q.0 ≢ pid.0 → process_after system later q ≡ process_after system log q
-          process q other = (sync_made system log e pid small read took t is reached (some_same (took_is took t) true can)).others q (ne_eqb pid.0 q.0 (λ same. other (sym same)))
+          process q other = (sync_made system log e pid small read took t is reached (same_Some (took_is took t) true can)).others q (ne_eqb pid.0 q.0 (λ same. other (sym same)))
 
           steps : (q : Pid) → q.0 ≢ pid.0 → done_after system later q ≡ done_after system log q
           steps q other = done_after-other system log e pid q small.steps (ap is_done is) stands.applies (ap count_in is) other
@@ -139,7 +139,7 @@ module _ (system : System) (valid : is_system system ≡ true) (log : List Entry
       true≢false (sym (by_one k (Cluster (here.placed).home) (e.post).by (Some (here.placed).home) (eq-eqb ((here.placed).home).0 ((here.placed).home).0 refl) by here.home) ∙ foreign)
 
   apart : (p r : Pid) → p.0 ≢ (s.pid).0 → Some r ≡ Some s.pid → same_pid r p ≡ false
-  apart p r other is = ne_eqb r.0 p.0 (λ same. other (sym same ∙ ap (λ (x : Pid). x.0) (some_same r s.pid is)))
+  apart p r other is = ne_eqb r.0 p.0 (λ same. other (sym same ∙ ap (λ (x : Pid). x.0) (same_Some r s.pid is)))
 
   -- which it does not cut
   no_cut : (p : Pid) → p.0 ≢ (s.pid).0 → is_cut p (what e) ≡ false

@@ -2,6 +2,7 @@
 use Rattle.std.proofs.Common.{◌≡◌, ◌⊎◌, ℕ, zero, suc, ◌+◌, ◌*◌, ◌≤◌, refl, sym, ◌∙◌, ap, subst, arith, List, [], ◌∷◌, Bool, true, false, cond, ◌||◌, eqb, ltb, eqb-true, eq-eqb, true≢false, Some, inl, inr}
 use Rattle.std.specs.List.{list_any}
 use Rattle.std.proofs.lemmas.Bool.Decides.{nat_tests}
+use Rattle.std.proofs.lemmas.Bool.{or_parts}
 use Rattle.t32_base.specs.declared.process.Pid.{Pid}
 use Rattle.t32_base.specs.declared.process.ClusterNo.{ClusterNo}
 use Rattle.sys_text.specs.declared.system.System.{System}
@@ -21,13 +22,13 @@ use Rattle.cert_sched.specs.Parts.{put_rising, rising}
 use Rattle.cert_sched.specs.Rests.{home_pids}
 use Rattle.cert_sched.specs.Schedule.{placement}
 use Rattle.cert_sched.proofs.PidLaws.{apart_fewer}
-use Rattle.cert_sched.proofs.RisingLaws.{NoTwo, either_not, rising-any, rising-apart}
+use Rattle.cert_sched.proofs.RisingLaws.{NoTwo, rising-any, rising-apart}
 use Rattle.cert_sched.proofs.RollLaws.{all_roll, two_apart}
 use Rattle.cluster_core.specs.declared.worked.Worked.TheVariants.{Moved, Queued}
 use Rattle.cluster_core.proofs.rolling.AgainLightens.{again_lightens, again_no_heavier, again_pids}
 use Rattle.cluster_core.proofs.here.HeldLoads.{fewer_loads, held_weight, one_lighter, process_bounds, silent_leaves, silent_load, silent_no_heavier, sum_held}
 use Rattle.cluster_core.specs.ForkingAgain.{RollsAgain}
-use Rattle.cluster_core.specs.View.{ClusterView, Held, Runs, Rolls, Waits, asked_held, has_moved, held_load, held_of, limits_of, load, process_load}
+use Rattle.cluster_core.specs.View.{ClusterView, Held, Runs, asked_held, has_moved, held_load, held_of, limits_of, load, process_load}
 use Rattle.cluster_core.specs.Follows.{FollowsBuilt}
 use Rattle.cluster_core.specs.Calls.{FollowsSome, QueuesBatch, QueuesBirth, QueuesFetch, QueuesOne, WorkIs}
 use Rattle.cluster_core.specs.Quantum.{Moves}
@@ -36,7 +37,7 @@ use Rattle.cluster_core.specs.Residents.{pids_in, with_changed}
 -- ---- no pid stands twice
 
 put_any : (t : ℕ → Bool) (n : ℕ) (xs : List ℕ) → list_any t (put_rising n xs) ≡ false → (t n ≡ false) × (list_any t xs ≡ false)
-put_any t n [] none = either_not (t n) false none
+put_any t n [] none = or_parts (t n) false none
 put_any t n (x ∷ xs) none = by_test (ltb n x) none (put_any t n xs)
   where
     both : (a b c : Bool) → a ≡ false → b ≡ false → c ≡ false → (b ≡ false) × ((a || c) ≡ false)
@@ -44,9 +45,9 @@ put_any t n (x ∷ xs) none = by_test (ltb n x) none (put_any t n xs)
     both false b c g h k = (h, k)
 
     by_test : (b : Bool) → list_any t (cond b (n ∷ x ∷ xs) (x ∷ put_rising n xs)) ≡ false → (list_any t (put_rising n xs) ≡ false → (t n ≡ false) × (list_any t xs ≡ false)) → (t n ≡ false) × ((t x || list_any t xs) ≡ false)
-    by_test true none more = either_not (t n) (t x || list_any t xs) none
+    by_test true none more = or_parts (t n) (t x || list_any t xs) none
     by_test false none more =
-        let parts = either_not (t x) (list_any t (put_rising n xs)) none in
+        let parts = or_parts (t x) (list_any t (put_rising n xs)) none in
         let rest = more parts.1 in
         both (t x) (t n) (list_any t xs) parts.0 rest.0 rest.1
 

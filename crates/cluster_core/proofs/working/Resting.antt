@@ -17,7 +17,7 @@ use Rattle.cert_sched.specs.Rests.{is_idle, is_idle_at}
 use Rattle.proc_state.specs.declared.process.Process.{Process}
 use Rattle.quanta.specs.declared.limits.Limits.{Limits}
 use Rattle.quanta.specs.Limited.{is_due}
-use Rattle.cluster_core.specs.View.{ClusterView, Held, Runs, Rolls, Waits, held_of, limits_of, steps_of_held}
+use Rattle.cluster_core.specs.View.{ClusterView, Held, Runs, held_of, limits_of, steps_of_held}
 use Rattle.bus_msg.specs.Places.{same_pid}
 use Rattle.cert_sched.proofs.RisingLaws.{NoTwo}
 use Rattle.cluster_core.proofs.here.Here.{is_among, same_itself}

@@ -1,6 +1,7 @@
 -- The births of children that never synchronised may stand in a list of births, and answer who has such a child.
 use Rattle.std.proofs.Common.{◌≡◌, refl, List, [], ◌∷◌, true, false, not, ◌&&◌, ◌||◌}
 use Rattle.std.specs.List.{list_any}
+use Rattle.std.proofs.lemmas.Bool.{or_parts}
 use Rattle.t32_base.specs.declared.process.Pid.{Pid}
 use Rattle.sys_text.specs.declared.system.System.{System}
 use Rattle.sys_text.specs.Valid.{is_system}
@@ -11,7 +12,6 @@ use Rattle.birth_notice.proofs.BirthLaws.{births_kept}
 use Rattle.cert_sched.specs.Schedule.{placement}
 use Rattle.cert_sched.specs.Family.{is_unsynced, births_of, has_unsynced_child}
 use Rattle.cert_sched.specs.Legal.{IsLegalBy, Stands}
-use Rattle.cert_sched.proofs.RisingLaws.{either_not}
 use Rattle.cert_sched.proofs.FamilyLaws.{Pair, Ordered, families}
 use Rattle.log_laws.specs.births.Unsynced.{unsynced_births}
 use Rattle.log_laws.proofs.births.Filters.{any_kept}
@@ -23,8 +23,8 @@ asked_of_births system log p = any_kept (is_of p) (λ b. is_unsynced (placement 
 none_stands : (b : Pair) (bs : List Pair) → list_any (λ (c : Pair). same_pid c.1 b.0) bs ≡ false → list_any (λ (c : Pair). same_pid c.1 b.1) bs ≡ false → list_any (λ (c : Pair). stands_in c.1 b) bs ≡ false
 none_stands b [] parent child = refl
 none_stands b (c ∷ bs) parent child =
-    let parents = either_not (same_pid c.1 b.0) (list_any (λ (c : Pair). same_pid c.1 b.0) bs) parent in
-    let children = either_not (same_pid c.1 b.1) (list_any (λ (c : Pair). same_pid c.1 b.1) bs) child in
+    let parents = or_parts (same_pid c.1 b.0) (list_any (λ (c : Pair). same_pid c.1 b.0) bs) parent in
+    let children = or_parts (same_pid c.1 b.1) (list_any (λ (c : Pair). same_pid c.1 b.1) bs) child in
     let more = none_stands b bs parents.1 children.1 in
     λ i. (parents.0 i || children.0 i) || more i
 

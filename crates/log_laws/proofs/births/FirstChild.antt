@@ -3,7 +3,7 @@ use Rattle.std.proofs.Common.{◌≡◌, ◌↔◌, ℕ, zero, suc, refl, sym, �
 use Rattle.std.specs.Prelude.{filter}
 use Rattle.std.specs.List.{list_any}
 use Rattle.std.specs.Option.{option_map, unwrap_or}
-use Rattle.std.proofs.lemmas.Bool.{and_parts}
+use Rattle.std.proofs.lemmas.Bool.{and_parts, or_parts}
 use Rattle.t32_base.specs.declared.process.Pid.{Pid}
 use Rattle.sys_text.specs.declared.system.System.{System}
 use Rattle.sys_text.specs.Valid.{is_system}
@@ -16,7 +16,6 @@ use Rattle.cert_sched.specs.Schedule.{placement}
 use Rattle.cert_sched.specs.Family.{is_unsynced, births_of}
 use Rattle.cert_sched.specs.Kinds.{ChildrenSynced}
 use Rattle.cert_sched.specs.Legal.{IsLegalBy, Stands}
-use Rattle.cert_sched.proofs.RisingLaws.{either_not}
 use Rattle.cert_sched.proofs.CameLaws.{same_of}
 use Rattle.cert_sched.proofs.FamilyLaws.{Pair, Member}
 use Rattle.log_laws.specs.births.Unsynced.{unsynced_births}
@@ -71,7 +70,7 @@ within_is_child n births p child found =
 no_children : (p : Pid) (births : List Pair) → list_any (is_of p) births ≡ false → children_of births p ≡ []
 no_children p [] none = refl
 no_children p (b ∷ bs) none =
-    let parts = either_not (is_of p b) (list_any (is_of p) bs) none in
+    let parts = or_parts (is_of p b) (list_any (is_of p) bs) none in
     ap (λ x. map (λ (c : Pair). c.1) (cond x (b ∷ filter (is_of p) bs) (filter (is_of p) bs))) parts.0 ∙ no_children p bs parts.1
 
 no_parent : (p : Pid) (births : List Pair) → children_of births p ≡ [] → list_any (is_of p) births ≡ false

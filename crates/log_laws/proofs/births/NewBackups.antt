@@ -1,10 +1,10 @@
 -- What new backups and returns do to the births of children that never synchronised.
-use Rattle.std.proofs.Common.{◌≡◌, ℕ, refl, sym, ◌∙◌, ap, arith, eqb, List, [], ◌∷◌, ◌++◌, Bool, true, false, cond, not, ◌&&◌, ◌||◌, Option, Some, None}
+use Rattle.std.proofs.Common.{◌≡◌, refl, sym, ◌∙◌, ap, List, [], ◌∷◌, ◌++◌, Bool, true, false, cond, not, ◌&&◌, ◌||◌, Option, Some, None}
 use Rattle.std.specs.Prelude.{filter, option_map}
-use Rattle.std.proofs.lemmas.Bool.Decides.{nat_tests}
 use Rattle.t32_base.specs.declared.process.Pid.{Pid}
 use Rattle.t32_base.specs.declared.process.ClusterNo.{ClusterNo}
 use Rattle.t32_base.specs.declared.letter.BackRec.{BackRec}
+use Rattle.t32_base.proofs.Facts.{eqb_turned}
 use Rattle.sys_text.specs.declared.system.System.{System}
 use Rattle.bus_msg.specs.declared.entry.What.TheVariants.{Return, Rebackup}
 use Rattle.bus_msg.specs.declared.entry.Entry.{Entry}
@@ -19,11 +19,8 @@ use Rattle.log_laws.specs.births.Unsynced.{unsynced_births}
 use Rattle.log_laws.proofs.births.Filters.{and_true, and_false}
 use Rattle.log_laws.proofs.births.OtherEntries.{never_synced, without_one, births_stay}
 
-turned : (m n : ℕ) → eqb m n ≡ eqb n m
-turned m n = grind (arith, nat_tests)
-
 same_pid-sym : (p r : Pid) → same_pid p r ≡ same_pid r p
-same_pid-sym p r = turned p.0 r.0
+same_pid-sym p r = eqb_turned p.0 r.0
 
 -- a family that was moved goes on as it was
 unsynced_after_standing : (places : Places) (to : ClusterNo) (recs : List BackRec) (p : Pid) → is_unsynced (placed_after places (Rebackup to false recs)) p ≡ is_unsynced places p

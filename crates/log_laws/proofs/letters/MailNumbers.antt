@@ -7,6 +7,7 @@ use Rattle.std.specs.declared.cmp.Ordering.{Ordering}
 use Rattle.std.specs.declared.cmp.Ordering.TheVariants.{Less, Equal, Greater}
 use Rattle.std.proofs.lemmas.Bool.{and_parts, and_from, lt-ltb}
 use Rattle.std.proofs.lemmas.Bool.Decides.{nat_tests}
+use Rattle.std.proofs.lemmas.Option.{same_Some}
 use Rattle.t32_base.specs.declared.process.Pid.{Pid}
 use Rattle.t32_base.specs.declared.process.End.{End}
 use Rattle.t32_base.specs.declared.process.Status.{Status}
@@ -35,7 +36,6 @@ use Rattle.sys_calls.specs.Next.{next_step, step_by, live_step, after_exec, clos
 use Rattle.plain_kernel.specs.Kernel.{Kernel, pid_cmp, process_at, with_process, boot, emitted}
 use Rattle.plain_kernel.specs.Apply.{after_step, fork_step, one_step, take_step}
 use Rattle.plain_kernel.proofs.AtBoot.{boot-each}
-use Rattle.plain_kernel.proofs.Entries.{some_same}
 use Rattle.plain_kernel.proofs.Forking.{fork_made}
 use Rattle.plain_kernel.proofs.Laws.{process_at-with_process}
 use Rattle.bus_msg.specs.declared.entry.Entry.{Entry}
@@ -218,7 +218,7 @@ put_numbered k p t all numbered q s there = by_order (pid_cmp q p) (sym (process
   where
     by_order : (o : Ordering) → cond (is_eq o) (Some t) (process_at k q) ≡ Some s → IsNumbered s
     by_order Less e = all q s e
-    by_order Equal e = subst (λ (x : ProcState). IsNumbered x) (some_same t s e) numbered
+    by_order Equal e = subst (λ (x : ProcState). IsNumbered x) (same_Some t s e) numbered
     by_order Greater e = all q s e
 
 received_numbered : (m : Emission) (q : Pid) (s : ProcState) → IsNumbered s → IsNumbered (received m q s)
@@ -236,15 +236,15 @@ emitted_numbered k m all q s there = by_process (process_at k q) refl (sym (proc
   where
     by_process : (o : Option ProcState) → process_at k q ≡ o → option_map (received m q) o ≡ Some s → IsNumbered s
     by_process None here e = cc
-    by_process (Some was) here e = subst (λ (x : ProcState). IsNumbered x) (some_same (received m q was) s e) (received_numbered m q was (all q was here))
+    by_process (Some was) here e = subst (λ (x : ProcState). IsNumbered x) (same_Some (received m q was) s e) (received_numbered m q was (all q was here))
 
 one_step-numbered : (p : Pid) (k j : Kernel) → AllNumbered k → one_step p k ≡ Some j → AllNumbered j
 unfolding one_step AllNumbered
 one_step-numbered p k j all made = by_process (process_at k p) refl made
   where
     by_next : (next : Next) → KeepsNumbers next → after_step k p next ≡ Some j → AllNumbered j
-    by_next (Silent t) numbered e = subst AllNumbered (some_same (with_process k p t) j e) (put_numbered k p t all numbered)
-    by_next (Emits m t) numbered e = subst AllNumbered (some_same (emitted (with_process k p t) m) j e) (emitted_numbered (with_process k p t) m (put_numbered k p t all numbered))
+    by_next (Silent t) numbered e = subst AllNumbered (same_Some (with_process k p t) j e) (put_numbered k p t all numbered)
+    by_next (Emits m t) numbered e = subst AllNumbered (same_Some (emitted (with_process k p t) m) j e) (emitted_numbered (with_process k p t) m (put_numbered k p t all numbered))
     by_next Blocked numbered e = cc
     by_next Forks numbered e = cc
     by_next Over numbered e = cc

@@ -6,7 +6,6 @@ use Rattle.t32_base.specs.Small.{SmallState}
 use Rattle.sys_text.specs.declared.system.System.{System}
 use Rattle.sys_text.specs.Valid.{is_system}
 use Rattle.proc_state.specs.State.{ProcState, can_take, has_ended}
-use Rattle.plain_kernel.proofs.Entries.{some_same}
 use Rattle.bus_msg.specs.declared.entry.Entry.{Entry}
 use Rattle.backup_queue.specs.Fronts.{AreFronts, AreOnEnds}
 use Rattle.backup_queue.specs.Queue.{unread}
@@ -23,6 +22,7 @@ use Rattle.log_laws.specs.letters.ReadsFrom.{ReadsFrom}
 use Rattle.log_laws.proofs.letters.SameRead.{any_left, any_fronts, any_ends}
 use Rattle.log_laws.proofs.letters.LogReads.{itself, silent_reads, taken_reads}
 use Rattle.std.proofs.lemmas.Bool.{and_parts}
+use Rattle.std.proofs.lemmas.Option.{same_Some}
 
 -- Silent steps lead to the process that synchronises, and takes the signal that is told; these are the numbers of the letters that it has then read.
 pub record SyncedAt (system : System) (log : List Entry) (p : Pid) (small : SmallState) (read : List ℕ) (took : Option ℕ) : Type 0 where
@@ -41,9 +41,9 @@ synced_at system log p small read took holds = by_process (silent_upto system lo
     by_process (Some s) reached state takes reads = record {
       at = s;
       reached = reached;
-      takes = some_same (took_is took s) true takes;
-      state = some_same (after_take took s).small small state;
-      reads = sym (some_same (numbers_read (saved_of system log p) (after_take took s).mail) (rising read) reads);
+      takes = same_Some (took_is took s) true takes;
+      state = same_Some (after_take took s).small small state;
+      reads = sym (same_Some (numbers_read (saved_of system log p) (after_take took s).mail) (rising read) reads);
     }
 
 module _ (system : System) (log : List Entry) (p : Pid) (small : SmallState) (read : List ℕ) (took : Option ℕ) (valid : is_system system ≡ true) (legal : IsLegalBy Stands system log) (holds : SyncHolds system log p small read took) (unended : IsUnended system log p) where

@@ -9,7 +9,7 @@ use Rattle.t32_base.specs.declared.process.ClusterNo.{ClusterNo}
 use Rattle.t32_base.specs.declared.process.End.{End}
 use Rattle.sys_text.specs.declared.system.System.{System}
 use Rattle.bus_msg.specs.declared.entry.What.{What}
-use Rattle.bus_msg.specs.declared.entry.What.TheVariants.{Mail, Birth, Exit, Page, Sync, Fetch, PageIs, Crash, Return, Rebackup, Done, Stop}
+use Rattle.bus_msg.specs.declared.entry.What.TheVariants.{Mail, Exit, Fetch, PageIs, Done, Stop}
 use Rattle.bus_msg.specs.declared.entry.By.{By}
 use Rattle.bus_msg.specs.declared.entry.By.TheVariants.{Cluster, Bus}
 use Rattle.bus_msg.specs.declared.entry.Entry.{Entry}

@@ -8,13 +8,14 @@ use Rattle.std.proofs.lemmas.Bool.{and_parts}
 use Rattle.t32_base.specs.declared.process.Pid.{Pid}
 use Rattle.sys_text.specs.declared.system.System.{System}
 use Rattle.bus_msg.specs.declared.entry.What.{What}
-use Rattle.bus_msg.specs.declared.entry.What.TheVariants.{Mail, Birth, Exit, Page, Sync, Fetch, PageIs, Crash, Return, Rebackup, Done, Stop}
+use Rattle.bus_msg.specs.declared.entry.What.TheVariants.{Exit, Fetch, PageIs, Crash}
 use Rattle.bus_msg.specs.declared.entry.Cause.{Cause}
 use Rattle.bus_msg.specs.declared.entry.Entry.{Entry}
 use Rattle.bus_msg.specs.Places.{Places, same_pid}
 use Rattle.bus_msg.specs.PlacedAfter.{what}
 use Rattle.t32_base.specs.declared.process.ClusterNo.{ClusterNo}
 use Rattle.t32_base.specs.declared.process.End.{End}
+use Rattle.t32_base.proofs.Facts.{or_false}
 use Rattle.cert_sched.specs.Parts.{after_last, last_that}
 use Rattle.cert_sched.specs.Schedule.{placement}
 use Rattle.cert_sched.specs.Told.{Told, told, moves, is_moved, cluster_lost}
@@ -28,13 +29,9 @@ use Rattle.log_laws.specs.pages.Waited.{is_wait_for, is_waited}
 
 -- ---- words on lists
 
-pub or_nothing : (b : Bool) → (b || false) ≡ b
-or_nothing true = refl
-or_nothing false = refl
-
 or_last : (a b : Bool) → (a || (b || false)) ≡ (a || b)
 or_last true b = refl
-or_last false b = or_nothing b
+or_last false b = or_false b
 
 pub list_any-last : {X : Type 0} (t : X → Bool) (xs : List X) (x : X) → list_any t (xs ++ x ∷ []) ≡ (list_any t xs || t x)
 list_any-last t xs x = list_any-append t xs (x ∷ []) ∙ or_last (list_any t xs) (t x)
@@ -168,7 +165,7 @@ pub after_exit_of : (places : Places) (p : Pid) (at : ℕ) (end : End) (waits : 
 after_exit_of places p at end waits = append-nil _ ∙ (λ j. filter (λ (f : Pid × ℕ). not (same f j)) waits)
   where
     same : (f : Pid × ℕ) → (same_pid p f.0 || false) ≡ same_pid f.0 p
-    same f = or_nothing (same_pid p f.0) ∙ turned p.0 (f.0).0
+    same f = or_false (same_pid p f.0) ∙ turned p.0 (f.0).0
 
 pub after_crash : (places : Places) (k : ClusterNo) (cause : Cause) (waits : List (Pid × ℕ)) → waits_after places (Crash k cause) waits ≡ filter (λ (f : Pid × ℕ). not (is_moved f.0 places k)) waits
 after_crash places k cause waits = append-nil _
@@ -206,7 +203,7 @@ any_filter p i t (f ∷ fs) = by_tests (is_wait_for p i f) (t f) refl refl (any_
     by_tests false false is passes more = more
 
 any_added : (p : Pid) (i : ℕ) (w : What) → list_any (is_wait_for p i) (added (fetched w)) ≡ is_fetch p i w
-any_added p i (Fetch pid index) = or_nothing (same_pid pid p && eqb index i)
+any_added p i (Fetch pid index) = or_false (same_pid pid p && eqb index i)
 any_added p i _ = refl
 
 -- a page is waited for after an entry where it was and the entry does not end the wait, or the entry asks for it

@@ -6,6 +6,7 @@ use Rattle.std.specs.declared.cmp.Ordering.{Ordering}
 use Rattle.std.specs.declared.cmp.Ordering.TheVariants.{Less, Equal, Greater}
 use Rattle.std.specs.Ordering.{is_eq}
 use Rattle.std.proofs.lemmas.List.Sums.{fold-append}
+use Rattle.std.proofs.lemmas.Option.{same_Some}
 use Rattle.t32_base.specs.declared.process.Pid.{Pid}
 use Rattle.t32_base.specs.Small.{SmallState}
 use Rattle.sys_text.specs.declared.system.System.{System}
@@ -14,7 +15,6 @@ use Rattle.sys_calls.specs.Calls.{Next, Silent, Blocked, Forks, Emits, Over}
 use Rattle.sys_calls.specs.Next.{next_step}
 use Rattle.plain_kernel.specs.Kernel.{Kernel, pid_cmp, process_at, with_process, boot, emitted}
 use Rattle.plain_kernel.specs.Apply.{after_step, apply_all, fork_step, one_step, take_step}
-use Rattle.plain_kernel.proofs.Entries.{some_same}
 use Rattle.plain_kernel.proofs.Forking.{fork_made, fork-child, fork-parent, fork-small}
 use Rattle.plain_kernel.proofs.Laws.{process_at-with_process}
 use Rattle.plain_kernel.proofs.Others.{items_keep, small_at, small_at-emitted}
@@ -63,9 +63,9 @@ unfolding one_step HasPages
 step_pages f p k j has made = by_process (process_at k p) refl made
   where
     by_next : (s : ProcState) (next : Next) → process_at k p ≡ Some s → Keeps s next → after_step k p next ≡ Some j → HasPages f j
-    by_next s (Silent t) there same e = subst (HasPages f) (some_same (with_process k p t) j e) (put_pages f k p s t has there same.pages)
+    by_next s (Silent t) there same e = subst (HasPages f) (same_Some (with_process k p t) j e) (put_pages f k p s t has there same.pages)
     by_next s (Emits m t) there same e =
-        subst (HasPages f) (some_same (emitted (with_process k p t) m) j e)
+        subst (HasPages f) (same_Some (emitted (with_process k p t) m) j e)
         (λ q. ap (option_map (λ (s : SmallState). s.pages)) (small_at-emitted (with_process k p t) m q) ∙ put_pages f k p s t has there same.pages q)
     by_next s Blocked there same e = cc
     by_next s Forks there same e = cc
@@ -270,4 +270,4 @@ pages_over system log rest p s t first last =
 
     by_last : (o : Option Kernel) → option_and_then (λ k. process_at k p) o ≡ Some t → IfSome o (λ (k : Kernel). pages_at k p ≡ Some (s.small).pages) → (t.small).pages ≡ (s.small).pages
     by_last None is has = cc
-    by_last (Some k) is has = some_same (t.small).pages (s.small).pages (sym (ap pages_in is) ∙ has)
+    by_last (Some k) is has = same_Some (t.small).pages (s.small).pages (sym (ap pages_in is) ∙ has)

@@ -7,6 +7,7 @@ use Rattle.std.specs.declared.cmp.Ordering.{Ordering}
 use Rattle.std.specs.declared.cmp.Ordering.TheVariants.{Less, Equal, Greater}
 use Rattle.std.specs.Ordering.{is_eq}
 use Rattle.std.proofs.lemmas.List.{length-append, length-replicate}
+use Rattle.std.proofs.lemmas.Option.{same_Some}
 use Rattle.t32_base.specs.declared.process.Pid.{Pid}
 use Rattle.sys_text.specs.declared.system.System.{System}
 use Rattle.sys_text.specs.declared.system.Image.{Image}
@@ -23,7 +24,6 @@ use Rattle.sys_calls.specs.Fork.{fork_child, fork_parent}
 use Rattle.plain_kernel.specs.Kernel.{Kernel, pid_cmp, process_at, with_process, boot, emitted, no_image, root_process}
 use Rattle.plain_kernel.specs.Apply.{after_step, fork_step, one_step, take_step}
 use Rattle.plain_kernel.proofs.AtBoot.{boot-each}
-use Rattle.plain_kernel.proofs.Entries.{some_same}
 use Rattle.plain_kernel.proofs.Forking.{fork_made}
 use Rattle.plain_kernel.proofs.Laws.{process_at-with_process}
 use Rattle.bus_msg.specs.declared.entry.Entry.{Entry}
@@ -79,7 +79,7 @@ put_sized k p t all sized q s there = by_order (pid_cmp q p) (sym (process_at-wi
   where
     by_order : (o : Ordering) → cond (is_eq o) (Some t) (process_at k q) ≡ Some s → IsSized s
     by_order Less e = all q s e
-    by_order Equal e = subst (λ (x : ProcState). IsSized x) (some_same t s e) sized
+    by_order Equal e = subst (λ (x : ProcState). IsSized x) (same_Some t s e) sized
     by_order Greater e = all q s e
 
 received_sized : (m : Emission) (q : Pid) (s : ProcState) → IsSized s → IsSized (received m q s)
@@ -97,7 +97,7 @@ emitted_sized k m all q s there = by_process (process_at k q) refl (sym (process
   where
     by_process : (o : Option ProcState) → process_at k q ≡ o → option_map (received m q) o ≡ Some s → IsSized s
     by_process None here e = cc
-    by_process (Some was) here e = subst (λ (x : ProcState). IsSized x) (some_same (received m q was) s e) (received_sized m q was (all q was here))
+    by_process (Some was) here e = subst (λ (x : ProcState). IsSized x) (same_Some (received m q was) s e) (received_sized m q was (all q was here))
 
 one_step-sized : (p : Pid) (k j : Kernel) → AllSized k → one_step p k ≡ Some j → AllSized j
 unfolding one_step AllSized
@@ -107,8 +107,8 @@ one_step-sized p k j all made = by_process (process_at k p) refl made
     grown s t same sized = same.bytes ∙ sized ∙ ap (λ n. 256 * n) (sym same.pages)
 
     by_next : (s : ProcState) (next : Next) → process_at k p ≡ Some s → Keeps s next → after_step k p next ≡ Some j → AllSized j
-    by_next s (Silent t) there same e = subst AllSized (some_same (with_process k p t) j e) (put_sized k p t all (grown s t same (all p s there)))
-    by_next s (Emits m t) there same e = subst AllSized (some_same (emitted (with_process k p t) m) j e) (emitted_sized (with_process k p t) m (put_sized k p t all (grown s t same (all p s there))))
+    by_next s (Silent t) there same e = subst AllSized (same_Some (with_process k p t) j e) (put_sized k p t all (grown s t same (all p s there)))
+    by_next s (Emits m t) there same e = subst AllSized (same_Some (emitted (with_process k p t) m) j e) (emitted_sized (with_process k p t) m (put_sized k p t all (grown s t same (all p s there))))
     by_next s Blocked there same e = cc
     by_next s Forks there same e = cc
     by_next s Over there same e = cc

@@ -6,14 +6,14 @@ use Rattle.std.specs.Ordering.{nat_cmp, is_eq}
 use Rattle.std.specs.FinMap.{find as find_in}
 use Rattle.std.proofs.lemmas.Bool.{and_parts}
 use Rattle.std.proofs.lemmas.Bool.Decides.{nat_tests}
+use Rattle.std.proofs.lemmas.Option.{same_Some}
 use Rattle.t32_base.specs.declared.process.Pid.{Pid}
 use Rattle.sys_text.specs.declared.system.System.{System}
 use Rattle.sys_text.specs.Valid.{is_system}
 use Rattle.rv_mem.specs.Memory.{page_at}
 use Rattle.proc_state.specs.State.{ProcState}
-use Rattle.plain_kernel.proofs.Entries.{some_same}
 use Rattle.bus_msg.specs.declared.entry.What.{What}
-use Rattle.bus_msg.specs.declared.entry.What.TheVariants.{Mail, Birth, Exit, Page, Sync, Fetch, PageIs, Crash, Return, Rebackup, Done, Stop}
+use Rattle.bus_msg.specs.declared.entry.What.TheVariants.{Mail, Birth, Exit, Page, Sync, PageIs, Rebackup}
 use Rattle.bus_msg.specs.declared.entry.Entry.{Entry}
 use Rattle.bus_msg.specs.Places.{unended_at}
 use Rattle.bus_msg.specs.PlacedAfter.{what}
@@ -136,7 +136,7 @@ pub next_page : (system : System) (log : List Entry) (e : Entry) (p : Pid) (i : 
 next_page system log e p i bytes start valid legal stands is started =
     let waited = came_waited system log e p i bytes stands is in
     let lacks = waited_lacks system log p i legal waited in
-    some_same bytes (page_at start.memory i)
+    same_Some bytes (page_at start.memory i)
     (sym (page_is_holds system log e p i bytes stands is).page ∙ kept_pages system log p start i valid legal lacks.moved (waited_unended system log p i legal waited) started lacks.within)
 
 -- ---- in a log

@@ -1,6 +1,6 @@
 -- The records of a cluster before the first entry.
 use Rattle.std.proofs.Common.{◌≡◌, ℕ, refl, sym, ◌∙◌, ap, arith, List, [], ◌∷◌, ◌++◌, map, Bool, true, false, cond, ◌&&◌, ◌||◌, eqb, eqb-true, Option, Some, None, T}
-use Rattle.std.specs.Prelude.{filter, if◌then◌else◌, nat_lt, option_map}
+use Rattle.std.specs.Prelude.{filter, nat_lt, option_map}
 use Rattle.std.specs.List.{list_all, list_any}
 use Rattle.std.specs.declared.cmp.Ordering.TheVariants.{Less}
 use Rattle.std.specs.Ordering.{is_eq, nat_cmp}

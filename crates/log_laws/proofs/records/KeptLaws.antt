@@ -16,7 +16,7 @@ use Rattle.sys_text.proofs.Bounds.{tests}
 use Rattle.write_count.specs.Counting.{count_for}
 use Rattle.proc_state.specs.State.{ProcState, has_ended}
 use Rattle.bus_msg.specs.declared.entry.What.{What}
-use Rattle.bus_msg.specs.declared.entry.What.TheVariants.{Mail, Birth, Exit, Page, Sync, Fetch, PageIs, Crash, Return, Rebackup, Done, Stop}
+use Rattle.bus_msg.specs.declared.entry.What.TheVariants.{Mail, Birth, Exit, Sync, Crash, Rebackup}
 use Rattle.bus_msg.specs.declared.entry.Entry.{Entry}
 use Rattle.bus_msg.specs.declared.placed.Placed.{Placed}
 use Rattle.bus_msg.specs.Places.{same_pid, is_cluster, unended_at}

@@ -3,6 +3,7 @@ use Rattle.std.proofs.Common.{◌≡◌, ℕ, zero, suc, ◌+◌, ◌-◌, ◌<�
 use Rattle.std.specs.Prelude.{option_map, option_and_then}
 use Rattle.std.specs.Option.{option_map_or}
 use Rattle.std.proofs.lemmas.Grind.{flat_map-append}
+use Rattle.std.proofs.lemmas.Option.{same_Some}
 use Rattle.t32_base.specs.declared.process.Pid.{Pid}
 use Rattle.t32_base.specs.declared.process.End.{End}
 use Rattle.t32_base.specs.declared.letter.Letter.{Letter}
@@ -23,7 +24,7 @@ use Rattle.sys_calls.proofs.Leaving.{silent_ends, letter_leaves}
 use Rattle.plain_kernel.specs.Kernel.{process_at}
 use Rattle.plain_kernel.proofs.Laws.{last_silent, no_silent}
 use Rattle.bus_msg.specs.declared.entry.What.{What}
-use Rattle.bus_msg.specs.declared.entry.What.TheVariants.{Mail, Birth, Exit, Page, Sync, Fetch, PageIs, Crash, Return, Rebackup, Done, Stop}
+use Rattle.bus_msg.specs.declared.entry.What.TheVariants.{Mail, Birth, Exit, Sync, Rebackup}
 use Rattle.bus_msg.specs.declared.entry.Entry.{Entry}
 use Rattle.bus_msg.specs.Places.{same_pid}
 use Rattle.bus_msg.specs.PlacedAfter.{what}
@@ -51,7 +52,6 @@ use Rattle.log_laws.specs.records.Kept.{is_noted, is_renewed}
 use Rattle.log_laws.proofs.records.Standing.{legal_stands}
 use Rattle.cert_sched.proofs.BirthLaws.{sync_taken}
 use Rattle.sys_calls.specs.Take.{taken}
-use Rattle.plain_kernel.proofs.Entries.{some_same}
 
 -- ---- the end that a letter leaves from
 
@@ -246,7 +246,7 @@ module _ (system : System) (log : List Entry) (e : Entry) (p : Pid) (valid : is_
   cut_process small read None is holds s = process_after-silent system log e p small.steps s.at s.reached (λ k. ap (items_of k) is ∙ append-nil (run_upto k p small.steps))
   cut_process small read (Some g) is holds s =
       let t = sync_taken system log e p small read g is holds in
-      (t.made).after ∙ ap (λ (q : ProcState). Some (taken q)) (some_same (t.made).before s.at (sym t.reached ∙ s.reached))
+      (t.made).after ∙ ap (λ (q : ProcState). Some (taken q)) (same_Some (t.made).before s.at (sym t.reached ∙ s.reached))
 
   -- that of the process cuts its record
   after_own : (small : SmallState) (read : List ℕ) (took : Option ℕ) (now : ProcState) → what e ≡ Sync p small read took → Stands system log e → Rolls system log p now

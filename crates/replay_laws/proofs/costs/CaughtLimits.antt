@@ -3,6 +3,7 @@ use Rattle.std.proofs.Common.{◌≡◌, ℕ, ◌+◌, ◌-◌, ◌≤◌, sym, 
 use Rattle.std.specs.Option.{option_map_or}
 use Rattle.std.proofs.lemmas.Bool.{and_from}
 use Rattle.std.proofs.lemmas.Bool.Decides.{nat_tests}
+use Rattle.std.proofs.lemmas.Option.{same_Some}
 use Rattle.t32_base.specs.declared.process.Pid.{Pid}
 use Rattle.t32_base.specs.declared.process.Counts.{Counts}
 use Rattle.sys_text.specs.declared.system.System.{System}
@@ -10,7 +11,6 @@ use Rattle.sys_text.specs.Valid.{is_system}
 use Rattle.proc_state.specs.declared.process.Process.{Process}
 use Rattle.proc_state.specs.State.{ProcState, has_ended, state_of}
 use Rattle.write_count.specs.Counting.{counts_of}
-use Rattle.plain_kernel.proofs.Entries.{some_same}
 use Rattle.bus_msg.specs.declared.entry.Entry.{Entry}
 use Rattle.roll_forward.specs.Deeds.{Deed, letters_in, births_in}
 use Rattle.roll_forward.specs.RunsOut.{RunsOut, nothing_left}
@@ -54,7 +54,7 @@ module _ (system : System) (log : List Entry) (p : Pid) (now : ProcState) (goes_
   -- where it is just there, that is where it is
   at_last : IsExact system log p now → l.there ≡ now
   at_last x =
-      let sharp : Sharp x.made s deeds now = subst (λ start. Sharp x.made (refilled log p start) deeds now) (some_same x.start l.start (sym x.started ∙ l.started)) x.sharp in
+      let sharp : Sharp x.made s deeds now = subst (λ start. Sharp x.made (refilled log p start) deeds now) (same_Some x.start l.start (sym x.started ∙ l.started)) x.sharp in
       let led = sharp_replays l.first s l.there deeds l.sharp in
       let fine = replays_fine l.first s l.there deeds (replays_goes_on l.rest l.there now [] l.silent goes_on) (start_ends system log p l.start l.started) led in
       let once : l.first ≡ x.made =

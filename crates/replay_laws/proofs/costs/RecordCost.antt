@@ -1,12 +1,12 @@
 -- The counts of the record of a process run out within the steps between two cuts, and by then it has read no more of the saved letters than between two cuts.
 use Rattle.std.proofs.Common.{◌≡◌, ℕ, ◌≤◌, refl, sym, ◌∙◌, ap, subst, arith, List, true, length, Option, Some, None, is_some, true≢false}
+use Rattle.std.proofs.lemmas.Option.{same_Some}
 use Rattle.t32_base.specs.declared.process.Pid.{Pid}
 use Rattle.t32_base.specs.declared.letter.BackRec.{BackRec}
 use Rattle.sys_text.specs.declared.system.System.{System}
 use Rattle.sys_text.specs.Valid.{is_system}
 use Rattle.rv_mem.specs.Memory.{Memory}
 use Rattle.proc_state.specs.State.{ProcState}
-use Rattle.plain_kernel.proofs.Entries.{some_same}
 use Rattle.bus_msg.specs.declared.entry.Entry.{Entry}
 use Rattle.roll_forward.specs.Deeds.{Deed}
 use Rattle.roll_forward.specs.RunsOut.{RunsOut}
@@ -49,7 +49,7 @@ module _ (system : System) (log : List Entry) (p : Pid) (start : ProcState) (kep
   from = started start.small ram kept.saved kept.next
 
   same : (f.leads).start ≡ start
-  same = some_same (f.leads).start start (sym (f.leads).started ∙ begins)
+  same = same_Some (f.leads).start start (sym (f.leads).started ∙ begins)
 
   as_started : refilled log p (f.leads).start ≡ from
   as_started = λ i. record { small = (same i).small; memory = (ap (λ (s : ProcState). s.memory) same ∙ sym bytes) i; mail = (f.leads).saved i; next = (f.leads).next i }

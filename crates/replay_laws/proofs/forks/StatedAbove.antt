@@ -1,16 +1,16 @@
 -- A child that never synchronised is in its parent's record; and from child to parent one comes to a process with a state in its record.
-use Rattle.std.proofs.Common.{◌≡◌, refl, sym, ◌∙◌, ap, eq-eqb, inl, inr, List, [], ◌∷◌, Bool, true, false, not, ◌&&◌, ◌||◌, Option, Some, None, is_some, true≢false}
-use Rattle.std.specs.Prelude.{option_map, filter}
+use Rattle.std.proofs.Common.{◌≡◌, refl, sym, ◌∙◌, ap, eq-eqb, inl, inr, List, [], ◌∷◌, Bool, true, false, ◌&&◌, ◌||◌, Option, Some, None, true≢false}
+use Rattle.std.specs.Prelude.{option_map}
 use Rattle.std.specs.List.{list_any}
-use Rattle.std.proofs.lemmas.Bool.{and_parts}
+use Rattle.std.proofs.lemmas.Bool.{and_parts, or_parts}
+use Rattle.std.proofs.lemmas.Option.{same_Some}
 use Rattle.t32_base.specs.declared.process.Pid.{Pid}
 use Rattle.t32_base.specs.declared.letter.BackRec.{BackRec}
 use Rattle.sys_text.specs.declared.system.System.{System}
 use Rattle.sys_text.specs.Valid.{is_system}
 use Rattle.proc_state.specs.State.{ProcState}
-use Rattle.plain_kernel.proofs.Entries.{some_same}
 use Rattle.bus_msg.specs.declared.entry.Entry.{Entry}
-use Rattle.bus_msg.specs.Places.{same_pid, unended_at}
+use Rattle.bus_msg.specs.Places.{same_pid}
 use Rattle.birth_notice.specs.Family.{are_births, stands_in}
 use Rattle.birth_notice.proofs.BirthLaws.{three}
 use Rattle.roll_forward.specs.Deeds.{births_in}
@@ -23,7 +23,6 @@ use Rattle.cert_sched.specs.Simulation.{IsUnended, bears}
 use Rattle.cert_sched.proofs.CameLaws.{same_of}
 use Rattle.cert_sched.proofs.ChildLaws.{child_with_parent}
 use Rattle.cert_sched.proofs.FamilyLaws.{Pair, Member}
-use Rattle.cert_sched.proofs.RisingLaws.{either_not}
 use Rattle.log_laws.specs.births.Unsynced.{unsynced_births}
 use Rattle.log_laws.proofs.births.FamilyKept.{births_may_stand}
 use Rattle.log_laws.proofs.births.Filters.{any_kept, kept_passes, one_passes, passes_any}
@@ -41,7 +40,7 @@ births_kept system log p kept is = by_start (start_of system log p) is
   where
     by_start : (o : Option ProcState) → option_map (record_from system log p) o ≡ Some kept → kept.births ≡ births_in (since log p)
     by_start None e = cc
-    by_start (Some start) e = sym (ap (λ (r : BackRec). r.births) (some_same (record_from system log p start) kept e))
+    by_start (Some start) e = sym (ap (λ (r : BackRec). r.births) (same_Some (record_from system log p start) kept e))
 
 pub in_the_record : (system : System) (log : List Entry) (parent child : Pid) (kept : BackRec) → is_system system ≡ true → IsLegalBy Stands system log → bears log parent child ≡ true → is_unsynced (placement system log) child ≡ true → backup_record system log parent ≡ Some kept
     → list_any (same_pid child) kept.births ≡ true
@@ -78,8 +77,8 @@ first_head test b bs ok up passes =
     later : (cs : List Pair) → list_any (λ (x : Pair). stands_in x.1 b) cs ≡ false → list_any (is_child b.0) cs ≡ false
     later [] none = refl
     later (c ∷ cs) none =
-        let both = either_not (stands_in c.1 b) (list_any (λ (x : Pair). stands_in x.1 b) cs) none in
-        let apart = either_not (same_pid c.1 b.0) (same_pid c.1 b.1) both.0 in
+        let both = or_parts (stands_in c.1 b) (list_any (λ (x : Pair). stands_in x.1 b) cs) none in
+        let apart = or_parts (same_pid c.1 b.0) (same_pid c.1 b.1) both.0 in
         λ i. apart.0 i || later cs both.1 i
 
 head_above : (test : Pid → Bool) (bs : List Pair) (p : Pid) → are_births bs ≡ true → GoesUp test bs → list_any (is_child p) bs ≡ true → test p ≡ true → Head test bs

@@ -2,18 +2,15 @@
 use Rattle.std.proofs.Common.{◌≡◌, ℕ, ◌+◌, ◌<◌, refl, sym, ◌∙◌, ap, subst, arith, List, length, Bool, true, false, cond, ◌||◌, eqb, Some, None}
 use Rattle.std.specs.Prelude.{nat_lt}
 use Rattle.std.proofs.lemmas.Bool.Decides.{nat_tests}
+use Rattle.std.proofs.lemmas.Option.{same_Some}
 use Rattle.t32_base.specs.declared.process.Pid.{Pid}
+use Rattle.t32_base.proofs.Facts.{or_false}
 use Rattle.sys_text.specs.declared.system.System.{System}
-use Rattle.plain_kernel.proofs.Entries.{some_same}
 use Rattle.bus_msg.specs.declared.entry.Entry.{Entry}
 use Rattle.cert_sched.specs.Kinds.{FetchHolds}
 use Rattle.cert_sched.specs.Moved.{any_since_moved, is_fetch}
 use Rattle.page_waits.specs.Waiting.{WaitingState, next_page}
 use Rattle.replay_laws.specs.pages.Waits.{WaitsAs, none_queued}
-
-pub or_nothing : (b : Bool) → (b || false) ≡ b
-or_nothing true = refl
-or_nothing false = refl
 
 below : (a b : ℕ) → nat_lt a b ≡ true → a < b
 below a b is = grind (arith, nat_tests)
@@ -39,13 +36,13 @@ is_next : (w : WaitingState) (i : ℕ) → next_page w ≡ Some i → IsNext w i
 is_next w i next = by_test (nat_lt w.asked (length w.come)) refl next
   where
     by_test : (b : Bool) → nat_lt w.asked (length w.come) ≡ b → cond b (Some w.asked) None ≡ Some i → IsNext w i
-    by_test true less e = let same = some_same w.asked i e in record { same = same; within = subst (λ n. n < length w.come) same (below w.asked (length w.come) less) }
+    by_test true less e = let same = same_Some w.asked i e in record { same = same; within = subst (λ n. n < length w.come) same (below w.asked (length w.come) less) }
     by_test false less e = cc
 
 module _ (system : System) (log : List Entry) (p : Pid) (w : WaitingState) (waits : WaitsAs system log p none_queued w) where
   -- what was asked for stands in the log
   pub in_log : (j : ℕ) → j < length w.come → nat_lt j w.asked ≡ any_since_moved system log p (is_fetch p j)
-  in_log j within = waits.asked j within ∙ or_nothing (any_since_moved system log p (is_fetch p j))
+  in_log j within = waits.asked j within ∙ or_false (any_since_moved system log p (is_fetch p j))
 
   pub next_fetch : (i : ℕ) → next_page w ≡ Some i → FetchHolds system log p i
   next_fetch i next =

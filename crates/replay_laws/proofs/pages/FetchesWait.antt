@@ -3,9 +3,9 @@ use Rattle.std.proofs.Common.{◌≡◌, ◌≢◌, ℕ, suc, ◌<◌, refl, sym
 use Rattle.std.specs.Prelude.{nat_lt}
 use Rattle.std.specs.List.{list_all, list_any}
 use Rattle.std.proofs.lemmas.Bool.Decides.{nat_tests}
+use Rattle.std.proofs.lemmas.Option.{same_Some}
 use Rattle.t32_base.specs.declared.process.Pid.{Pid}
 use Rattle.sys_text.specs.declared.system.System.{System}
-use Rattle.plain_kernel.proofs.Entries.{some_same}
 use Rattle.bus_msg.specs.declared.entry.Entry.{Entry}
 use Rattle.cert_sched.specs.Account.{account_after, page_in}
 use Rattle.cert_sched.specs.Legal.{IsLegalBy, Stands}
@@ -54,6 +54,6 @@ a_fetch_waits system log p w legal unended waits none lacks =
     let i = m.index in
     let not_come : any_since_moved system log p (is_page_is p i) ≡ false =
     not_seen (any_since_moved system log p (is_page_is p i)) (page_in (account_after system log p).kept i)
-    (some_same (page_come system log p i) None (sym (waits.come i m.within) ∙ m.none)) (came_kept system log p i legal unended) in
+    (same_Some (page_come system log p i) None (sym (waits.come i m.within) ∙ m.none)) (came_kept system log p i legal unended) in
     let fetched : any_since_moved system log p (is_fetch p i) ≡ true = sym (in_log system log p w waits i m.within) ∙ all_asked w i none m.within in
     λ empty. true≢false (sym (fetched_waits system log p i legal unended fetched not_come) ∙ ap (list_any (is_wait_for p i)) empty)

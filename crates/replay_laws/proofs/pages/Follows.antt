@@ -2,6 +2,7 @@
 use Rattle.std.proofs.Common.{◌≡◌, ℕ, ◌<◌, ◌≤◌, refl, sym, ◌∙◌, ap, subst, List, [], ◌∷◌, ◌++◌, length, set, Bool, true, false, cond, ◌&&◌, ◌||◌, eqb, eqb-true, eq-eqb, Some, None, is_some, slice_get, true≢false}
 use Rattle.std.proofs.lemmas.List.{length-set}
 use Rattle.t32_base.specs.declared.process.Pid.{Pid}
+use Rattle.t32_base.proofs.Facts.{or_false, or_true, and_false}
 use Rattle.sys_text.specs.declared.system.System.{System}
 use Rattle.sys_text.specs.Valid.{is_system}
 use Rattle.bus_msg.specs.declared.entry.What.{What}
@@ -32,21 +33,9 @@ use Rattle.replay_laws.specs.pages.Waits.{WaitsAs, page_come}
 use Rattle.replay_laws.proofs.pages.PageCounts.{count_stays}
 use Rattle.replay_laws.proofs.pages.Records.{record_next}
 
-or_nothing : (b : Bool) → (b || false) ≡ b
-or_nothing true = refl
-or_nothing false = refl
-
-or_true : (b : Bool) → (b || true) ≡ true
-or_true true = refl
-or_true false = refl
-
 or_of_three : (a b c : Bool) → (a || (b || c)) ≡ ((a || b) || c)
 or_of_three true b c = refl
 or_of_three false b c = refl
-
-and_false : (b : Bool) → (b && false) ≡ false
-and_false true = refl
-and_false false = refl
 
 module _ (system : System) (log : List Entry) (e : Entry) (p : Pid) (queued : ℕ → Bool) (w : WaitingState) (valid : is_system system ≡ true) (legal : IsLegalBy Stands system (log ++ e ∷ [])) where
   stands : Stands system log e
@@ -63,7 +52,7 @@ module _ (system : System) (log : List Entry) (e : Entry) (p : Pid) (queued : �
   come_same : (i : ℕ) → moves_next system log e p ≡ false → is_exit_of p (what e) ≡ false → is_cut p (what e) ≡ false → is_page_is p i (what e) ≡ false → page_come system (log ++ e ∷ []) p i ≡ page_come system log p i
   come_same i stays exit no_cut none =
       let seen : any_since_moved system (log ++ e ∷ []) p (is_page_is p i) ≡ any_since_moved system log p (is_page_is p i) =
-      any_since-goes_on system log e p (is_page_is p i) stays ∙ ap (λ b. any_since_moved system log p (is_page_is p i) || b) none ∙ or_nothing (any_since_moved system log p (is_page_is p i)) in
+      any_since-goes_on system log e p (is_page_is p i) stays ∙ ap (λ b. any_since_moved system log p (is_page_is p i) || b) none ∙ or_false (any_since_moved system log p (is_page_is p i)) in
       let kept = still exit no_cut in
       λ k. cond (seen k) (page_in (kept k) i) None
 
@@ -134,7 +123,7 @@ module _ (system : System) (log : List Entry) (e : Entry) (p : Pid) (queued : �
           at_most = subst (λ n. n ≤ 256) (sym many) waits.at_most;
           asked = λ j within.
               waits.asked j (subst (λ n. j < n) many within)
-              ∙ ap (λ b. b || queued j) (sym (any_since-goes_on system log e p (is_fetch p j) stays ∙ ap (λ b. any_since_moved system log p (is_fetch p j) || b) (ap (is_fetch p j) is) ∙ or_nothing (any_since_moved system log p (is_fetch p j))));
+              ∙ ap (λ b. b || queued j) (sym (any_since-goes_on system log e p (is_fetch p j) stays ∙ ap (λ b. any_since_moved system log p (is_fetch p j) || b) (ap (is_fetch p j) is) ∙ or_false (any_since_moved system log p (is_fetch p j))));
           come = λ j within. come_next j (subst (λ n. j < n) many within);
         }
 

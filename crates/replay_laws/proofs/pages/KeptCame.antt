@@ -5,6 +5,7 @@ use Rattle.std.specs.Ordering.{nat_cmp, eq_by_cmp}
 use Rattle.std.specs.FinMap.{put}
 use Rattle.std.specs.FinMap.Entries.{find-put}
 use Rattle.std.specs.Cmp.{nat_cmp_total}
+use Rattle.std.proofs.lemmas.Bool.{or_parts}
 use Rattle.t32_base.specs.declared.process.Pid.{Pid}
 use Rattle.sys_text.specs.declared.system.System.{System}
 use Rattle.proc_state.specs.State.{ProcState}
@@ -22,7 +23,6 @@ use Rattle.cert_sched.specs.Legal.{IsLegalBy, Stands}
 use Rattle.cert_sched.specs.Simulation.{IsUnended}
 use Rattle.cert_sched.proofs.LogLaws.{account_after-snoc}
 use Rattle.cert_sched.proofs.Induction.{legal_induction}
-use Rattle.cert_sched.proofs.RisingLaws.{either_not}
 use Rattle.log_laws.specs.pages.Next.{next_told, moves_next}
 use Rattle.log_laws.proofs.pages.OneEntry.{any_since-snoc}
 use Rattle.log_laws.proofs.pages.Waiting.{page_came, page_is_holds}
@@ -105,7 +105,7 @@ keeps_in system log p i legal = legal_induction Stands system (λ log. has_exite
   where
     next : (log : List Entry) (e : Entry) → (has_exited log p ≡ false → Keeps system log p i) → Stands system log e → has_exited (log ++ e ∷ []) p ≡ false → Keeps system (log ++ e ∷ []) p i
     next log e before stands stays =
-        let both = either_not (has_exited log p) (is_exit_of p (what e)) (sym (has_exited-snoc log e p) ∙ stays) in
+        let both = or_parts (has_exited log p) (is_exit_of p (what e)) (sym (has_exited-snoc log e p) ∙ stays) in
         keeps_after system log e p i stands both.1 (before both.0)
 
 -- a page that came is kept

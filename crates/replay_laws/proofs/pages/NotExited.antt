@@ -10,7 +10,7 @@ use Rattle.proc_state.specs.State.{ProcState}
 use Rattle.sys_calls.specs.declared.steps.Emission.TheVariants.{Exit as Ended}
 use Rattle.plain_kernel.specs.Kernel.{process_at}
 use Rattle.bus_msg.specs.declared.entry.What.{What}
-use Rattle.bus_msg.specs.declared.entry.What.TheVariants.{Mail, Birth, Exit, Page, Sync, Fetch, PageIs, Crash, Return, Rebackup, Done, Stop}
+use Rattle.bus_msg.specs.declared.entry.What.TheVariants.{Exit}
 use Rattle.bus_msg.specs.declared.entry.Entry.{Entry}
 use Rattle.bus_msg.specs.Places.{unended_at}
 use Rattle.bus_msg.specs.PlacedAfter.{what}

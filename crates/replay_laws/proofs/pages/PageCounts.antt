@@ -5,6 +5,7 @@ use Rattle.std.specs.Option.{option_map_or}
 use Rattle.std.specs.declared.cmp.Ordering.{Ordering}
 use Rattle.std.specs.declared.cmp.Ordering.TheVariants.{Less, Equal, Greater}
 use Rattle.std.specs.Ordering.{is_eq}
+use Rattle.std.proofs.lemmas.Option.{same_Some}
 use Rattle.t32_base.specs.declared.process.Pid.{Pid}
 use Rattle.t32_base.specs.Small.{SmallState}
 use Rattle.sys_text.specs.declared.system.System.{System}
@@ -19,7 +20,6 @@ use Rattle.sys_calls.specs.Next.{next_step}
 use Rattle.sys_calls.specs.Fork.{fork_child, fork_parent}
 use Rattle.plain_kernel.specs.Kernel.{Kernel, boot, no_image, pid_cmp, process_at, root_process, with_process, emitted}
 use Rattle.plain_kernel.specs.Apply.{after_step, one_step, fork_step, take_step}
-use Rattle.plain_kernel.proofs.Entries.{some_same}
 use Rattle.plain_kernel.proofs.AtBoot.{boot-each}
 use Rattle.plain_kernel.proofs.Laws.{process_at-with_process}
 use Rattle.plain_kernel.proofs.Others.{small_at, small_at-emitted, items_keep}
@@ -77,8 +77,8 @@ unfolding one_step
 step_count p n q k j has made = by_process (process_at k q) refl made
   where
     by_next : (s : ProcState) (next : Next) → process_at k q ≡ Some s → Keeps s next → after_step k q next ≡ Some j → HasCount p n j
-    by_next s (Silent t) there same e = subst (HasCount p n) (some_same (with_process k q t) j e) (put_count p q n k s t there same.pages has)
-    by_next s (Emits m t) there same e = subst (HasCount p n) (some_same (emitted (with_process k q t) m) j e) (emitted_count p n (with_process k q t) m (put_count p q n k s t there same.pages has))
+    by_next s (Silent t) there same e = subst (HasCount p n) (same_Some (with_process k q t) j e) (put_count p q n k s t there same.pages has)
+    by_next s (Emits m t) there same e = subst (HasCount p n) (same_Some (emitted (with_process k q t) m) j e) (emitted_count p n (with_process k q t) m (put_count p q n k s t there same.pages has))
     by_next s Blocked there same e = cc
     by_next s Forks there same e = cc
     by_next s Over there same e = cc
@@ -127,7 +127,7 @@ put_few q k t all few p s there = by_order (pid_cmp p q) (sym (process_at-with_p
   where
     by_order : (o : Ordering) → cond (is_eq o) (Some t) (process_at k p) ≡ Some s → HasFewPages s
     by_order Less e = all p s e
-    by_order Equal e = subst HasFewPages (some_same t s e) few
+    by_order Equal e = subst HasFewPages (same_Some t s e) few
     by_order Greater e = all p s e
 
 emitted_few : (k : Kernel) (m : Emission) → AllFew k → AllFew (emitted k m)
@@ -136,7 +136,7 @@ emitted_few k m all p s there = by_process (process_at k p) refl (sym (ap (optio
   where
     by_process : (o : Option ProcState) → process_at k p ≡ o → Some s.small ≡ option_map (λ (s : ProcState). s.small) o → HasFewPages s
     by_process None is e = cc
-    by_process (Some t) is e = subst (λ (x : SmallState). (1 ≤ x.pages) × (x.pages ≤ 256)) (sym (some_same s.small t.small e)) (all p t is)
+    by_process (Some t) is e = subst (λ (x : SmallState). (1 ≤ x.pages) × (x.pages ≤ 256)) (sym (same_Some s.small t.small e)) (all p t is)
 
 few_as : (s t : ProcState) → (t.small).pages ≡ (s.small).pages → HasFewPages s → HasFewPages t
 few_as s t same few = subst (λ n. (1 ≤ n) × (n ≤ 256)) (sym same) few
@@ -151,8 +151,8 @@ unfolding one_step AllFew
 step_few q k j all made = by_process (process_at k q) refl made
   where
     by_next : (s : ProcState) (next : Next) → process_at k q ≡ Some s → Keeps s next → after_step k q next ≡ Some j → AllFew j
-    by_next s (Silent t) there same e = subst AllFew (some_same (with_process k q t) j e) (put_few q k t all (few_as s t same.pages (all q s there)))
-    by_next s (Emits m t) there same e = subst AllFew (some_same (emitted (with_process k q t) m) j e) (emitted_few (with_process k q t) m (put_few q k t all (few_as s t same.pages (all q s there))))
+    by_next s (Silent t) there same e = subst AllFew (same_Some (with_process k q t) j e) (put_few q k t all (few_as s t same.pages (all q s there)))
+    by_next s (Emits m t) there same e = subst AllFew (same_Some (emitted (with_process k q t) m) j e) (emitted_few (with_process k q t) m (put_few q k t all (few_as s t same.pages (all q s there))))
     by_next s Blocked there same e = cc
     by_next s Forks there same e = cc
     by_next s Over there same e = cc
@@ -202,7 +202,7 @@ count_kept system log e p n applies has =
 
 counted : (o : Option ProcState) (n : ℕ) → option_map (λ (s : ProcState). (s.small).pages) o ≡ Some n → option_map_or (λ (s : ProcState). (s.small).pages) o 0 ≡ n
 counted None n is = cc
-counted (Some s) n is = some_same (s.small).pages n is
+counted (Some s) n is = same_Some (s.small).pages n is
 
 pub count_stays : (system : System) (log : List Entry) (e : Entry) (p : Pid) → is_some (plain_after system (log ++ e ∷ [])) ≡ true → is_some (process_after system log p) ≡ true → page_count system (log ++ e ∷ []) p ≡ page_count system log p
 count_stays system log e p applies there = by_process (process_after system log p) refl there

@@ -1,12 +1,12 @@
 -- The entry that bears a process: it tells of the birth, and the kernel makes it.
 use Rattle.std.proofs.Common.{◌≡◌, ℕ, sym, ◌∙◌, ap, subst, List, [], ◌∷◌, ◌++◌, true, Some, true≢false}
+use Rattle.std.proofs.lemmas.Option.{same_Some}
 use Rattle.t32_base.specs.declared.process.Pid.{Pid}
 use Rattle.sys_text.specs.declared.system.System.{System}
 use Rattle.proc_state.specs.State.{ProcState}
 use Rattle.sys_calls.specs.Fork.{fork_child}
-use Rattle.plain_kernel.proofs.Entries.{some_same}
 use Rattle.bus_msg.specs.declared.entry.What.{What}
-use Rattle.bus_msg.specs.declared.entry.What.TheVariants.{Mail, Birth, Exit, Page, Sync, Fetch, PageIs, Crash, Return, Rebackup, Done, Stop}
+use Rattle.bus_msg.specs.declared.entry.What.TheVariants.{Birth}
 use Rattle.bus_msg.specs.declared.entry.Entry.{Entry}
 use Rattle.bus_msg.specs.PlacedAfter.{what}
 use Rattle.cert_sched.specs.Schedule.{process_after}
@@ -36,4 +36,4 @@ pub born_without_letters : (system : System) (log : List Entry) (e : Entry) (p :
 born_without_letters system log e p now stands birth there =
     let b = birth_is (what e) p birth in
     let made = stands_made system log e b.parent b.at p b.end stands b.is in
-    ap (λ (s : ProcState). s.next) (some_same now (fork_child made.before p) (sym there ∙ made.child_is))
+    ap (λ (s : ProcState). s.next) (same_Some now (fork_child made.before p) (sym there ∙ made.child_is))

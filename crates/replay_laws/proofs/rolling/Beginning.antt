@@ -1,5 +1,6 @@
 -- A process as it started, with its saved letters, has to do again all that it did since.
 use Rattle.std.proofs.Common.{◌≡◌, refl, sym, ◌∙◌, ap, subst, List, [], Bool, true, false, cond, Some, None}
+use Rattle.std.proofs.lemmas.Option.{same_Some}
 use Rattle.t32_base.specs.declared.process.Pid.{Pid}
 use Rattle.t32_base.specs.declared.letter.BackRec.{BackRec}
 use Rattle.t32_base.specs.Small.{SmallState}
@@ -7,7 +8,6 @@ use Rattle.sys_text.specs.declared.system.System.{System}
 use Rattle.rv_mem.specs.Memory.{Memory}
 use Rattle.proc_state.specs.State.{ProcState}
 use Rattle.write_count.specs.Counting.{counts_of}
-use Rattle.plain_kernel.proofs.Entries.{some_same}
 use Rattle.bus_msg.specs.declared.entry.Entry.{Entry}
 use Rattle.roll_forward.specs.Deeds.{letters_in, births_in}
 use Rattle.roll_forward.specs.Rolling.{started, with_saved}
@@ -32,7 +32,7 @@ rolls_from_start system log p start is = record {
 
 -- the state of a record that has one is that of the start
 state_is : (stated : Bool) (x small : SmallState) → cond stated (Some x) None ≡ Some small → small ≡ x
-state_is true x small e = sym (some_same x small e)
+state_is true x small e = sym (same_Some x small e)
 state_is false x small e = cc
 
 -- the small state of its record is that of the start

@@ -1,6 +1,7 @@
 -- A process as it was born: later entries leave that, and one that never was cut starts from there.
 use Rattle.std.proofs.Common.{◌≡◌, refl, sym, ◌∙◌, ap, List, [], ◌∷◌, ◌++◌, Bool, true, false, cond, ◌||◌, Option, Some, None, is_some, true≢false}
 use Rattle.std.specs.List.{list_any}
+use Rattle.std.proofs.lemmas.Bool.{or_parts}
 use Rattle.t32_base.specs.declared.process.Pid.{Pid}
 use Rattle.sys_text.specs.declared.system.System.{System}
 use Rattle.proc_state.specs.State.{ProcState}
@@ -12,7 +13,6 @@ use Rattle.cert_sched.specs.Deeds.{starts, is_cut, is_birth_of, start_of}
 use Rattle.cert_sched.specs.Record.{has_state, is_root}
 use Rattle.cert_sched.specs.Legal.{IsLegalBy, Stands}
 use Rattle.cert_sched.proofs.ListLaws.{upto_last-snoc}
-use Rattle.cert_sched.proofs.RisingLaws.{either_not}
 use Rattle.cert_sched.proofs.BornLaws.{there_not_born}
 use Rattle.cert_sched.proofs.CameLaws.{IsStandingRule}
 use Rattle.replay_laws.proofs.rolling.StartedThere.{upto_there}
@@ -52,11 +52,11 @@ record Alike (p : Pid) (log : List Entry) : Type 0 where
 uncut_alike : (p : Pid) (log : List Entry) → list_any (λ e. is_cut p (what e)) log ≡ false → Alike p log
 uncut_alike p [] none = record { any = refl; upto = refl }
 uncut_alike p (e ∷ log) none =
-    let parts = either_not (is_cut p (what e)) (list_any (λ e. is_cut p (what e)) log) none in
+    let parts = or_parts (is_cut p (what e)) (list_any (λ e. is_cut p (what e)) log) none in
     let rest = uncut_alike p log parts.1 in
     let here : starts p e ≡ is_birth_of p (what e) = ap (λ b. b || is_birth_of p (what e)) parts.0 in
     record { any = λ i. here i || rest.any i; upto = λ i. cond (rest.any i) (e ∷ rest.upto i) (cond (here i) (e ∷ []) []) }
 
 -- a process without a state in its record starts as it was born
 pub stateless_start : (system : System) (log : List Entry) (p : Pid) → has_state system log p ≡ false → start_of system log p ≡ birth_state system log p
-stateless_start system log p none = ap (λ l. process_after system l p) (uncut_alike p log (either_not (is_root system p) (list_any (λ e. is_cut p (what e)) log) none).1).upto
+stateless_start system log p none = ap (λ l. process_after system l p) (uncut_alike p log (or_parts (is_root system p) (list_any (λ e. is_cut p (what e)) log) none).1).upto

@@ -2,10 +2,10 @@
 use Rattle.std.proofs.Common.{◌≡◌, refl, sym, ◌∙◌, ap, arith, List, [], ◌∷◌, ◌++◌, map, length, Bool, true, false, not, ◌||◌, eq-eqb, ne_eqb, Option, Some, is_some, true≢false}
 use Rattle.std.specs.List.{list_any}
 use Rattle.std.proofs.lemmas.List.Folds.{list_any-append}
+use Rattle.std.proofs.lemmas.Bool.{or_parts}
 use Rattle.t32_base.specs.declared.process.Pid.{Pid}
 use Rattle.proc_state.specs.State.{ProcState}
 use Rattle.bus_msg.specs.Places.{same_pid}
-use Rattle.cert_sched.proofs.RisingLaws.{either_not}
 use Rattle.cert_sched.proofs.CameLaws.{same_of}
 
 -- ---- lists that are alike
@@ -67,7 +67,7 @@ turned a b h = ne_eqb b.0 a.0 (λ e. true≢false (sym (eq-eqb a.0 b.0 (sym e)) 
 pub apart_more : (bs : List Pid) (c : Pid) → AllApart bs → list_any (same_pid c) bs ≡ false → AllApart (bs ++ c ∷ [])
 apart_more [] c apart none = (refl, tt)
 apart_more (b ∷ bs) c apart none =
-    let parts = either_not (same_pid c b) (list_any (same_pid c) bs) none in
+    let parts = or_parts (same_pid c b) (list_any (same_pid c) bs) none in
     (list_any-append (same_pid b) bs (c ∷ []) ∙ (λ i. apart.0 i || (turned c b parts.0 i || false)), apart_more bs c apart.1 parts.1)
 
 -- those of a second part are none of the first
@@ -78,7 +78,7 @@ apart_parts (x ∷ xs) bs c apart among = by_pid (same_pid c x) refl among (apar
     by_pid : (t : Bool) → same_pid c x ≡ t → (t || list_any (same_pid c) xs) ≡ true → (list_any (same_pid c) xs ≡ true → list_any (same_pid c) bs ≡ false) → list_any (same_pid c) bs ≡ false
     by_pid true same h more =
         ap (λ q. list_any (same_pid q) bs) (same_of c x same)
-        ∙ (either_not (list_any (same_pid x) xs) (list_any (same_pid x) bs) (sym (list_any-append (same_pid x) xs bs) ∙ apart.0)).1
+        ∙ (or_parts (list_any (same_pid x) xs) (list_any (same_pid x) bs) (sym (list_any-append (same_pid x) xs bs) ∙ apart.0)).1
     by_pid false other h more = more h
 
 -- and are apart

@@ -2,14 +2,15 @@
 use Rattle.std.proofs.Common.{◌≡◌, ◌+◌, refl, sym, ◌∙◌, ap, subst, arith, List, [], ◌∷◌, ◌++◌, length, length-append, append-nil, Bool, true, false, cond, ◌||◌, Option, Some, None, is_some, true≢false}
 use Rattle.std.specs.Prelude.{fold}
 use Rattle.std.proofs.lemmas.Grind.{flat_map-append}
+use Rattle.std.proofs.lemmas.Option.{same_Some}
 use Rattle.t32_base.specs.declared.process.Pid.{Pid}
 use Rattle.t32_base.specs.declared.process.Counts.{Counts}
 use Rattle.t32_base.specs.declared.letter.Letter.{Letter}
+use Rattle.t32_base.proofs.Facts.{or_true}
 use Rattle.sys_text.specs.declared.system.System.{System}
 use Rattle.sys_text.specs.Valid.{is_system}
 use Rattle.proc_state.specs.State.{ProcState, delivered}
 use Rattle.sys_calls.proofs.RunLemma.{all_delivered}
-use Rattle.plain_kernel.proofs.Entries.{some_same}
 use Rattle.bus_msg.specs.declared.entry.What.{What}
 use Rattle.bus_msg.specs.declared.entry.What.TheVariants.{Exit}
 use Rattle.bus_msg.specs.declared.entry.Entry.{Entry}
@@ -51,7 +52,7 @@ CountsLetters system log p = (start : ProcState) → start_of system log p ≡ S
 
 -- a process that rolls forward counts them so
 pub rolls_count : (system : System) (log : List Entry) (p : Pid) (now : ProcState) → Rolls system log p now → CountsLetters system log p
-rolls_count system log p now r start started = subst (λ (s : ProcState). arrived_count log p ≡ s.next + length (letters_to p (after_last (starts p) log))) (some_same r.start start (sym r.started ∙ started)) r.arrived
+rolls_count system log p now r start started = subst (λ (s : ProcState). arrived_count log p ≡ s.next + length (letters_to p (after_last (starts p) log))) (same_Some r.start start (sym r.started ∙ started)) r.arrived
 
 -- a process that has not ended counts them so, by any rule by which an entry stands
 pub unended_counts : (May : System → List Entry → Entry → Type 0) → IsStandingRule May → (system : System) (log : List Entry) (p : Pid) → is_system system ≡ true → IsLegalBy May system log → IsUnended system log p → CountsLetters system log p
@@ -98,10 +99,6 @@ cut_no_exit p w cut = refl
 counts_at_boot : (system : System) (p : Pid) → CountsLetters system [] p
 unfolding plain_after
 counts_at_boot system p start started = let none : start.next ≡ 0 = boot_arrived system p start started in omega (arith, none)
-
-or_true : (b : Bool) → (b || true) ≡ true
-or_true true = refl
-or_true false = refl
 
 -- a process that an entry bears has no letters to count
 counts_born : (system : System) (log : List Entry) (e : Entry) (p : Pid) → Stands system log e → is_birth_of p (what e) ≡ true → CountsLetters system (log ++ e ∷ []) p

@@ -1,6 +1,7 @@
 -- In a log that is not over the last step of a process in the kernel is its last deed since it started, or it is at its start: no silent step lies behind.
 use Rattle.std.proofs.Common.{◌≡◌, ℕ, zero, suc, ◌+◌, ◌-◌, refl, sym, ◌∙◌, ap, subst, arith, List, [], ◌∷◌, ◌++◌, append-nil, Bool, true, false, cond, ◌||◌, eq-eqb, Option, Some, None, is_some, true≢false}
 use Rattle.std.specs.Prelude.{option_and_then, option_map}
+use Rattle.std.proofs.lemmas.Option.{same_Some}
 use Rattle.t32_base.specs.declared.process.Pid.{Pid}
 use Rattle.t32_base.specs.declared.process.End.{End}
 use Rattle.t32_base.specs.declared.letter.Letter.{Letter}
@@ -12,9 +13,8 @@ use Rattle.sys_calls.specs.Fork.{fork_parent}
 use Rattle.sys_calls.proofs.Counting.{last_sent, exit_ends}
 use Rattle.sys_calls.proofs.RunLemma.{all_delivered}
 use Rattle.plain_kernel.specs.Kernel.{Kernel, process_at}
-use Rattle.plain_kernel.proofs.Entries.{some_same}
 use Rattle.bus_msg.specs.declared.entry.What.{What}
-use Rattle.bus_msg.specs.declared.entry.What.TheVariants.{Mail, Birth, Exit, Page, Sync, Fetch, PageIs, Crash, Return, Rebackup, Done, Stop}
+use Rattle.bus_msg.specs.declared.entry.What.TheVariants.{Mail, Birth, Exit, Sync, Crash, Return, Rebackup, Done, Stop}
 use Rattle.bus_msg.specs.declared.entry.Entry.{Entry}
 use Rattle.bus_msg.specs.Places.{same_pid}
 use Rattle.bus_msg.specs.PlacedAfter.{what}
@@ -73,7 +73,7 @@ module _ (system : System) (log : List Entry) (e : Entry) where
             to = s.after;
             sharp = subst (λ ds. Sharp (at - done f.kernel letter.from) f.was ds s.after) (sym (ap (λ (b : Bool). cond b (Sends (Sent letter) ∷ []) []) (eq-eqb (letter.from).0 (letter.from).0 refl)))
                 (sharp_last (at - done f.kernel letter.from) f.was s.after (Sent letter) f.sends);
-            arrives = some_same now (received (Sent letter) letter.from s.after) (sym there ∙ process_after-sender system log e letter.from at (Sent letter) s.after s.is (refl, is))
+            arrives = same_Some now (received (Sent letter) letter.from s.after) (sym there ∙ process_after-sender system log e letter.from at (Sent letter) s.after s.is (refl, is))
                 ∙ received-all letter letter.from s.after (letter_told system log letter.from at letter s.after s.is);
           }
 
@@ -89,7 +89,7 @@ module _ (system : System) (log : List Entry) (e : Entry) where
           by_process : (o : Option ProcState) → process_after system log p ≡ o → option_map (received (Sent letter) p) o ≡ Some now → Did system log (Mail at letter) p now
           by_process None here same = cc
           by_process (Some was) here same =
-              let to : received (Sent letter) p was ≡ now = some_same (received (Sent letter) p was) now same in
+              let to : received (Sent letter) p was ≡ now = same_Some (received (Sent letter) p was) now same in
               let open_still : has_ended (was.small).status ≡ false = by_status was to (has_ended (was.small).status) refl in
               record {
                 was = was;
@@ -113,7 +113,7 @@ module _ (system : System) (log : List Entry) (e : Entry) where
           let s = is_sent system log q at (Ended end) kind.0 in
           let f = sent_from system log q at (Ended end) s.after s.is in
           let l = last_sent (at - done f.kernel q) f.was (Ended end) s.after f.sends in
-          let same : s.after ≡ now = some_same s.after now (sym (process_after-sender system log e q at (Ended end) s.after s.is is) ∙ there) in
+          let same : s.after ≡ now = same_Some s.after now (sym (process_after-sender system log e q at (Ended end) s.after s.is is) ∙ there) in
           absurd (true≢false (sym (exit_ends l.before s.after end l.last) ∙ ap (λ (x : ProcState). has_ended (x.small).status) same ∙ goes_on))
 
       other : same_pid q p ≡ false → Here (Exit q at end) p
@@ -124,7 +124,7 @@ module _ (system : System) (log : List Entry) (e : Entry) where
           by_process : (o : Option ProcState) → process_after system log p ≡ o → option_map (received (Ended end) p) o ≡ Some now → Did system log (Exit q at end) p now
           by_process None here same = cc
           by_process (Some was) here same =
-              let to : was ≡ now = some_same was now same in
+              let to : was ≡ now = same_Some was now same in
               record {
                 was = was;
                 there = here;
@@ -171,7 +171,7 @@ module _ (system : System) (log : List Entry) (e : Entry) where
     where
       forks : Here (Birth parent at child end) parent
       forks now there goes_on =
-          let to : now ≡ fork_parent b.before child = some_same now (fork_parent b.before child) (sym there ∙ b.parent_is) in
+          let to : now ≡ fork_parent b.before child = same_Some now (fork_parent b.before child) (sym there ∙ b.parent_is) in
           let open_still : has_ended ((fork_parent b.before child).small).status ≡ false = ap (λ (s : ProcState). has_ended (s.small).status) (sym to) ∙ goes_on in
           record {
             was = b.was;
@@ -253,7 +253,7 @@ exact_started : (system : System) (log : List Entry) (e : Entry) (p : Pid) (now 
 exact_started system log e p now there starting r = by_made r.made none r.replays
   where
     same : now ≡ r.start
-    same = some_same now r.start (sym there ∙ sym (start_of-snoc system log e p ∙ ap (λ b. cond b (process_after system (log ++ e ∷ []) p) (start_of system log p)) starting) ∙ r.started)
+    same = same_Some now r.start (sym there ∙ sym (start_of-snoc system log e p ∙ ap (λ b. cond b (process_after system (log ++ e ∷ []) p) (start_of system log p)) starting) ∙ r.started)
 
     none : r.made ≡ 0
     none =

@@ -3,6 +3,7 @@ use Rattle.std.proofs.Common.{◌≡◌, ℕ, zero, suc, refl, sym, ◌∙◌, a
 use Rattle.std.specs.List.{list_any}
 use Rattle.std.proofs.lemmas.List.{length-map}
 use Rattle.std.proofs.lemmas.Grind.{flat_map-append}
+use Rattle.std.proofs.lemmas.Option.{same_Some}
 use Rattle.t32_base.specs.declared.process.Pid.{Pid}
 use Rattle.t32_base.specs.declared.process.Counts.{Counts}
 use Rattle.sys_text.specs.declared.system.System.{System}
@@ -11,7 +12,6 @@ use Rattle.proc_state.specs.State.{ProcState}
 use Rattle.sys_calls.specs.Calls.{Forks}
 use Rattle.sys_calls.specs.Next.{next_step}
 use Rattle.sys_calls.specs.Fork.{fork_child, fork_parent}
-use Rattle.plain_kernel.proofs.Entries.{some_same}
 use Rattle.bus_msg.specs.declared.entry.Entry.{Entry}
 use Rattle.bus_msg.specs.Places.{same_pid}
 use Rattle.roll_forward.specs.Deeds.{Deed, Sends, Bears, births_in, child_in}
@@ -97,7 +97,7 @@ module _ (May : System → List Entry → Entry → Type 0) (standing : IsStandi
   forked_again unended s counts child births rolls forks =
       let b = bore_there unended in
       let r = rolling_of system log parent s counts (child ∷ births) rolls in
-      let same = some_same r.start ((b.bore).rolls).start (sym r.started ∙ ((b.bore).rolls).started) in
+      let same = same_Some r.start ((b.bore).rolls).start (sym r.started ∙ ((b.bore).rolls).started) in
       let part = subst (λ (x : ProcState). Part (refilled log parent x) (since log parent) s r.rest) same r.part in
       forked_part system log parent b.now b.bore s r.rest child births r.births_left forks part
       (reach (refilled log parent ((b.bore).rolls).start) (since log parent) s r.rest ((b.bore).rolls).made b.now part ((b.bore).rolls).replays)

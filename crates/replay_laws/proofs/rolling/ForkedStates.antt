@@ -3,6 +3,7 @@ use Rattle.std.proofs.Common.{◌≡◌, ℕ, ◌+◌, refl, sym, ◌∙◌, ap,
 use Rattle.std.specs.List.{list_any}
 use Rattle.std.proofs.lemmas.List.{map-append}
 use Rattle.std.proofs.lemmas.Grind.{flat_map-append}
+use Rattle.std.proofs.lemmas.Option.{same_Some}
 use Rattle.t32_base.specs.declared.process.Pid.{Pid}
 use Rattle.sys_text.specs.declared.system.System.{System}
 use Rattle.sys_text.specs.Valid.{is_system}
@@ -10,9 +11,8 @@ use Rattle.proc_state.specs.State.{ProcState, has_ended}
 use Rattle.sys_calls.specs.declared.steps.Emission.TheVariants.{Mail as Sent, Exit as Ended}
 use Rattle.sys_calls.specs.Fork.{fork_child, fork_parent}
 use Rattle.sys_calls.proofs.RunLemma.{all_delivered}
-use Rattle.plain_kernel.proofs.Entries.{some_same}
 use Rattle.bus_msg.specs.declared.entry.What.{What}
-use Rattle.bus_msg.specs.declared.entry.What.TheVariants.{Mail, Birth, Exit, Page, Sync, Fetch, PageIs, Crash, Return, Rebackup, Done, Stop}
+use Rattle.bus_msg.specs.declared.entry.What.TheVariants.{Mail, Birth, Exit}
 use Rattle.bus_msg.specs.declared.entry.Entry.{Entry}
 use Rattle.bus_msg.specs.Places.{same_pid}
 use Rattle.bus_msg.specs.PlacedAfter.{what}
@@ -67,8 +67,8 @@ module _ (system : System) (log : List Entry) (e : Entry) (p : Pid) (legal : IsL
   adds_birth at child end was now g is here there =
       let b = stands_made system log e p at child end stands is in
       let deeds : deeds_in p (what e) ≡ Bears child ∷ [] = ap (deeds_in p) is ∙ ap (λ (x : Bool). cond x (Bears child ∷ []) []) (eq-eqb p.0 p.0 refl) in
-      let from : was ≡ b.was = some_same was b.was (sym here ∙ b.there) in
-      let to : now ≡ fork_parent b.before child = some_same now (fork_parent b.before child) (sym there ∙ b.parent_is) in
+      let from : was ≡ b.was = same_Some was b.was (sym here ∙ b.there) in
+      let to : now ≡ fork_parent b.before child = same_Some now (fork_parent b.before child) (sym there ∙ b.parent_is) in
       let its = (replays_counts (b.made + 1) b.was (fork_parent b.before child) (Bears child ∷ []) (replays_forked b.made b.was b.before child b.forks)).steps in
       let goes = (replays_counts g.made was g.to (deeds_in p (what e)) g.replays).steps in
       let arrives : (now.small).steps ≡ ((g.to).small).steps = ap (λ (s : ProcState). (s.small).steps) (g.arrives ∙ all_delivered-is g.to (letter_for p (what e))) in
@@ -116,7 +116,7 @@ module _ (system : System) (log : List Entry) (e : Entry) (p : Pid) (legal : IsL
     births = ap births_in deeds ∙ flat_map-append child_in (since log p) (deeds_in p (what e))
 
     start : after.start ≡ (before.rolls).start
-    start = some_same after.start (before.rolls).start (sym after.started ∙ same_start system log e p quiet ∙ (before.rolls).started)
+    start = same_Some after.start (before.rolls).start (sym after.started ∙ same_start system log e p quiet ∙ (before.rolls).started)
 
     made : after.made ≡ (before.rolls).made + g.made
     made =

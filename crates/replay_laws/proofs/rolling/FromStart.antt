@@ -1,13 +1,13 @@
 -- The record of a process that is a root or was cut has the state of its start; from its start each process rolls forward.
 use Rattle.std.proofs.Common.{◌≡◌, ◌≤◌, refl, sym, ◌∙◌, ap, subst, List, Bool, true, false, cond, Option, Some, None, is_some}
 use Rattle.std.specs.Prelude.{option_map}
+use Rattle.std.proofs.lemmas.Option.{same_Some}
 use Rattle.t32_base.specs.declared.process.Pid.{Pid}
 use Rattle.t32_base.specs.declared.letter.BackRec.{BackRec}
 use Rattle.sys_text.specs.declared.system.System.{System}
 use Rattle.sys_text.specs.Valid.{is_system}
 use Rattle.rv_mem.specs.Memory.{Memory}
 use Rattle.proc_state.specs.State.{ProcState}
-use Rattle.plain_kernel.proofs.Entries.{some_same}
 use Rattle.bus_msg.specs.declared.entry.Entry.{Entry}
 use Rattle.roll_forward.specs.Rolling.{started, with_saved}
 use Rattle.cert_sched.specs.Schedule.{done_after}
@@ -32,7 +32,7 @@ record_stated system log p kept is = by_start (start_of system log p) is
 
     by_start : (o : Option ProcState) → option_map (record_from system log p) o ≡ Some kept → is_some kept.state ≡ has_state system log p
     by_start None e = cc
-    by_start (Some start) e = ap (λ (r : BackRec). is_some r.state) (sym (some_same (record_from system log p start) kept e)) ∙ by_state start (has_state system log p)
+    by_start (Some start) e = ap (λ (r : BackRec). is_some r.state) (sym (same_Some (record_from system log p start) kept e)) ∙ by_state start (has_state system log p)
 
 -- then that is the state of its start
 pub stated_at_start : (system : System) (log : List Entry) (p : Pid) (start : ProcState) (kept : BackRec) → has_state system log p ≡ true → start_of system log p ≡ Some start → backup_record system log p ≡ Some kept → kept.state ≡ Some start.small
@@ -45,7 +45,7 @@ pub behind_from_kept : (May : System → List Entry → Entry → Type 0) → Is
     → start_of system log p ≡ Some start → backup_record system log p ≡ Some kept → RollsBehind system log p (with_saved start kept.saved kept.next) kept.counts kept.births
 behind_from_kept May standing system log p start kept valid legal unended begins is =
     let l = led_there May standing system log p valid legal unended in
-    let same : (l.led).start ≡ start = some_same (l.led).start start (sym (l.led).started ∙ begins) in
+    let same : (l.led).start ≡ start = same_Some (l.led).start start (sym (l.led).started ∙ begins) in
     record {
       rolls = rolls_from_kept system log p start kept begins is;
       behind = subst (λ (s : ProcState). (s.small).steps ≤ done_after system log p) same (start_behind system log p l.now l.led);

@@ -1,5 +1,6 @@
 -- A process that rolls forward and is not beyond where it was: so it begins, and so an entry more leaves it.
 use Rattle.std.proofs.Common.{◌≡◌, ◌≤◌, refl, sym, ◌∙◌, ap, subst, arith, List, [], ◌∷◌, ◌++◌, true, false, Option, Some, None, is_some, true≢false}
+use Rattle.std.proofs.lemmas.Option.{same_Some}
 use Rattle.t32_base.specs.declared.process.Pid.{Pid}
 use Rattle.t32_base.specs.declared.process.Counts.{Counts}
 use Rattle.t32_base.specs.declared.letter.BackRec.{BackRec}
@@ -9,7 +10,6 @@ use Rattle.sys_text.specs.Valid.{is_system}
 use Rattle.rv_mem.specs.Memory.{Memory}
 use Rattle.proc_state.specs.State.{ProcState}
 use Rattle.sys_calls.proofs.RunLemma.{all_delivered}
-use Rattle.plain_kernel.proofs.Entries.{some_same}
 use Rattle.bus_msg.specs.declared.entry.Entry.{Entry}
 use Rattle.bus_msg.specs.Places.{unended_at}
 use Rattle.bus_msg.specs.PlacedAfter.{what}
@@ -38,7 +38,7 @@ pub behind_from_record : (system : System) (log : List Entry) (p : Pid) (now sta
     → kept.state ≡ Some small → ram.bytes ≡ start.memory → RollsBehind system log p (started small ram kept.saved kept.next) kept.counts kept.births
 behind_from_record system log p now start kept small ram led is kept_is stated bytes =
     let rolls = rolls_from_record system log p start kept small ram is kept_is stated bytes in
-    let same : led.start ≡ start = some_same led.start start (sym led.started ∙ is) in
+    let same : led.start ≡ start = same_Some led.start start (sym led.started ∙ is) in
     let state : small ≡ start.small = state_of_record system log p start kept small is kept_is stated in
     record {
       rolls = rolls;

@@ -3,13 +3,13 @@ use Rattle.std.proofs.Common.{◌≡◌, ℕ, ◌+◌, ◌-◌, ◌≤◌, refl,
 use Rattle.std.specs.Prelude.{option_and_then}
 use Rattle.std.specs.Option.{option_map_or}
 use Rattle.std.proofs.lemmas.Bool.Decides.{nat_tests}
+use Rattle.std.proofs.lemmas.Option.{same_Some}
 use Rattle.t32_base.specs.declared.process.Pid.{Pid}
 use Rattle.t32_base.specs.declared.process.Counts.{Counts}
 use Rattle.sys_text.specs.declared.system.System.{System}
 use Rattle.sys_text.specs.Valid.{is_system}
 use Rattle.proc_state.specs.State.{ProcState, has_ended}
 use Rattle.plain_kernel.specs.Kernel.{Kernel, process_at}
-use Rattle.plain_kernel.proofs.Entries.{some_same}
 use Rattle.bus_msg.specs.declared.entry.Entry.{Entry}
 use Rattle.roll_forward.specs.Deeds.{Deed}
 use Rattle.cert_sched.specs.Schedule.{done, plain_after, process_after, done_after}
@@ -130,7 +130,7 @@ fine_left from all s rest part fine = fine_rest part.done rest (subst AllFine pa
 -- both start alike
 pub same_part : (system : System) (log : List Entry) (p : Pid) (now s : ProcState) (counts : Counts) (births : List Pid) → (led : Led system log p now) → (r : Rolling system log p s counts births) → Part (refilled log p led.start) (since log p) s r.rest
 same_part system log p now s counts births led r =
-    subst (λ (x : ProcState). Part (refilled log p x) (since log p) s r.rest) (some_same r.start led.start (sym r.started ∙ led.started)) r.part
+    subst (λ (x : ProcState). Part (refilled log p x) (since log p) s r.rest) (same_Some r.start led.start (sym r.started ∙ led.started)) r.part
 
 -- it starts behind the process in the kernel
 pub start_behind : (system : System) (log : List Entry) (p : Pid) (now : ProcState) → (led : Led system log p now) → IsBehind system log p (refilled log p led.start)

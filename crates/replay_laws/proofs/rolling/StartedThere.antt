@@ -4,6 +4,7 @@ use Rattle.std.specs.Prelude.{option_and_then, option_map}
 use Rattle.std.specs.declared.cmp.Ordering.{Ordering}
 use Rattle.std.specs.declared.cmp.Ordering.TheVariants.{Less, Equal, Greater}
 use Rattle.std.specs.Ordering.{is_eq}
+use Rattle.std.proofs.lemmas.Option.{same_Some}
 use Rattle.t32_base.specs.declared.process.Pid.{Pid}
 use Rattle.sys_text.specs.declared.system.System.{System}
 use Rattle.proc_state.specs.State.{ProcState}
@@ -13,7 +14,6 @@ use Rattle.sys_calls.specs.Next.{next_step}
 use Rattle.sys_calls.specs.Fork.{fork_child, fork_parent}
 use Rattle.plain_kernel.specs.Kernel.{Kernel, pid_cmp, process_at, with_process, emitted}
 use Rattle.plain_kernel.specs.Apply.{after_step, one_step, fork_step, take_step}
-use Rattle.plain_kernel.proofs.Entries.{some_same}
 use Rattle.plain_kernel.proofs.Laws.{process_at-with_process}
 use Rattle.plain_kernel.proofs.Others.{items_keep}
 use Rattle.plain_kernel.proofs.Forking.{fork_made}
@@ -57,8 +57,8 @@ unfolding one_step
 step_there p q k j there made = by_process (process_at k q) made
   where
     by_next : (next : Next) → after_step k q next ≡ Some j → IsThere p j
-    by_next (Silent t) e = subst (IsThere p) (some_same (with_process k q t) j e) (put_there p q k t there)
-    by_next (Emits m t) e = subst (IsThere p) (some_same (emitted (with_process k q t) m) j e) (emitted_there p (with_process k q t) m (put_there p q k t there))
+    by_next (Silent t) e = subst (IsThere p) (same_Some (with_process k q t) j e) (put_there p q k t there)
+    by_next (Emits m t) e = subst (IsThere p) (same_Some (emitted (with_process k q t) m) j e) (emitted_there p (with_process k q t) m (put_there p q k t there))
     by_next Blocked e = cc
     by_next Forks e = cc
     by_next Over e = cc

@@ -5,6 +5,8 @@ use Rattle.std.specs.List.{list_any}
 use Rattle.std.specs.Option.{option_map_or, option_or}
 use Rattle.std.proofs.lemmas.Grind.{flat_map-append}
 use Rattle.std.proofs.lemmas.List.Folds.{find-append, list_any-append}
+use Rattle.std.proofs.lemmas.Option.{same_Some}
+use Rattle.std.proofs.lemmas.Bool.{or_parts}
 use Rattle.t32_base.specs.declared.process.Pid.{Pid}
 use Rattle.t32_base.specs.declared.process.ClusterNo.{ClusterNo}
 use Rattle.t32_base.specs.declared.letter.BackRec.{BackRec}
@@ -12,9 +14,8 @@ use Rattle.sys_text.specs.declared.system.System.{System}
 use Rattle.sys_text.specs.declared.system.Root.{Root}
 use Rattle.sys_text.specs.Valid.{is_system}
 use Rattle.sys_text.specs.Boot.{roots_of}
-use Rattle.plain_kernel.proofs.Entries.{some_same}
 use Rattle.bus_msg.specs.declared.entry.What.{What}
-use Rattle.bus_msg.specs.declared.entry.What.TheVariants.{Mail, Birth, Exit, Page, Sync, Fetch, PageIs, Crash, Return, Rebackup, Done, Stop}
+use Rattle.bus_msg.specs.declared.entry.What.TheVariants.{Birth, Exit, Sync, Crash, Rebackup}
 use Rattle.bus_msg.specs.declared.entry.Entry.{Entry}
 use Rattle.bus_msg.specs.declared.placed.Placed.{Placed}
 use Rattle.bus_msg.specs.Places.{Places, same_pid, placed_at, unended_at}
@@ -29,7 +30,6 @@ use Rattle.cert_sched.specs.Legal.{IsLegalBy, Stands}
 use Rattle.cert_sched.specs.Simulation.{IsUnended, bears}
 use Rattle.cert_sched.proofs.LogLaws.{placement-snoc}
 use Rattle.cert_sched.proofs.Induction.{legal_induction}
-use Rattle.cert_sched.proofs.RisingLaws.{either_not}
 use Rattle.cert_sched.proofs.PidLaws.{placed_pids}
 use Rattle.cert_sched.proofs.CameLaws.{IsStandingRule, same_of}
 use Rattle.cert_sched.proofs.ThereLaws.{found_among}
@@ -55,7 +55,7 @@ mapped_fresh f keeps places after is p fresh stays q found = by_found (unended_a
   where
     by_found : (o : Option Placed) → unended_at places p ≡ o → IsFresh o → option_map f o ≡ Some q → q.synced ≡ false
     by_found None there was e = cc
-    by_found (Some x) there was e = ap (λ (r : Placed). r.synced) (sym (some_same (f x) q e)) ∙ stays x (unended_pid places p x there) (was x refl)
+    by_found (Some x) there was e = ap (λ (r : Placed). r.synced) (sym (same_Some (f x) q e)) ∙ stays x (unended_pid places p x there) (was x refl)
 
 module _ (system : System) (log : List Entry) (e : Entry) (stands : Stands system log e) (numbered : Numbered (placement system log)) (p : Pid) (fresh : IsFresh (unended_at (placement system log) p)) where
   sync_fresh : (q : Placed) (r : Pid) → q.pid ≡ p → same_pid r p ≡ false → q.synced ≡ false → (after_sync r q).synced ≡ false
@@ -75,7 +75,7 @@ module _ (system : System) (log : List Entry) (e : Entry) (stands : Stands syste
       by_found (unended_at (placement system log) child) refl (sym (find-append (λ (q : Placed). same_pid q.pid child && not q.ended) (placement system log).placed (child_of r child ∷ [])) ∙ found)
     where
       by_test : (b : Bool) → cond (b && true) (Some (child_of r child)) None ≡ Some q → q.synced ≡ false
-      by_test true e = ap (λ (x : Placed). x.synced) (sym (some_same (child_of r child) q e))
+      by_test true e = ap (λ (x : Placed). x.synced) (sym (same_Some (child_of r child) q e))
       by_test false e = cc
 
       by_found : (o : Option Placed) → unended_at (placement system log) child ≡ o → option_or o (find (λ (q : Placed). same_pid q.pid child && not q.ended) (child_of r child ∷ [])) ≡ Some q → q.synced ≡ false
@@ -131,8 +131,8 @@ record Cut (log : List Entry) (e : Entry) (p : Pid) : Type 0 where
 
 cut_parts : (log : List Entry) (e : Entry) (p : Pid) → was_cut_in (log ++ e ∷ []) p ≡ false → Cut log e p
 cut_parts log e p none =
-    let both = either_not (was_cut_in log p) (is_cut p (what e) || false) (sym (list_any-append (λ (f : Entry). is_cut p (what f)) log (e ∷ [])) ∙ none) in
-    record { before = both.0; now = (either_not (is_cut p (what e)) false both.1).0 }
+    let both = or_parts (was_cut_in log p) (is_cut p (what e) || false) (sym (list_any-append (λ (f : Entry). is_cut p (what f)) log (e ∷ [])) ∙ none) in
+    record { before = both.0; now = (or_parts (is_cut p (what e)) false both.1).0 }
 
 record AllFresh (system : System) (log : List Entry) : Type 0 where
   pub numbered : Numbered (placement system log)
@@ -143,7 +143,7 @@ root_fresh t [] q e = cc
 root_fresh t (r ∷ roots) q e = by_test (t (placed_root r)) e (root_fresh t roots q)
   where
     by_test : (b : Bool) → cond b (Some (placed_root r)) (find t (map placed_root roots)) ≡ Some q → (find t (map placed_root roots) ≡ Some q → q.synced ≡ false) → q.synced ≡ false
-    by_test true e more = ap (λ (x : Placed). x.synced) (sym (some_same (placed_root r) q e))
+    by_test true e more = ap (λ (x : Placed). x.synced) (sym (same_Some (placed_root r) q e))
     by_test false e more = more e
 
 fresh_at_boot : (system : System) → is_system system ≡ true → AllFresh system []
@@ -164,7 +164,7 @@ pub stateless_unsynced : (May : System → List Entry → Entry → Type 0) → 
 stateless_unsynced May standing system log p valid legal unended stateless = by_found (unended_at (placement system log) p) refl unended
   where
     uncut : was_cut_in log p ≡ false
-    uncut = (either_not (is_root system p) (was_cut_in log p) stateless).1
+    uncut = (or_parts (is_root system p) (was_cut_in log p) stateless).1
 
     all : AllFresh system log
     all = legal_induction May system (AllFresh system) (fresh_at_boot system valid) (λ log e fresh may. fresh_more system log e fresh (standing system log e may)) log legal
@@ -214,4 +214,4 @@ parent_of May system log p legal unended no_root =
 
 -- so a process that has not ended and has no state in its record has a parent
 pub stateless_born : (May : System → List Entry → Entry → Type 0) (system : System) (log : List Entry) (p : Pid) → IsLegalBy May system log → IsUnended system log p → has_state system log p ≡ false → HasParent log p
-stateless_born May system log p legal unended stateless = parent_of May system log p legal unended (either_not (is_root system p) (was_cut_in log p) stateless).0
+stateless_born May system log p legal unended stateless = parent_of May system log p legal unended (or_parts (is_root system p) (was_cut_in log p) stateless).0

@@ -1,6 +1,7 @@
 -- The steps of a process that rolls forward: each does again what is next, and is followed by a process that rolls forward.
 use Rattle.std.proofs.Common.{◌≡◌, ℕ, zero, suc, ◌+◌, ◌<◌, ◌≤◌, refl, sym, ◌∙◌, ap, subst, arith, List, [], ◌∷◌, ◌++◌, false, Option, Some, None, true≢false, add-zero}
 use Rattle.std.specs.Prelude.{option_and_then}
+use Rattle.std.proofs.lemmas.Option.{same_Some}
 use Rattle.t32_base.specs.declared.process.Pid.{Pid}
 use Rattle.t32_base.specs.declared.process.Counts.{Counts}
 use Rattle.sys_text.specs.declared.system.System.{System}
@@ -12,7 +13,6 @@ use Rattle.sys_calls.specs.Fork.{fork_parent}
 use Rattle.write_count.specs.Counting.{counts_of, count_for, lowered}
 use Rattle.write_count.proofs.CountLaws.{counts_of-cons, count_for-raised, length-counts_of}
 use Rattle.write_count.proofs.Prefix.{lowered-counts_of}
-use Rattle.plain_kernel.proofs.Entries.{some_same}
 use Rattle.bus_msg.specs.declared.entry.Entry.{Entry}
 use Rattle.roll_forward.specs.Deeds.{Deed, Sends, Bears, letters_in, births_in}
 use Rattle.roll_forward.specs.RunsOut.{RunsOut, RunsOn, nothing_left}
@@ -100,10 +100,10 @@ module _ (system : System) (log : List Entry) (p : Pid) (now : ProcState) (led :
     pub behind : 0 < n → IsBehind system log p h.state
 
   gone_step : (g h : Going) (After : ProcState → Counts → List Pid → Type 0) (next : Next) → RunsOn g.state g.counts After next g.births → gone_on g next ≡ Some h → After h.state h.counts h.births
-  gone_step g h After (Silent t) on e = subst (λ (k : Going). After k.state k.counts k.births) (some_same _ h e) on
+  gone_step g h After (Silent t) on e = subst (λ (k : Going). After k.state k.counts k.births) (same_Some _ h e) on
   gone_step g h After Blocked on e = cc
   gone_step g h After Forks on e = cc
-  gone_step g h After (Emits (Sent letter) t) on e = subst (λ (k : Going). After k.state k.counts k.births) (some_same _ h e) on.1
+  gone_step g h After (Emits (Sent letter) t) on e = subst (λ (k : Going). After k.state k.counts k.births) (same_Some _ h e) on.1
   gone_step g h After (Emits (Ended end) t) on e = cc
   gone_step g h After Over on e = cc
 
@@ -125,7 +125,7 @@ module _ (system : System) (log : List Entry) (p : Pid) (now : ProcState) (led :
   pub went_on : (ahead n : ℕ) (g h : Going) → RollsAs system log p g.state g.counts g.births → RunsOut g.state g.counts g.births ahead → n ≤ ahead → rolled_on n g ≡ Some h → Went ahead n g h
   unfolding rolled_on
   went_on ahead zero g h rolls runs within e =
-      let same : g ≡ h = some_same g h e in
+      let same : g ≡ h = same_Some g h e in
       record {
         rolls = subst (λ (k : Going). RollsAs system log p k.state k.counts k.births) same rolls;
         left = ahead;
@@ -141,7 +141,7 @@ module _ (system : System) (log : List Entry) (p : Pid) (now : ProcState) (led :
 
   -- so it is behind after them where it was behind
   pub behind_on : (ahead n : ℕ) (g h : Going) → RollsBehind system log p g.state g.counts g.births → RunsOut g.state g.counts g.births ahead → n ≤ ahead → rolled_on n g ≡ Some h → RollsBehind system log p h.state h.counts h.births
-  behind_on ahead zero g h rolls runs within e = subst (λ (k : Going). RollsBehind system log p k.state k.counts k.births) (some_same g h (sym (none_rolled g) ∙ e)) rolls
+  behind_on ahead zero g h rolls runs within e = subst (λ (k : Going). RollsBehind system log p k.state k.counts k.births) (same_Some g h (sym (none_rolled g) ∙ e)) rolls
   behind_on ahead (suc n) g h rolls runs within e =
       let w = went_on ahead (suc n) g h rolls.rolls runs within e in
       record { rolls = w.rolls; behind = w.behind (omega arith) }

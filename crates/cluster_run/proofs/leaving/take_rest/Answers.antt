@@ -1,4 +1,5 @@
-use Rattle.std.proofs.Common.{◌≡◌, ℕ, ◌∙◌, refl, ap, sym, arith, Option, Some, None, is_some, false, true, true≢false}
+use Rattle.std.proofs.Common.{◌≡◌, ◌∙◌, ap, sym, arith, is_some, false, true}
+use Rattle.t32_base.proofs.Facts.{none_is}
 use Rattle.bus_order.specs.Script.{off_at}
 use Rattle.bus_order.specs.View.{BusView}
 use Rattle.script_laws.proofs.OffLosses.{lost_off}
@@ -11,10 +12,6 @@ returns-then-is_some-clause-caught c =
     let v = c.args.cluster.now in
     let off : is_some (off_at b.log v.number) ≡ true = ap (λ k. is_some (off_at b.log k)) (sym c.number.ensures) ∙ ap is_some (sym c.off_at.ensures.off) ∙ sym c.is_some.ensures ∙ c.if-is_some.true in
     member_caught b v c.requires.sound (lost_off b.system b.log v.number c.requires.sound.legal ∙ off) c.requires.along
-
-none_is : (o : Option ℕ) → is_some o ≡ false → o ≡ None
-none_is None h = refl
-none_is (Some n) h = absurd (true≢false h)
 
 pub take_unnamed-requires-clause-shown : goal.take_unnamed-requires-clause-shown
 take_unnamed-requires-clause-shown c =

@@ -1,5 +1,6 @@
 use Rattle.std.proofs.Common.{◌≡◌, ◌⊎◌, ◌∙◌, refl, sym, ap, arith, get_or, false, inl, inr, true≢false}
 use Rattle.std.specs.Prelude.{⊤}
+use Rattle.std.proofs.lemmas.Bool.{or_parts}
 use Rattle.bus_msg.specs.Places.{cluster_no}
 use Rattle.t32_base.specs.declared.process.ClusterNo.{ClusterNo}
 use Rattle.cert_sched.specs.Rules.{is_over}
@@ -8,7 +9,6 @@ use Rattle.bus_order.specs.View.{BusView}
 use Rattle.cluster_core.specs.View.{ClusterView}
 use Rattle.cluster_run.specs.Along.{IsAlong, IsDue, IsFailed}
 use Rattle.cluster_run.proofs.AtTheEnd.{stands_there, still_due}
-use Rattle.cluster_run.proofs.Prefixes.{either}
 use Rattle.cluster_run.proofs.Together.{all_after, one_member}
 use Rattle.cluster_run.specs.Progress.{remaining}
 use Rattle.cluster_run.proofs.Progressing.{done_given, turn_gets_on, turn_lasts}
@@ -25,7 +25,7 @@ take_turn-requires-clause-due c =
     let b : BusView = c.args.bus.now in
     let member = one_member b c.args.clusters.now c.args.number c.index-clusters-number-2.result c.requires.along c.requires.has in
     let first = one_member b c.args.clusters.now c.args.number c.index-clusters-number.result c.requires.along c.requires.has in
-    let parts = either (is_over b.system b.log) (was_lost_in b.log c.number.result) (sym c.has_ended.ensures ∙ c.if-has_ended.false) in
+    let parts = or_parts (is_over b.system b.log) (was_lost_in b.log c.number.result) (sym c.has_ended.ensures ∙ c.if-has_ended.false) in
     let v = get_or c.args.clusters.now c.args.number c.index-clusters-number-2.result in
     let same : c.number.result.0 ≡ v.number.0 = ap (λ (k : ClusterNo). k.0) c.number.ensures ∙ first.number ∙ sym member.number in
     let lives : was_lost_in b.log v.number ≡ false = ap (λ k. was_lost_in b.log (cluster_no k)) (sym same) ∙ parts.1 in
@@ -40,7 +40,7 @@ take_turn-requires-clause-empty c =
     let b : BusView = c.args.bus.now in
     let member = one_member b c.args.clusters.now c.args.number c.index-clusters-number-2.result c.requires.along c.requires.has in
     let first = one_member b c.args.clusters.now c.args.number c.index-clusters-number.result c.requires.along c.requires.has in
-    let parts = either (is_over b.system b.log) (was_lost_in b.log c.number.result) (sym c.has_ended.ensures ∙ c.if-has_ended.false) in
+    let parts = or_parts (is_over b.system b.log) (was_lost_in b.log c.number.result) (sym c.has_ended.ensures ∙ c.if-has_ended.false) in
     let v = get_or c.args.clusters.now c.args.number c.index-clusters-number-2.result in
     let same : c.number.result.0 ≡ v.number.0 = ap (λ (k : ClusterNo). k.0) c.number.ensures ∙ first.number ∙ sym member.number in
     let lives : was_lost_in b.log v.number ≡ false = ap (λ k. was_lost_in b.log (cluster_no k)) (sym same) ∙ parts.1 in
@@ -51,7 +51,7 @@ returns-clause-owned c =
     let b : BusView = c.args.bus.now in
     let member = one_member b c.args.clusters.now c.args.number c.index-clusters-number-2.result c.requires.along c.requires.has in
     let first = one_member b c.args.clusters.now c.args.number c.index-clusters-number.result c.requires.along c.requires.has in
-    let parts = either (is_over b.system b.log) (was_lost_in b.log c.number.result) (sym c.has_ended.ensures ∙ c.if-has_ended.false) in
+    let parts = or_parts (is_over b.system b.log) (was_lost_in b.log c.number.result) (sym c.has_ended.ensures ∙ c.if-has_ended.false) in
     let v = get_or c.args.clusters.now c.args.number c.index-clusters-number-2.result in
     let same : c.number.result.0 ≡ v.number.0 = ap (λ (k : ClusterNo). k.0) c.number.ensures ∙ first.number ∙ sym member.number in
     let lives : was_lost_in b.log v.number ≡ false = ap (λ k. was_lost_in b.log (cluster_no k)) (sym same) ∙ parts.1 in
@@ -63,7 +63,7 @@ returns-clause-along c =
     let b : BusView = c.args.bus.now in
     let member = one_member b c.args.clusters.now c.args.number c.index-clusters-number-2.result c.requires.along c.requires.has in
     let first = one_member b c.args.clusters.now c.args.number c.index-clusters-number.result c.requires.along c.requires.has in
-    let parts = either (is_over b.system b.log) (was_lost_in b.log c.number.result) (sym c.has_ended.ensures ∙ c.if-has_ended.false) in
+    let parts = or_parts (is_over b.system b.log) (was_lost_in b.log c.number.result) (sym c.has_ended.ensures ∙ c.if-has_ended.false) in
     let v = get_or c.args.clusters.now c.args.number c.index-clusters-number-2.result in
     let same : c.number.result.0 ≡ v.number.0 = ap (λ (k : ClusterNo). k.0) c.number.ensures ∙ first.number ∙ sym member.number in
     let lives : was_lost_in b.log v.number ≡ false = ap (λ k. was_lost_in b.log (cluster_no k)) (sym same) ∙ parts.1 in
@@ -77,7 +77,7 @@ returns-clause-system c =
     let b : BusView = c.args.bus.now in
     let member = one_member b c.args.clusters.now c.args.number c.index-clusters-number-2.result c.requires.along c.requires.has in
     let first = one_member b c.args.clusters.now c.args.number c.index-clusters-number.result c.requires.along c.requires.has in
-    let parts = either (is_over b.system b.log) (was_lost_in b.log c.number.result) (sym c.has_ended.ensures ∙ c.if-has_ended.false) in
+    let parts = or_parts (is_over b.system b.log) (was_lost_in b.log c.number.result) (sym c.has_ended.ensures ∙ c.if-has_ended.false) in
     let v = get_or c.args.clusters.now c.args.number c.index-clusters-number-2.result in
     let same : c.number.result.0 ≡ v.number.0 = ap (λ (k : ClusterNo). k.0) c.number.ensures ∙ first.number ∙ sym member.number in
     let lives : was_lost_in b.log v.number ≡ false = ap (λ k. was_lost_in b.log (cluster_no k)) (sym same) ∙ parts.1 in
@@ -89,7 +89,7 @@ returns-clause-over c over =
     let b : BusView = c.args.bus.now in
     let member = one_member b c.args.clusters.now c.args.number c.index-clusters-number-2.result c.requires.along c.requires.has in
     let first = one_member b c.args.clusters.now c.args.number c.index-clusters-number.result c.requires.along c.requires.has in
-    let parts = either (is_over b.system b.log) (was_lost_in b.log c.number.result) (sym c.has_ended.ensures ∙ c.if-has_ended.false) in
+    let parts = or_parts (is_over b.system b.log) (was_lost_in b.log c.number.result) (sym c.has_ended.ensures ∙ c.if-has_ended.false) in
     let v = get_or c.args.clusters.now c.args.number c.index-clusters-number-2.result in
     let same : c.number.result.0 ≡ v.number.0 = ap (λ (k : ClusterNo). k.0) c.number.ensures ∙ first.number ∙ sym member.number in
     let lives : was_lost_in b.log v.number ≡ false = ap (λ k. was_lost_in b.log (cluster_no k)) (sym same) ∙ parts.1 in
@@ -100,7 +100,7 @@ returns-clause-lasts c =
     let b : BusView = c.args.bus.now in
     let member = one_member b c.args.clusters.now c.args.number c.index-clusters-number-2.result c.requires.along c.requires.has in
     let first = one_member b c.args.clusters.now c.args.number c.index-clusters-number.result c.requires.along c.requires.has in
-    let parts = either (is_over b.system b.log) (was_lost_in b.log c.number.result) (sym c.has_ended.ensures ∙ c.if-has_ended.false) in
+    let parts = or_parts (is_over b.system b.log) (was_lost_in b.log c.number.result) (sym c.has_ended.ensures ∙ c.if-has_ended.false) in
     let v = get_or c.args.clusters.now c.args.number c.index-clusters-number-2.result in
     let same : c.number.result.0 ≡ v.number.0 = ap (λ (k : ClusterNo). k.0) c.number.ensures ∙ first.number ∙ sym member.number in
     let lives : was_lost_in b.log v.number ≡ false = ap (λ k. was_lost_in b.log (cluster_no k)) (sym same) ∙ parts.1 in
@@ -112,7 +112,7 @@ returns-clause-gets_on c =
     let b : BusView = c.args.bus.now in
     let member = one_member b c.args.clusters.now c.args.number c.index-clusters-number-2.result c.requires.along c.requires.has in
     let first = one_member b c.args.clusters.now c.args.number c.index-clusters-number.result c.requires.along c.requires.has in
-    let parts = either (is_over b.system b.log) (was_lost_in b.log c.number.result) (sym c.has_ended.ensures ∙ c.if-has_ended.false) in
+    let parts = or_parts (is_over b.system b.log) (was_lost_in b.log c.number.result) (sym c.has_ended.ensures ∙ c.if-has_ended.false) in
     let v = get_or c.args.clusters.now c.args.number c.index-clusters-number-2.result in
     let same : c.number.result.0 ≡ v.number.0 = ap (λ (k : ClusterNo). k.0) c.number.ensures ∙ first.number ∙ sym member.number in
     let lives : was_lost_in b.log v.number ≡ false = ap (λ k. was_lost_in b.log (cluster_no k)) (sym same) ∙ parts.1 in

@@ -1,4 +1,5 @@
 use Rattle.std.proofs.Common.{◌≡◌, ◌<◌, ◌∙◌, sym, subst, true, false, ◌||◌, true≢false}
+use Rattle.std.proofs.lemmas.Bool.{or_parts}
 use Rattle.t32_base.specs.declared.process.ClusterNo.{ClusterNo}
 use Rattle.sys_text.specs.declared.system.System.{System}
 use Rattle.cert_sched.specs.Losses.{was_lost_in}
@@ -6,7 +7,6 @@ use Rattle.cert_sched.specs.Rules.{is_over}
 use Rattle.cluster_core.specs.View.{ClusterView}
 use Rattle.cluster_run.specs.Turns.{GoesOwn, TurnsOwn}
 use Rattle.cluster_run.proofs.Owning.{gone_turn, turn_after, where_ok}
-use Rattle.cluster_run.proofs.Prefixes.{either}
 use Rattle.cluster_run.proofs.StepLosses.{before_along}
 use Rattle.cluster_run.proofs.TakingIn.{upto_all}
 use Rattle.cluster_run.proofs.turn.go_on.Goals as goal
@@ -57,7 +57,7 @@ act-requires-clause-seen g c =
     let mid = g.P.Port.bus c.catch_up.new.port in
     let v : ClusterView = c.catch_up.new.cluster in
     let taken = c.in_ok-catch_up.ensures.taken c.if-branch.false in
-    let parts = either (is_over mid.system mid.log) (was_lost_in mid.log c.number.result) (sym c.has_ended.ensures ∙ c.if-has_ended.false) in
+    let parts = or_parts (is_over mid.system mid.log) (was_lost_in mid.log c.number.result) (sym c.has_ended.ensures ∙ c.if-has_ended.false) in
     let lives : was_lost_in mid.log v.number ≡ false = subst (λ k. was_lost_in mid.log k ≡ false) c.number.ensures parts.1 in
     taken.caught ∙ upto_all mid v.number (taken.shown).sound parts.0 lives
 

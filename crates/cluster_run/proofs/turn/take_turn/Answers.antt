@@ -1,4 +1,5 @@
-use Rattle.std.proofs.Common.{◌≡◌, ℕ, ◌∙◌, refl, sym, ap, Option, Some, None, is_some, true, false, inl, inr, true≢false}
+use Rattle.std.proofs.Common.{◌≡◌, ℕ, ◌∙◌, sym, ap, Option, Some, None, is_some, true, false, inl, inr, true≢false}
+use Rattle.t32_base.proofs.Facts.{none_is}
 use Rattle.cluster_core.specs.View.{ClusterView}
 use Rattle.bus_order.specs.View.{BusView}
 use Rattle.cluster_run.specs.Along.{IsDue, IsFailed, IsShown, IsSound}
@@ -12,10 +13,6 @@ none_some n h = cc
 some_is : (o : Option ℕ) → is_some o ≡ true → o ≡ None → ⊥
 some_is None some none = true≢false (sym some)
 some_is (Some n) some none = none_some n (sym none)
-
-none_is : (o : Option ℕ) → is_some o ≡ false → o ≡ None
-none_is None h = refl
-none_is (Some n) h = absurd (true≢false h)
 
 -- one of whose disk a call failed has failed
 due_failed : (Shows : Type 0) (from : ℕ) (b : BusView) (c : ClusterView) → IsDue Shows from b c → is_some c.failed ≡ true → IsSound b × IsFailed b c

@@ -1,5 +1,5 @@
-use Rattle.std.proofs.Common.{arith, refl, ap, get_or, length}
-use Rattle.plain_kernel.proofs.Roots.{root_home, no_root}
+use Rattle.std.proofs.Common.{arith, refl, get_or}
+use Rattle.plain_kernel.proofs.Roots.{no_root}
 use Rattle.report_text.proofs.RootEnds.{ends_more}
 use Rattle.report_text.proofs.outcome.ends_of.Goals as goal
 

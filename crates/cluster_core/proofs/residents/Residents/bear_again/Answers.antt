@@ -7,8 +7,8 @@ use Rattle.slab.specs.Slab.{with_value}
 use Rattle.slab.proofs.SlabLemmas.{Updates-with_value}
 use Rattle.cluster_core.specs.Residents.{ResidentsView}
 use Rattle.std.specs.List.{list_any}
+use Rattle.std.proofs.lemmas.Option.{same_Some}
 use Rattle.plain_kernel.specs.Maps.{at_key, pid_of}
-use Rattle.plain_kernel.proofs.Entries.{some_same}
 use Rattle.cluster_core.specs.ForkingAgain.{StandsAtForkAgain}
 use Rattle.cluster_core.specs.View.{held_of}
 use Rattle.cluster_core.proofs.here.Slots.{nobody_held, no_entry, process_there}
@@ -25,7 +25,7 @@ pub fork_again-requires : goal.fork_again-requires
 fork_again-requires c =
     let at = process_there c.self.inside.residents c.args.pid c.in-Some.key.now c.in-Some-get_mut.resident.now c.self.inside.keys.entries (sym c.in-Some.ensures.value) (sym c.in-Some-get_mut.ensures.value) in
     let stood = c.requires.stands in
-    subst StandsAtForkAgain (some_same stood.held c.in-Some-get_mut.resident.now (sym stood.there ∙ ap (λ (v : ResidentsView). held_of v.here (pid_of c.args.pid)) (sym c.self.view_is) ∙ at)) stood.stands
+    subst StandsAtForkAgain (same_Some stood.held c.in-Some-get_mut.resident.now (sym stood.there ∙ ap (λ (v : ResidentsView). held_of v.here (pid_of c.args.pid)) (sym c.self.view_is) ∙ at)) stood.stands
 
 pub unreachable-requires-in-None : goal.unreachable-requires-in-None
 unreachable-requires-in-None c =

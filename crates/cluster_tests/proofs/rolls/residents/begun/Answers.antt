@@ -1,4 +1,4 @@
-use Rattle.std.proofs.Common.{◌≡◌, ◌∙◌, [], ◌∷◌, None, ap, refl, replicate, subst, sym}
+use Rattle.std.proofs.Common.{◌≡◌, ◌∙◌, [], None, ap, refl, subst, sym}
 use Rattle.t32_base.specs.declared.letter.BackRec.{BackRec}
 use Rattle.proc_state.specs.State.{ProcState, state_of}
 use Rattle.roll_forward.specs.Rolling.{with_saved}
