@@ -16,7 +16,7 @@ use Rattle.cert_sched.specs.Schedule.{plain_after, schedule_of}
 use Rattle.cert_sched.specs.Kinds.{KindHolds}
 use Rattle.cert_sched.specs.Scripted.{is_done, is_finished}
 use Rattle.cert_sched.specs.Legal.{IsLegalBy}
-use Rattle.cert_sched.specs.Built.{BuiltMayFollow}
+use Rattle.cert_sched.specs.Built.{MayStand}
 use Rattle.cert_sched.proofs.ListLaws.{last_of-snoc}
 use Rattle.cert_sched.proofs.LogLaws.{plain_run-schedule_of}
 use Rattle.cert_sched.proofs.Induction.{legal_induction}
@@ -24,17 +24,17 @@ use Rattle.cert_sched.proofs.Induction.{legal_induction}
 -- ---- its schedule is applied whole
 
 -- each entry can be applied
-pub legal_applies : (system : System) (log : List Entry) → IsLegalBy BuiltMayFollow system log → is_some (plain_after system log) ≡ true
+pub legal_applies : (system : System) (log : List Entry) → IsLegalBy MayStand system log → is_some (plain_after system log) ≡ true
 unfolding plain_after
 legal_applies system log legal =
-    legal_induction BuiltMayFollow system (λ log. is_some (plain_after system log) ≡ true) refl (λ log e before may. (may.stands).applies) log legal
+    legal_induction MayStand system (λ log. is_some (plain_after system log) ≡ true) refl (λ log e before may. (may.stands).applies) log legal
 
 some_there : (o : Option Kernel) → is_some o ≡ true → (kernel : Kernel) × (o ≡ Some kernel)
 some_there None h = cc
 some_there (Some kernel) h = (kernel, refl)
 
 -- so the schedule of the log leads to a kernel
-pub legal_runs : (system : System) (log : List Entry) → IsLegalBy BuiltMayFollow system log → (kernel : Kernel) × (plain_run system (schedule_of system log) ≡ Some kernel)
+pub legal_runs : (system : System) (log : List Entry) → IsLegalBy MayStand system log → (kernel : Kernel) × (plain_run system (schedule_of system log) ≡ Some kernel)
 legal_runs system log legal =
     some_there (plain_run system (schedule_of system log)) (ap is_some (plain_run-schedule_of system log) ∙ legal_applies system log legal)
 
@@ -54,7 +54,7 @@ bad_item (x ∷ xs) (suc index) from kernel item there before refused = by_first
     by_first (Some next) more e = more next e
 
 -- no item of the schedule of a legal log is a bad one
-pub no_bad_item : (system : System) (log : List Entry) (index : ℕ) → IsLegalBy BuiltMayFollow system log → BadAt system (schedule_of system log) index → ⊥
+pub no_bad_item : (system : System) (log : List Entry) (index : ℕ) → IsLegalBy MayStand system log → BadAt system (schedule_of system log) index → ⊥
 no_bad_item system log index legal bad =
     let runs = legal_runs system log legal in
     let none = bad_item (schedule_of system log) index (boot system) bad.kernel bad.item bad.there bad.before bad.refused in
@@ -71,9 +71,9 @@ last_done : (log : List Entry) (e : Entry) → is_finished (log ++ e ∷ []) ≡
 last_done log e h = ap (λ o. option_map_or (λ (e : Entry). is_done (what e)) o false) (sym (last_of-snoc log e)) ∙ h
 
 -- where Done stands last nothing can move
-pub finished_still : (system : System) (log : List Entry) → IsLegalBy BuiltMayFollow system log → is_finished log ≡ true → option_map is_still (plain_after system log) ≡ Some true
+pub finished_still : (system : System) (log : List Entry) → IsLegalBy MayStand system log → is_finished log ≡ true → option_map is_still (plain_after system log) ≡ Some true
 finished_still system log legal =
-    legal_induction BuiltMayFollow system (λ log. is_finished log ≡ true → option_map is_still (plain_after system log) ≡ Some true) (λ h. cc)
+    legal_induction MayStand system (λ log. is_finished log ≡ true → option_map is_still (plain_after system log) ≡ Some true) (λ h. cc)
     (λ log e before may h. at_done (what e) system log e (last_done log e h) (may.stands).kind) log legal
 
 still_of : (o : Option Kernel) (kernel : Kernel) → option_map is_still o ≡ Some true → o ≡ Some kernel → is_still kernel ≡ true
@@ -83,7 +83,7 @@ still_of (Some other) kernel h e =
     rw same at (let inner : is_still other ≡ true = cc in inner)
 
 -- the kernel of its schedule is then still
-pub finished_kernel_still : (system : System) (log : List Entry) (kernel : Kernel) → IsLegalBy BuiltMayFollow system log → is_finished log ≡ true →
+pub finished_kernel_still : (system : System) (log : List Entry) (kernel : Kernel) → IsLegalBy MayStand system log → is_finished log ≡ true →
     plain_run system (schedule_of system log) ≡ Some kernel → is_still kernel ≡ true
 finished_kernel_still system log kernel legal finished runs =
     still_of (plain_after system log) kernel (finished_still system log legal finished) (sym (plain_run-schedule_of system log) ∙ runs)

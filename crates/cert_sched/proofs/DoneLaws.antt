@@ -24,7 +24,7 @@ use Rattle.cert_sched.specs.Rules.{is_over}
 use Rattle.cert_sched.specs.Kinds.{is_silent_rest}
 use Rattle.cert_sched.specs.Rests.{is_idle, is_idle_at}
 use Rattle.cert_sched.specs.Legal.{IsLegalBy}
-use Rattle.cert_sched.specs.Built.{BuiltMayFollow}
+use Rattle.cert_sched.specs.Built.{MayStand}
 use Rattle.cert_sched.specs.Appended.{entry_of}
 use Rattle.cert_sched.proofs.ListLaws.{list_all-weaker}
 use Rattle.cert_sched.proofs.LogLaws.{plain_after-snoc}
@@ -48,8 +48,8 @@ pub record AllRest (system : System) (log : List Entry) (rests : List (Pid × �
 -- ---- the pids
 
 -- no two processes of such a log have one pid
-pub built_apart : (system : System) (log : List Entry) → is_system system ≡ true → IsLegalBy BuiltMayFollow system log → NoTwo (placed_pids (placement system log).placed)
-built_apart system log valid legal = (numbered BuiltMayFollow (λ system log e may. may.stands) system log valid legal).two
+pub built_apart : (system : System) (log : List Entry) → is_system system ≡ true → IsLegalBy MayStand system log → NoTwo (placed_pids (placement system log).placed)
+built_apart system log valid legal = (numbered MayStand (λ system log e may. may.stands) system log valid legal).two
 
 -- a process that is none of those that have not ended is not found among them
 unnamed : (qs : List Placed) (p : Pid) → list_any (λ m. eqb m p.0) (placed_pids (filter (λ (q : Placed). not q.ended) qs)) ≡ false → find (λ (q : Placed). same_pid q.pid p && not q.ended) qs ≡ None
@@ -113,7 +113,7 @@ idle_reached system log r idle =
     let halves = and_parts (is_silent_rest system log r) (option_map_or is_idle (silent_upto system log r.0 r.1) false) idle in
     (and_parts _ (is_some (silent_upto system log r.0 r.1)) halves.0).1
 
-done_kernel : (system : System) (log : List Entry) (rests : List (Pid × ℕ)) → is_system system ≡ true → IsLegalBy BuiltMayFollow system log → AllRest system log rests → DoneKernel system log rests
+done_kernel : (system : System) (log : List Entry) (rests : List (Pid × ℕ)) → is_system system ≡ true → IsLegalBy MayStand system log → AllRest system log rests → DoneKernel system log rests
 done_kernel system log rests valid legal rest = by_kernel (plain_after system log) refl (legal_applies system log legal)
   where
     two : NoTwo (rest_pids rests)
@@ -126,7 +126,7 @@ done_kernel system log rests valid legal rest = by_kernel (plain_after system lo
         runs : RunsTo k k rests
         runs = runs_made k rests two (list_all-weaker (is_idle_at system log) (λ r. is_some (led k r)) (λ r idle. sym (ap is_some (led-silent_upto system log k r is)) ∙ idle_reached system log r idle) rests rest.idle)
 
-done_still : (system : System) (log : List Entry) (rests : List (Pid × ℕ)) → IsLegalBy BuiltMayFollow system log → is_over system log ≡ false → AllRest system log rests → (d : DoneKernel system log rests) → is_still (d.runs).to ≡ true
+done_still : (system : System) (log : List Entry) (rests : List (Pid × ℕ)) → IsLegalBy MayStand system log → is_over system log ≡ false → AllRest system log rests → (d : DoneKernel system log rests) → is_still (d.runs).to ≡ true
 done_still system log rests legal goes_on rest d =
     still_where_none_acts (d.runs).to (plain_after-rising system (log ++ done_entry system log rests ∷ []) (d.runs).to d.after) none_moves
   where
@@ -145,8 +145,8 @@ done_still system log rests legal goes_on rest d =
         ended_acts_not s (told q s (ap (option_and_then (λ k. process_at k q)) d.before ∙ was) (unnamed (placement system log).placed q apart)))
 
 -- where all rest, the end of the run may stand next
-pub done_may_follow : (system : System) (log : List Entry) (rests : List (Pid × ℕ)) → is_system system ≡ true → IsLegalBy BuiltMayFollow system log → is_over system log ≡ false → AllRest system log rests
-    → BuiltMayFollow system log (done_entry system log rests)
+pub done_may_follow : (system : System) (log : List Entry) (rests : List (Pid × ℕ)) → is_system system ≡ true → IsLegalBy MayStand system log → is_over system log ≡ false → AllRest system log rests
+    → MayStand system log (done_entry system log rests)
 done_may_follow system log rests valid legal goes_on rest =
     let d = done_kernel system log rests valid legal rest in
     record {

@@ -24,7 +24,7 @@ use Rattle.cert_sched.specs.Schedule.{placement, placed_root}
 use Rattle.cert_sched.specs.Rules.{is_over, owes_no_backup}
 use Rattle.cert_sched.specs.Rests.{IsRestOf, is_idle_at, owes_no_backup_at}
 use Rattle.cert_sched.specs.Legal.{IsLegalBy}
-use Rattle.cert_sched.specs.Built.{BuiltMayFollow}
+use Rattle.cert_sched.specs.Built.{MayStand}
 use Rattle.cert_sched.proofs.ListLaws.{list_all-weaker}
 use Rattle.cert_sched.proofs.LogLaws.{placement-snoc}
 use Rattle.cert_sched.proofs.Induction.{legal_induction}
@@ -39,10 +39,10 @@ use Rattle.cert_sched.proofs.DoneLaws.{AllRest, built_apart}
 -- ---- the clusters
 
 -- the number of clusters stays
-pub built_clusters-length : (system : System) (log : List Entry) → IsLegalBy BuiltMayFollow system log → length (placement system log).clusters ≡ system.clusters
+pub built_clusters-length : (system : System) (log : List Entry) → IsLegalBy MayStand system log → length (placement system log).clusters ≡ system.clusters
 unfolding placement
 built_clusters-length system log legal =
-    legal_induction BuiltMayFollow system (λ log. length (placement system log).clusters ≡ system.clusters)
+    legal_induction MayStand system (λ log. length (placement system log).clusters ≡ system.clusters)
     (length-map-range_with_len (boot_cluster (map placed_root (roots_of system))) 0 system.clusters)
     (λ log e same may.
     ap (λ (p : Places). length p.clusters) (placement-snoc system log e)
@@ -82,13 +82,13 @@ each_found t (q ∷ qs) two found = and_from (q.ended || t q.home) (all_at t qs)
             absurd (true≢false (sym (found_among p qs (ap is_some there)) ∙ ap (λ n. list_any (λ m. eqb m n) (placed_pids qs)) (sym same) ∙ two.0))
 
 -- each process that has not ended is at home in a cluster that lives
-homes_lived : (system : System) (log : List Entry) → is_system system ≡ true → IsLegalBy BuiltMayFollow system log → is_over system log ≡ false → all_at (lives_in (placement system log)) (placement system log).placed ≡ true
+homes_lived : (system : System) (log : List Entry) → is_system system ≡ true → IsLegalBy MayStand system log → is_over system log ≡ false → all_at (lives_in (placement system log)) (placement system log).placed ≡ true
 homes_lived system log valid legal goes_on =
     each_found (lives_in (placement system log)) (placement system log).placed (built_apart system log valid legal)
-    (homes_live BuiltMayFollow (λ system log e may. may.stands) system log valid legal goes_on)
+    (homes_live MayStand (λ system log e may. may.stands) system log valid legal goes_on)
 
 -- its number is below theirs
-built_homes : (system : System) (log : List Entry) → is_system system ≡ true → IsLegalBy BuiltMayFollow system log → is_over system log ≡ false → all_at (λ k. ltb k.0 system.clusters) (placement system log).placed ≡ true
+built_homes : (system : System) (log : List Entry) → is_system system ≡ true → IsLegalBy MayStand system log → is_over system log ≡ false → all_at (λ k. ltb k.0 system.clusters) (placement system log).placed ≡ true
 built_homes system log valid legal goes_on =
     list_all-weaker (λ (q : Placed). q.ended || lives_in (placement system log) q.home) (λ (q : Placed). q.ended || ltb (q.home).0 system.clusters) (λ q. weaker q q.ended) (placement system log).placed (homes_lived system log valid legal goes_on)
   where
@@ -113,7 +113,7 @@ none_home t k (q ∷ qs) all other =
         absurd (true≢false (sym h ∙ ap t home ∙ other))
 
 -- in a cluster that does not live every process rests, since none is at home there
-pub lost_rest : (system : System) (log : List Entry) (k : ClusterNo) → is_system system ≡ true → IsLegalBy BuiltMayFollow system log → is_over system log ≡ false → lives_in (placement system log) k ≡ false → IsRestOf system log k []
+pub lost_rest : (system : System) (log : List Entry) (k : ClusterNo) → is_system system ≡ true → IsLegalBy MayStand system log → is_over system log ≡ false → lives_in (placement system log) k ≡ false → IsRestOf system log k []
 lost_rest system log k valid legal goes_on lost = record {
   named = sym (ap (λ (qs : List Placed). rising (map (λ (q : Placed). (q.pid).0) qs)) (none_home (lives_in (placement system log)) k (placement system log).placed (homes_lived system log valid legal goes_on) lost));
   idle = refl;
@@ -205,7 +205,7 @@ pub record Merges (parts rests : List (Pid × ℕ)) : Type 0 where
   pub each : (t : Pid × ℕ → Bool) → list_all t parts ≡ true → list_all t rests ≡ true
 
 -- where the processes of each cluster rest, all rest
-pub all_rest : (system : System) (log : List Entry) (rests_in : ℕ → List (Pid × ℕ)) (rests : List (Pid × ℕ)) → is_system system ≡ true → IsLegalBy BuiltMayFollow system log → is_over system log ≡ false
+pub all_rest : (system : System) (log : List Entry) (rests_in : ℕ → List (Pid × ℕ)) (rests : List (Pid × ℕ)) → is_system system ≡ true → IsLegalBy MayStand system log → is_over system log ≡ false
     → ((k : ℕ) → k < system.clusters → IsRestOf system log (cluster_no k) (rests_in k)) → Merges (flat_map rests_in (range_with_len 0 system.clusters)) rests → AllRest system log rests
 all_rest system log rests_in rests valid legal goes_on rest merges = record {
   named =
@@ -217,7 +217,7 @@ all_rest system log rests_in rests valid legal goes_on rest merges = record {
 }
 
 -- where no process at home in any cluster is owed a backup, none is
-pub none_owed : (system : System) (log : List Entry) → is_system system ≡ true → IsLegalBy BuiltMayFollow system log → is_over system log ≡ false
+pub none_owed : (system : System) (log : List Entry) → is_system system ≡ true → IsLegalBy MayStand system log → is_over system log ≡ false
     → ((k : ℕ) → k < system.clusters → owes_no_backup_at system log (cluster_no k) ≡ true) → owes_no_backup (placement system log) ≡ true
 none_owed system log valid legal goes_on each =
     all_placed (λ q. is_none (next_backup (placement system log) q)) system.clusters (placement system log).placed

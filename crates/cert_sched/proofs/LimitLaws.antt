@@ -34,7 +34,7 @@ use Rattle.cert_sched.specs.Steps.{before_fork_at, after_items, steps_since, rea
 use Rattle.cert_sched.specs.Rules.{is_within_limits, keeps_limits}
 use Rattle.cert_sched.specs.Kinds.{KindHolds}
 use Rattle.cert_sched.specs.Legal.{Stands, IsLegalBy, IsLegal, MayFollow}
-use Rattle.cert_sched.specs.Built.{BuiltMayFollow, KeepsLimits}
+use Rattle.cert_sched.specs.Built.{MayStand, KeepsLimits}
 use Rattle.cert_sched.specs.Simulation.{RecordLeads}
 use Rattle.cert_sched.proofs.LogLaws.{IsLegal-snoc}
 use Rattle.cert_sched.proofs.RecordLaws.{start_of-snoc, since-snoc, saved_letters-start}
@@ -364,7 +364,7 @@ pub legal_limits : IsLimitingRule MayFollow
 legal_limits system log e may = (may.stands, may.limits)
 
 -- and by those of what is built
-pub built_limits : IsLimitingRule BuiltMayFollow
+pub built_limits : IsLimitingRule MayStand
 built_limits system log e may = (may.stands, may.limits)
 
 -- in a legal log each process that has not ended is within the limits of its last cut
@@ -372,8 +372,8 @@ pub all_limited : (system : System) (log : List Entry) → is_system system ≡ 
 all_limited = all_limited_by MayFollow legal_limits
 
 -- and in a log of what is built
-pub built_limited : (system : System) (log : List Entry) → is_system system ≡ true → IsLegalBy BuiltMayFollow system log → AllLimited system log
-built_limited = all_limited_by BuiltMayFollow built_limits
+pub built_limited : (system : System) (log : List Entry) → is_system system ≡ true → IsLegalBy MayStand system log → AllLimited system log
+built_limited = all_limited_by MayStand built_limits
 
 -- ---- its record
 
@@ -418,6 +418,6 @@ pub record_ahead : (system : System) (log : List Entry) (p : Pid) (now : ProcSta
 record_ahead = record_ahead_by MayFollow legal_limits
 
 -- and in a log of what is built
-pub built_record_ahead : (system : System) (log : List Entry) (p : Pid) (now : ProcState) (r : BackRec) → is_system system ≡ true → IsLegalBy BuiltMayFollow system log → process_after system log p ≡ Some now
+pub built_record_ahead : (system : System) (log : List Entry) (p : Pid) (now : ProcState) (r : BackRec) → is_system system ≡ true → IsLegalBy MayStand system log → process_after system log p ≡ Some now
     → has_ended (now.small).status ≡ false → (leads : RecordLeads system log p r now) → backup_record system log p ≡ Some r → Ahead system r leads.there leads.ahead
-built_record_ahead = record_ahead_by BuiltMayFollow built_limits
+built_record_ahead = record_ahead_by MayStand built_limits

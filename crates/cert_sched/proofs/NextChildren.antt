@@ -17,7 +17,7 @@ use Rattle.cert_sched.specs.Schedule.{placement}
 use Rattle.cert_sched.specs.Rules.{is_by_right}
 use Rattle.cert_sched.specs.Kinds.{KindHolds}
 use Rattle.cert_sched.specs.Legal.{IsLegalBy, Stands}
-use Rattle.cert_sched.specs.Built.{BuiltMayFollow}
+use Rattle.cert_sched.specs.Built.{MayStand}
 use Rattle.cert_sched.proofs.PidLaws.{placed_pids}
 use Rattle.cert_sched.proofs.FreshLaws.{BornRightly, Numbered, born_rightly, child_new, numbered, only_one}
 
@@ -44,5 +44,5 @@ absorbed_by system log e _ numbered kind right = tt
 pub stands_next : (system : System) (log : List Entry) (e : Entry) → Numbered (placement system log) → Stands system log e → CanBeAbsorbed (placement system log) (what e)
 stands_next system log e numbered stands = absorbed_by system log e (what e) numbered stands.kind stands.by_right
 
-pub may_be_absorbed : (system : System) (log : List Entry) (e : Entry) → is_system system ≡ true → IsLegalBy BuiltMayFollow system log → Stands system log e → CanBeAbsorbed (placement system log) (what e)
-may_be_absorbed system log e valid legal stands = stands_next system log e (numbered BuiltMayFollow (λ _ _ _ may. may.stands) system log valid legal) stands
+pub may_be_absorbed : (system : System) (log : List Entry) (e : Entry) → is_system system ≡ true → IsLegalBy MayStand system log → Stands system log e → CanBeAbsorbed (placement system log) (what e)
+may_be_absorbed system log e valid legal stands = stands_next system log e (numbered MayStand (λ _ _ _ may. may.stands) system log valid legal) stands

@@ -16,7 +16,7 @@ use Rattle.cert_sched.specs.Parts.{first_of}
 use Rattle.cert_sched.specs.Schedule.{placement, placed_root}
 use Rattle.cert_sched.specs.Rules.{is_by}
 use Rattle.cert_sched.specs.Legal.{IsLegalBy}
-use Rattle.cert_sched.specs.Built.{BuiltMayFollow, is_built}
+use Rattle.cert_sched.specs.Built.{MayStand, is_built}
 use Rattle.cert_sched.proofs.LogLaws.{placement-snoc}
 use Rattle.cert_sched.proofs.Induction.{legal_induction}
 use Rattle.cert_sched.proofs.FreshLaws.{kept_elsewhere, put_here}
@@ -61,12 +61,12 @@ served_at_boot placed (m ∷ numbers) zero = refl
 served_at_boot placed (m ∷ numbers) (suc n) = served_at_boot placed numbers n
 
 -- in a log of the kinds that are built, a cluster that was never lost lives
-pub servers_live : (system : System) (log : List Entry) (k : ClusterNo) → IsLegalBy BuiltMayFollow system log → never_lost (placement system log) k ≡ true → lives_in (placement system log) k ≡ true
+pub servers_live : (system : System) (log : List Entry) (k : ClusterNo) → IsLegalBy MayStand system log → never_lost (placement system log) k ≡ true → lives_in (placement system log) k ≡ true
 unfolding placement
 servers_live system log k legal = lives (slice_get (placement system log).clusters k.0) (all k.0)
   where
     all : Served (placement system log).clusters
-    all = legal_induction BuiltMayFollow system (λ log. Served (placement system log).clusters) (served_at_boot (map placed_root (roots_of system)) _)
+    all = legal_induction MayStand system (λ log. Served (placement system log).clusters) (served_at_boot (map placed_root (roots_of system)) _)
         (λ log e before may. subst (λ (p : Places). Served p.clusters) (sym (placement-snoc system log e)) (served_more (placement system log) (what e) may.built before)) log legal
 
     lives : (o : Option ClusterPlace) → serves o ≡ true → option_map_or (λ (c : ClusterPlace). not c.was_lost) o false ≡ true → option_map_or (λ (c : ClusterPlace). c.lives) o false ≡ true

@@ -14,7 +14,7 @@ use Rattle.cert_sched.specs.Steps.{silent_upto, emission_at, before_fork_at}
 use Rattle.cert_sched.specs.Rules.{is_over, keeps_backups}
 use Rattle.cert_sched.specs.Rests.{IsRestOf, owes_no_backup_at}
 use Rattle.cert_sched.specs.Legal.{MayFollow}
-use Rattle.cert_sched.specs.Built.{BuiltMayFollow}
+use Rattle.cert_sched.specs.Built.{MayStand}
 use Rattle.cert_sched.proofs.Systems.{cluster, two_words, full_system, wait_system}
 use Rattle.cert_sched.proofs.WorkedLogs.{pid, entry, by_cluster, writes, image_page, full_0, full_1, wait_0, wait_1, wait_stands_1}
 
@@ -44,7 +44,7 @@ unfolding placement told
 bare_refused h = let e = h.backup in cc
 
 -- and a log of what is built does
-bare_goes_on : BuiltMayFollow full_system bare_log bare_4
+bare_goes_on : MayStand full_system bare_log bare_4
 unfolding boot one_step steps silently plain_after schedule_of placement told is_over silent_upto emission_at before_fork_at backup_record account_after
 bare_goes_on = record { stands = record { placed = (refl, refl, refl); by_right = refl; applies = refl; kind = refl }; built = refl; limits = refl; new_page = refl; pages = refl }
 
@@ -55,7 +55,7 @@ unfolding placement told
 wait_breaks = refl
 
 -- a log of what is built may end there
-wait_ends : BuiltMayFollow wait_system (wait_0 ∷ []) wait_1
+wait_ends : MayStand wait_system (wait_0 ∷ []) wait_1
 unfolding placement told
 wait_ends = record { stands = wait_stands_1; built = refl; limits = refl; new_page = refl; pages = refl }
 

@@ -14,7 +14,7 @@ use Rattle.bus_msg.specs.declared.entry.Entry.{Entry}
 use Rattle.bus_msg.specs.declared.entry.Post.{Post}
 use Rattle.bus_msg.specs.Places.{same_pid, servers_in}
 use Rattle.bus_msg.specs.PlacedAfter.{what, placed_after}
-use Rattle.cert_sched.specs.Built.{BuiltMayFollow}
+use Rattle.cert_sched.specs.Built.{MayStand}
 use Rattle.cert_sched.specs.Deeds.{is_end_of}
 use Rattle.cert_sched.specs.Losses.{is_by_cluster, is_crash_of, is_page_entry}
 use Rattle.cert_sched.specs.Moved.{waiting_fetches}
@@ -59,12 +59,12 @@ pub record IsFirst (system : System) (number : ClusterNo) (c : ClusterView) : Ty
 -- the cluster follows some log that goes on
 pub record FollowsSome (c : ClusterView) : Type 0 where
   pub log : List Entry
-  pub open_log : IsOpen BuiltMayFollow c.system log
+  pub open_log : IsOpen MayStand c.system log
   pub follows : FollowsBuilt c.system log c
 
 -- every log that the cluster followed it follows still
 abbrev pub GoesOn : ClusterView → ClusterView → Type 0
-GoesOn old new = (log : List Entry) → IsOpen BuiltMayFollow old.system log → FollowsBuilt old.system log old → FollowsBuilt old.system log new
+GoesOn old new = (log : List Entry) → IsOpen MayStand old.system log → FollowsBuilt old.system log old → FollowsBuilt old.system log new
 
 -- the cluster follows the log, and the entry is not its own; or it has sent the entry, and follows it next
 abbrev pub IsReady : List Entry → Entry → ClusterView → Type 0
@@ -75,14 +75,14 @@ IsReady log e c =
 -- the entry is the next one of some log, for which the cluster is ready
 pub record ReadyFor (e : Entry) (c : ClusterView) : Type 0 where
   pub log : List Entry
-  pub open_log : IsOpen BuiltMayFollow c.system log
-  pub open_next : IsOpen BuiltMayFollow c.system (log ++ e ∷ [])
+  pub open_log : IsOpen MayStand c.system log
+  pub open_next : IsOpen MayStand c.system (log ++ e ∷ [])
   pub ready : IsReady log e c
 
 -- after the entry the cluster follows the log with it, whichever log it was
 abbrev pub Absorbs : Entry → ClusterView → ClusterView → Type 0
 Absorbs e old new =
-    (log : List Entry) → IsOpen BuiltMayFollow old.system log → IsOpen BuiltMayFollow old.system (log ++ e ∷ []) → IsReady log e old →
+    (log : List Entry) → IsOpen MayStand old.system log → IsOpen MayStand old.system (log ++ e ∷ []) → IsReady log e old →
     FollowsBuilt old.system (log ++ e ∷ []) new
 
 -- a letter to an end of a process that is here arrives
@@ -136,7 +136,7 @@ rests_of c = rests_in c.here
 
 -- where nothing is to be sent, these are the processes that rest here, in each log that the cluster follows
 abbrev pub RestsIn : ClusterView → List (Pid × ℕ) → Type 0
-RestsIn c rests = c.queue ≡ [] → (log : List Entry) → IsOpen BuiltMayFollow c.system log → FollowsBuilt c.system log c → IsRestOf c.system log c.number rests
+RestsIn c rests = c.queue ≡ [] → (log : List Entry) → IsOpen MayStand c.system log → FollowsBuilt c.system log c → IsRestOf c.system log c.number rests
 
 -- one process made 1 to 64 steps, of which none sent anything that was not withheld, and nothing else changed but children whose forks were made again
 pub record MovedOne (old new : ClusterView) : Type 0 where
@@ -192,11 +192,11 @@ pub record QueuesBirth (old new : ClusterView) : Type 0 where
 
 -- a fetch waits, in each log that the cluster follows
 abbrev pub WaitsForPages : ClusterView → Type 0
-WaitsForPages c = (log : List Entry) → IsOpen BuiltMayFollow c.system log → FollowsBuilt c.system log c → waiting_fetches c.system log ≢ []
+WaitsForPages c = (log : List Entry) → IsOpen MayStand c.system log → FollowsBuilt c.system log c → waiting_fetches c.system log ≢ []
 
 -- none does where it is the first of the page servers that live, in each such log
 abbrev pub OwesNoAnswer : ClusterView → Type 0
-OwesNoAnswer c = (log : List Entry) → IsOpen BuiltMayFollow c.system log → FollowsBuilt c.system log c → first_of (servers_in (placement c.system log)) ≡ Some c.number → waiting_fetches c.system log ≡ []
+OwesNoAnswer c = (log : List Entry) → IsOpen MayStand c.system log → FollowsBuilt c.system log c → first_of (servers_in (placement c.system log)) ≡ Some c.number → waiting_fetches c.system log ≡ []
 
 -- the answer that it owes is queued
 pub record QueuesAnswer (old new : ClusterView) : Type 0 where

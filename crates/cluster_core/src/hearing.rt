@@ -2,7 +2,7 @@
 ghost use Rattle.std.specs.Prelude.{◌≡◌, [], ◌∷◌, ◌++◌, List, false, true};
 ghost use Rattle.sys_text.specs.Valid.{is_system};
 ghost use Rattle.bus_msg.specs.declared.entry.Entry.{Entry};
-ghost use Rattle.cert_sched.specs.Built.{BuiltMayFollow};
+ghost use Rattle.cert_sched.specs.Built.{MayStand};
 ghost use Rattle.cert_sched.specs.Losses.{is_by_cluster};
 ghost use Rattle.cluster_core.specs.Absorbing.{goes_to};
 ghost use Rattle.cluster_core.specs.Follows.{IsOpen};
@@ -31,8 +31,8 @@ ghost use Rattle.cluster_core.specs.View.{ClusterView, Held, head_of, held_at, w
 /// A law and no code: a cluster that follows a log follows it with an entry more that neither goes to it nor comes from it,
 /// and does nothing for that.
 pub fn unheard_entries_are_passed_over()
-    ensures { (c : ClusterView) (log : List Entry) (e : Entry) → is_system c.system ≡ true → IsOpen BuiltMayFollow c.system log
-        → IsOpen BuiltMayFollow c.system (log ++ e ∷ []) → goes_to e.dests c.number ≡ false → is_by_cluster c.number e ≡ false
+    ensures { (c : ClusterView) (log : List Entry) (e : Entry) → is_system c.system ≡ true → IsOpen MayStand c.system log
+        → IsOpen MayStand c.system (log ++ e ∷ []) → goes_to e.dests c.number ≡ false → is_by_cluster c.number e ≡ false
         → FollowsHeard c.system log c → FollowsHeard c.system (log ++ e ∷ []) c }
 {}
 
@@ -51,7 +51,7 @@ pub fn placements_stay_known()
 /// own loss, and follows the log with it.
 pub fn heard_entries_are_followed()
     ensures { (c : ClusterView) (log : List Entry) (e : Entry) (server : Option PagerState) → is_system c.system ≡ true
-        → IsOpen BuiltMayFollow c.system log → IsOpen BuiltMayFollow c.system (log ++ e ∷ []) → goes_to e.dests c.number ≡ true
+        → IsOpen MayStand c.system log → IsOpen MayStand c.system (log ++ e ∷ []) → goes_to e.dests c.number ≡ true
         → is_by_cluster c.number e ≡ false → is_crash_of c.number (what e) ≡ false
         → are_rising (moved_by c.places c.number (what e) (records_after (what e) c.records)) ≡ true
         → Serves (placement c.system log) e c.server server → FollowsHeard c.system log c
@@ -61,13 +61,13 @@ pub fn heard_entries_are_followed()
 /// A law and no code: which child is to synchronise before a process that is here is told by the births that a cluster keeps as by all
 /// those of the log.
 pub fn own_children_come_first()
-    ensures { (c : ClusterView) (log : List Entry) (p : APid) (h : Held) → is_system c.system ≡ true → IsOpen BuiltMayFollow c.system log
+    ensures { (c : ClusterView) (log : List Entry) (p : APid) (h : Held) → is_system c.system ≡ true → IsOpen MayStand c.system log
         → FollowsHeard c.system log c → held_at c p ≡ Some h → first_unsynced c.family p ≡ first_unsynced (unsynced_births c.system log) p }
 {}
 
 /// A law and no code: a cluster whose head was sent, which does not go to it, follows the log with that entry at once.
 pub fn own_unheard_entries_are_followed()
-    ensures { (c : ClusterView) (log : List Entry) (e : Entry) → is_system c.system ≡ true → IsOpen BuiltMayFollow c.system log
-        → IsOpen BuiltMayFollow c.system (log ++ e ∷ []) → goes_to e.dests c.number ≡ false → FollowsHeard c.system log c → c.tried ≡ true
+    ensures { (c : ClusterView) (log : List Entry) (e : Entry) → is_system c.system ≡ true → IsOpen MayStand c.system log
+        → IsOpen MayStand c.system (log ++ e ∷ []) → goes_to e.dests c.number ≡ false → FollowsHeard c.system log c → c.tried ≡ true
         → option_map (entry_of c.system log) (head_of c.queue) ≡ Some e → FollowsHeard c.system (log ++ e ∷ []) (after_sent_heard c c.queue) }
 {}

@@ -11,7 +11,7 @@ use Rattle.bus_msg.specs.declared.entry.By.TheVariants.{Cluster, Bus}
 use Rattle.bus_msg.specs.declared.entry.What.TheVariants.{Done}
 use Rattle.bus_msg.specs.declared.entry.Post.{Post}
 use Rattle.cert_sched.specs.Appended.{entry_of}
-use Rattle.cert_sched.specs.Built.{BuiltMayFollow, UnlostMayFollow}
+use Rattle.cert_sched.specs.Built.{MayStand, UnlostMayFollow}
 use Rattle.cert_sched.specs.Legal.{IsLegalBy}
 use Rattle.cert_sched.specs.Losses.{is_from, least_calls, least_steps, capped, was_lost_in}
 use Rattle.cert_sched.specs.Rests.{IsRestOf}
@@ -63,10 +63,10 @@ follows_all : (b : BusView) (c : ClusterView) → IsAlong b c → c.cursor ≡ l
 follows_all b c along seen = subst (λ log. FollowsBuilt c.system log c) (take_all c.cursor b.log (omega (arith, seen))) (along.beside).follows
 
 -- what holds in each log that it follows holds in that of the bus
-in_its_log : (P : System → List Entry → Type 0) (b : BusView) (c : ClusterView) → IsSound b → IsAlong b c → c.cursor ≡ length b.log → is_over b.system b.log ≡ false → ((log : List Entry) → IsOpen BuiltMayFollow c.system log → FollowsBuilt c.system log c → P c.system log) → P b.system b.log
+in_its_log : (P : System → List Entry → Type 0) (b : BusView) (c : ClusterView) → IsSound b → IsAlong b c → c.cursor ≡ length b.log → is_over b.system b.log ≡ false → ((log : List Entry) → IsOpen MayStand c.system log → FollowsBuilt c.system log c → P c.system log) → P b.system b.log
 in_its_log P b c sound along seen goes holds =
     subst (λ s. P s b.log) along.system
-    (holds b.log (subst (λ s. IsLegalBy BuiltMayFollow s b.log) (sym along.system) sound.legal, ap (λ s. is_over s b.log) along.system ∙ goes) (follows_all b c along seen))
+    (holds b.log (subst (λ s. IsLegalBy MayStand s b.log) (sym along.system) sound.legal, ap (λ s. is_over s b.log) along.system ∙ goes) (follows_all b c along seen))
 
 pub along_awaits : (b : BusView) (c : ClusterView) → IsSound b → IsAlong b c → c.cursor ≡ length b.log → is_over b.system b.log ≡ false → WaitsForPages c → AwaitsPage b
 along_awaits b c sound along seen goes waits = in_its_log (λ system log. waiting_fetches system log ≢ []) b c sound along seen goes waits
@@ -93,7 +93,7 @@ may_be_sent b c post k n along head k_is n_is =
           let follows = follows_all b c along seen in
           let queue = subst (λ q. IsQueueLegal UnlostMayFollow c.system b.log q) (head_first c.queue post head) (follows.queue).legal in
           let may : UnlostMayFollow c.system b.log (entry_of c.system b.log post) = queue.0 in
-          subst (λ s. BuiltMayFollow s b.log (entry_of s b.log post)) along.system (may_unlost c.system b.log (entry_of c.system b.log post) may);
+          subst (λ s. MayStand s b.log (entry_of s b.log post)) along.system (may_unlost c.system b.log (entry_of c.system b.log post) may);
     }))
 
 pub may_be_told : (b : BusView) (c : ClusterView) (m : Mark) (k : ClusterNo) (n : ℕ) → IsSound b → IsAlong b c → IsToldBy c m → k ≡ c.number → n ≡ c.cursor → MayIdle b k n m
@@ -108,7 +108,7 @@ may_be_told b c m k n sound along told k_is n_is =
           let follows = follows_all b c along seen in
           let enough = less (least_steps b.log b.log c.number) c.steps c.tried ((follows.steps).counted (seen_lives b c along seen)) in
           record {
-            rests = subst (λ s. IsRestOf s b.log c.number m.rests) same (told.rests told.empty b.log (subst (λ s. IsLegalBy BuiltMayFollow s b.log) (sym same) sound.legal, ap (λ s. is_over s b.log) same ∙ goes_on) follows);
+            rests = subst (λ s. IsRestOf s b.log c.number m.rests) same (told.rests told.empty b.log (subst (λ s. IsLegalBy MayStand s b.log) (sym same) sound.legal, ap (λ s. is_over s b.log) same ∙ goes_on) follows);
             counted = subst (λ s. capped (least_steps b.log b.log c.number) ≤ s) (sym told.steps) enough;
             passed = ap (λ n. list_all (is_unpassed c.number b.log n) b.script) told.steps ∙ along.passed;
             called = λ serves.
@@ -164,7 +164,7 @@ adds_told old new k n m (Err NoMemory) t = adds_worded k old new (looked_worded 
 
 -- ---- what they answer
 
-module _ (old new : BusView) (c : ClusterView) (k : ClusterNo) (n : ℕ) (along : IsAlong old c) (legal : IsLegalBy BuiltMayFollow new.system new.log) (k_is : k ≡ c.number) (n_is : n ≡ c.cursor) where
+module _ (old new : BusView) (c : ClusterView) (k : ClusterNo) (n : ℕ) (along : IsAlong old c) (legal : IsLegalBy MayStand new.system new.log) (k_is : k ≡ c.number) (n_is : n ≡ c.cursor) where
   abbrev words : BusView
   words = after_words old
 
@@ -180,8 +180,8 @@ module _ (old new : BusView) (c : ClusterView) (k : ClusterNo) (n : ℕ) (along 
   pub is_sent : (post : Post) (at : ℕ) → Transmits old k n post (Ok at) new → OfferIs c.number c.cursor post Sent old new
   is_sent post at t = (goes_on_seen (t.0).0 (t.0).2, all_seen (t.0).2, t.2)
 
-  legal_words : new ≡ words → IsLegalBy BuiltMayFollow words.system words.log
-  legal_words is = subst (λ (b : BusView). IsLegalBy BuiltMayFollow b.system b.log) is legal
+  legal_words : new ≡ words → IsLegalBy MayStand words.system words.log
+  legal_words is = subst (λ (b : BusView). IsLegalBy MayStand b.system b.log) is legal
 
   pub is_behind : (l : ℕ) → Admits words k n (Err (Behind l)) → new ≡ words → GoesOnFor c.number new × (c.cursor < length new.log)
   is_behind l a is =

@@ -23,7 +23,7 @@ use Rattle.cert_sched.specs.Schedule.{placement}
 use Rattle.cert_sched.specs.Losses.{was_lost_in}
 use Rattle.cert_sched.specs.Rules.{ends_run, is_by, is_over}
 use Rattle.cert_sched.specs.Legal.{IsLegalBy}
-use Rattle.cert_sched.specs.Built.{BuiltMayFollow, is_built}
+use Rattle.cert_sched.specs.Built.{MayStand, is_built}
 use Rattle.cert_sched.proofs.BirthClusters.{birth_keeps}
 use Rattle.cert_sched.proofs.FreshLaws.{kept_elsewhere}
 use Rattle.cert_sched.proofs.HomesLaws.{built_clusters-length}
@@ -110,9 +110,9 @@ more_served places (Return k) built goes served = absurd (true≢false (sym buil
 more_served places (Rebackup to fresh recs) built goes served = absurd (true≢false (sym built))
 more_served places _ built goes served = served
 
-log_served : (system : System) (log : List Entry) → is_system system ≡ true → IsLegalBy BuiltMayFollow system log → is_over system log ≡ false → is_served (placement system log) ≡ true
+log_served : (system : System) (log : List Entry) → is_system system ≡ true → IsLegalBy MayStand system log → is_over system log ≡ false → is_served (placement system log) ≡ true
 log_served system log valid legal =
-    legal_induction BuiltMayFollow system (λ log. is_over system log ≡ false → is_served (placement system log) ≡ true)
+    legal_induction MayStand system (λ log. is_over system log ≡ false → is_served (placement system log) ≡ true)
     (λ goes. covered_served (placement system []) (cluster_no 0) (crashless_covered system [] (cluster_no 0) valid (none_legal system) refl))
     (λ log e before may goes.
     ap is_served (placement-snoc system log e) ∙ more_served (placement system log) (what e) may.built (sym (is_over-snoc system log e) ∙ goes) (before ((may.stands).placed).2)) log legal
@@ -128,7 +128,7 @@ there_within places k never = by_cluster (slice_get places.clusters k.0) refl ne
     by_cluster (Some c) at h = slice_get_within places.clusters k.0 c at
 
 -- it is a cluster of the system, and was not lost
-module _ (system : System) (log : List Entry) (k : ClusterNo) (legal : IsLegalBy BuiltMayFollow system log) (first : first_of (servers_in (placement system log)) ≡ Some k) where
+module _ (system : System) (log : List Entry) (k : ClusterNo) (legal : IsLegalBy MayStand system log) (first : first_of (servers_in (placement system log)) ≡ Some k) where
   never : never_lost (placement system log) k ≡ true
   never = first_server (placement system log) k (ap (is_by (Cluster k)) first ∙ eq-eqb k.0 k.0 refl)
 
@@ -158,7 +158,7 @@ served_first places P with_it = by_tests (never_lost places (places.pager).0) (n
     by_tests false false is other one = absurd (true≢false (sym one))
 
 -- where a log goes on there is one
-pub first_there : (system : System) (log : List Entry) → is_system system ≡ true → IsLegalBy BuiltMayFollow system log → is_over system log ≡ false → FirstServer system log
+pub first_there : (system : System) (log : List Entry) → is_system system ≡ true → IsLegalBy MayStand system log → is_over system log ≡ false → FirstServer system log
 first_there system log valid legal goes =
     served_first (placement system log) (FirstServer system log)
     (λ k first. record { number = k.0; first = first; within = first_within system log k legal first; lives = first_lives system log k legal first })

@@ -23,7 +23,7 @@ use Rattle.cert_sched.specs.declared.script.ScriptWord.TheVariants.{CrashAt, Cra
 use Rattle.cert_sched.specs.Schedule.{placement}
 use Rattle.cert_sched.specs.Rules.{is_bus, is_by_right}
 use Rattle.cert_sched.specs.Legal.{IsLegalBy}
-use Rattle.cert_sched.specs.Built.{BuiltMayFollow}
+use Rattle.cert_sched.specs.Built.{MayStand}
 use Rattle.cert_sched.specs.Losses.{is_by_cluster, is_crash_of, is_disk_crash, is_from, is_step_crash, was_lost_in}
 use Rattle.cert_sched.proofs.Induction.{legal_induction}
 use Rattle.cluster_core.specs.View.{ClusterView, next_count}
@@ -87,9 +87,9 @@ loss_by_bus : (places : Places) (by : By) (w : What) → is_by_right places by w
 loss_by_bus places by (Crash k cause) h = ap (λ t. t || false) h
 loss_by_bus places by _ h = or_right (is_bus by) true refl
 
-losses_by_bus : (system : System) (log : List Entry) → IsLegalBy BuiltMayFollow system log → list_all told_by_bus log ≡ true
+losses_by_bus : (system : System) (log : List Entry) → IsLegalBy MayStand system log → list_all told_by_bus log ≡ true
 losses_by_bus system log legal =
-    legal_induction BuiltMayFollow system (λ log. list_all told_by_bus log ≡ true) refl
+    legal_induction MayStand system (λ log. list_all told_by_bus log ≡ true) refl
     (λ log e before may. list_all-append told_by_bus log (e ∷ []) ∙ (λ i. before i && (loss_by_bus (placement system log) (e.post).by (what e) (may.stands).by_right i && true))) log legal
 
 -- so a loss that the cluster did not tell is none of its own
@@ -110,7 +110,7 @@ own_living k (Crash j (Disk n)) none = none
 own_living k _ none = refl
 
 -- what a cluster did not tell, of a legal log from a place on, is no loss of its own
-pub none_own_told : (system : System) (log : List Entry) (n : ℕ) (k : ClusterNo) → IsLegalBy BuiltMayFollow system log → list_any (is_told_by k) (drop n log) ≡ false → list_any (λ (e : Entry). is_own_loss k (what e)) (drop n log) ≡ false
+pub none_own_told : (system : System) (log : List Entry) (n : ℕ) (k : ClusterNo) → IsLegalBy MayStand system log → list_any (is_told_by k) (drop n log) ≡ false → list_any (λ (e : Entry). is_own_loss k (what e)) (drop n log) ≡ false
 none_own_told system log n k legal none =
     any_weaker_of (is_told_by k) (λ (e : Entry). is_own_loss k (what e)) told_by_bus (drop n log) (λ e right told. own_told k (e.post).by (what e) right told) (all_drop told_by_bus n log (losses_by_bus system log legal)) none
 
@@ -119,7 +119,7 @@ none_own_lived : (k : ClusterNo) (xs : List Entry) → was_lost_in xs k ≡ fals
 none_own_lived k xs lives = any_weaker (λ (e : Entry). is_crash_of k (what e)) (λ (e : Entry). is_own_loss k (what e)) xs (λ e none. own_living k (what e) none) lives
 
 -- so a cluster that lived up to a place, and told nothing from there, has told no loss
-pub none_own : (system : System) (log : List Entry) (n : ℕ) (k : ClusterNo) → IsLegalBy BuiltMayFollow system log → was_lost_in (take n log) k ≡ false → list_any (is_told_by k) (drop n log) ≡ false → list_any (λ (e : Entry). is_own_loss k (what e)) log ≡ false
+pub none_own : (system : System) (log : List Entry) (n : ℕ) (k : ClusterNo) → IsLegalBy MayStand system log → was_lost_in (take n log) k ≡ false → list_any (is_told_by k) (drop n log) ≡ false → list_any (λ (e : Entry). is_own_loss k (what e)) log ≡ false
 none_own system log n k legal lives none =
     ap (list_any (λ (e : Entry). is_own_loss k (what e))) (sym (take-append-drop n log)) ∙ list_any-append (λ (e : Entry). is_own_loss k (what e)) (take n log) (drop n log)
     ∙ (λ i. none_own_lived k (take n log) lives i || none_own_told system log n k legal none i)

@@ -23,7 +23,7 @@ use Rattle.cert_sched.specs.Schedule.{placement, places_at_boot}
 use Rattle.cert_sched.specs.Told.{Told, told, told_from}
 use Rattle.cert_sched.specs.Moved.{add_wait, ends_wait, fetched, moved_with_state, waiting_fetches, waiting_in}
 use Rattle.cert_sched.specs.Steps.{page_count}
-use Rattle.cert_sched.specs.Built.{BuiltMayFollow}
+use Rattle.cert_sched.specs.Built.{MayStand}
 use Rattle.cert_sched.specs.Legal.{IsLegalBy}
 use Rattle.cert_sched.proofs.KernelSums.{sum_of}
 use Rattle.log_laws.proofs.records.Standing.{built_stands}
@@ -37,7 +37,7 @@ use Rattle.checkpoint_laws.proofs.remaining.PlacedSums.{of_family, placed_few}
 abbrev pub placed_count : System → ℕ
 placed_count system = sum_of (of_family (λ (s : SmallState). 1)) (boot system)
 
-pub few_placed : (system : System) (log : List Entry) → is_system system ≡ true → IsLegalBy BuiltMayFollow system log → length (placement system log).placed ≤ placed_count system
+pub few_placed : (system : System) (log : List Entry) → is_system system ≡ true → IsLegalBy MayStand system log → length (placement system log).placed ≤ placed_count system
 few_placed system log valid legal = placed_few system log valid (built_stands system log legal)
 
 -- ---- how many pages each has
@@ -82,7 +82,7 @@ each_one : {X : Type 0} (P : X → Type 0) → ((x : X) → P x) → (xs : List 
 each_one P each [] = All-nil P
 each_one P each (x ∷ xs) = All-cons P x xs (each x) (each_one P each xs)
 
-all_within : (system : System) (log : List Entry) → is_system system ≡ true → IsLegalBy BuiltMayFollow system log → unasked system log ≤ placed_count system * boot_sizes system
+all_within : (system : System) (log : List Entry) → is_system system ≡ true → IsLegalBy MayStand system log → unasked system log ≤ placed_count system * boot_sizes system
 all_within system log valid legal =
     let there : List Placed = unended_in (placement system log) in
     let sum : unasked system log ≤ length there * boot_sizes system =
@@ -120,7 +120,7 @@ fetches_within system log = omega (arith, waits_within (told_from [] (places_at_
 abbrev pub most_pages : System → ℕ
 most_pages system = 2 * (placed_count system * boot_sizes system) + 2 ^ 64
 
-pub pages_within : (system : System) (log : List Entry) → is_system system ≡ true → IsLegalBy BuiltMayFollow system log → length log < 2 ^ 64 → left_of_pages system log ≤ most_pages system
+pub pages_within : (system : System) (log : List Entry) → is_system system ≡ true → IsLegalBy MayStand system log → length log < 2 ^ 64 → left_of_pages system log ≤ most_pages system
 pages_within system log valid legal fits = both (unasked system log) (length (waiting_fetches system log)) (length log) (placed_count system * boot_sizes system) (all_within system log valid legal) (fetches_within system log) fits
   where
     both : (asked waits long most : ℕ) → asked ≤ most → waits ≤ long → long < 2 ^ 64 → 2 * asked + waits ≤ 2 * most + 2 ^ 64

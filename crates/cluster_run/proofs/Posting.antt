@@ -8,7 +8,7 @@ use Rattle.bus_msg.specs.declared.entry.Entry.{Entry}
 use Rattle.cert_sched.specs.Appended.{entry_of}
 use Rattle.cert_sched.specs.Rules.{is_over}
 use Rattle.cert_sched.specs.Legal.{IsLegalBy}
-use Rattle.cert_sched.specs.Built.{BuiltMayFollow}
+use Rattle.cert_sched.specs.Built.{MayStand}
 use Rattle.cert_sched.specs.Losses.{was_lost_in}
 use Rattle.cert_sched.specs.Scripted.{is_server}
 use Rattle.cluster_core.specs.declared.worked.Worked.{Worked}
@@ -71,7 +71,7 @@ behind_posting Shows from after t new goes takes =
 pub follows_some : (b : BusView) (c : ClusterView) → IsSound b → IsAlong b c → FollowsSome c
 follows_some b c sound along = record {
   log = take c.cursor b.log;
-  open_log = (subst (λ s. IsLegalBy BuiltMayFollow s (take c.cursor b.log)) (sym along.system) (legal_prefix BuiltMayFollow b.system b.log c.cursor sound.legal), (along.beside).goes_on);
+  open_log = (subst (λ s. IsLegalBy MayStand s (take c.cursor b.log)) (sym along.system) (legal_prefix MayStand b.system b.log c.cursor sound.legal), (along.beside).goes_on);
   follows = (along.beside).follows;
 }
 

@@ -4,7 +4,7 @@ use Rattle.sys_text.specs.declared.system.System.{System}
 use Rattle.bus_msg.specs.declared.entry.Entry.{Entry}
 use Rattle.cert_sched.specs.Rules.{is_over}
 use Rattle.cert_sched.specs.Legal.{IsLegalBy, IsLegalFrom}
-use Rattle.cert_sched.specs.Built.{BuiltMayFollow}
+use Rattle.cert_sched.specs.Built.{MayStand}
 use Rattle.cert_sched.proofs.LogLaws.{IsLegal-last}
 use Rattle.bus_order.proofs.LogParts.{take_one}
 
@@ -36,10 +36,10 @@ unfolding IsLegalBy
 legal_prefix May system log n legal = legal_from May system [] log n legal
 
 -- the log before an entry of it goes on
-pub goes_on_before : (system : System) (log : List Entry) (n : ℕ) (e : Entry) → IsLegalBy BuiltMayFollow system log → slice_get log n ≡ Some e → is_over system (take n log) ≡ false
+pub goes_on_before : (system : System) (log : List Entry) (n : ℕ) (e : Entry) → IsLegalBy MayStand system log → slice_get log n ≡ Some e → is_over system (take n log) ≡ false
 goes_on_before system log n e legal at =
-    let more : IsLegalBy BuiltMayFollow system (take n log ++ e ∷ []) = subst (IsLegalBy BuiltMayFollow system) (take_one log n e at) (legal_prefix BuiltMayFollow system log (suc n) legal) in
-    let may = IsLegal-last BuiltMayFollow system (take n log) e more in
+    let more : IsLegalBy MayStand system (take n log ++ e ∷ []) = subst (IsLegalBy MayStand system) (take_one log n e at) (legal_prefix MayStand system log (suc n) legal) in
+    let may = IsLegal-last MayStand system (take n log) e more in
     ((may.stands).placed).2
 
 -- a front has the same there

@@ -25,7 +25,7 @@ use Rattle.cluster_run.specs.Progress.{Falls, FallsBehind, GetsOn, HasMark, IsAt
 use Rattle.cluster_run.specs.Along.{is_done_with}
 use Rattle.cluster_run.specs.Turns.{HasSpent, TurnsOwn}
 use Rattle.cert_sched.specs.Legal.{IsLegalBy}
-use Rattle.cert_sched.specs.Built.{BuiltMayFollow}
+use Rattle.cert_sched.specs.Built.{MayStand}
 use Rattle.cluster_run.proofs.FirstServer.{first_lives, first_there}
 use Rattle.cert_sched.specs.Moved.{waiting_fetches}
 use Rattle.cert_sched.specs.Parts.{first_of}
@@ -177,7 +177,7 @@ waiting_rests b k waits answered = record {
 }
 
 -- a cluster that was lost rests
-pub lost_rests : (b : BusView) (n : ℕ) → IsLegalBy BuiltMayFollow b.system b.log → IsLost b n → Rests b b n (n + 1)
+pub lost_rests : (b : BusView) (n : ℕ) → IsLegalBy MayStand b.system b.log → IsLost b n → Rests b b n (n + 1)
 lost_rests b n legal lost = record {
   system = refl;
   log = refl;
@@ -199,7 +199,7 @@ lost_rests b n legal lost = record {
     none_or (inr awaiting) = awaiting
 
 -- nor has one that has done with the log
-pub done_given : (b : BusView) (left : Remaining) (n : ℕ) (k : ClusterNo) → IsLegalBy BuiltMayFollow b.system b.log → k.0 ≡ n → is_done_with k b.system b.log ≡ true → GetsOn b b left left n (n + 1)
+pub done_given : (b : BusView) (left : Remaining) (n : ℕ) (k : ClusterNo) → IsLegalBy MayStand b.system b.log → k.0 ≡ n → is_done_with k b.system b.log ≡ true → GetsOn b b left left n (n + 1)
 done_given b left n k legal same done = by_end (is_over b.system b.log) refl
   where
     by_end : (t : Bool) → is_over b.system b.log ≡ t → GetsOn b b left left n (n + 1)
@@ -310,7 +310,7 @@ not_none true (Some m) has = refl
 not_none false (Some m) has = refl
 
 -- where each cluster has its mark or was lost, none is awaited
-none_awaited : (b : BusView) → IsLegalBy BuiltMayFollow b.system b.log → ((n : ℕ) → n < (b.system).clusters → HasMark b n ⊎ IsLost b n) → is_awaited (placement b.system b.log) b.marks ≡ false
+none_awaited : (b : BusView) → IsLegalBy MayStand b.system b.log → ((n : ℕ) → n < (b.system).clusters → HasMark b n ⊎ IsLost b n) → is_awaited (placement b.system b.log) b.marks ≡ false
 none_awaited b legal all = any_none (λ k. lives_in (placement b.system b.log) k && is_none (mark_in b.marks k)) (all_clusters (placement b.system b.log)) (λ n k at. one n k (slice_get (range_with_len 0 (length (placement b.system b.log).clusters)) n) refl (sym (slice_get-map cluster_no (range_with_len 0 (length (placement b.system b.log).clusters)) n) ∙ at))
   where
     marked_or : (i : ℕ) → i < (b.system).clusters → HasMark b i ⊎ IsLost b i → (lives_in (placement b.system b.log) (cluster_no i) && is_none (mark_in b.marks (cluster_no i))) ≡ false
@@ -326,7 +326,7 @@ none_awaited b legal all = any_none (λ k. lives_in (placement b.system b.log) k
         subst (λ k. (lives_in (placement b.system b.log) k && is_none (mark_in b.marks k)) ≡ false) same (marked_or i within (all i within))
 
 -- a round leaves less to do, or the log is over, where one cluster lives
-module _ (b then after : BusView) (left still now : Remaining) (first count : ℕ) (valid : is_system after.system ≡ true) (legal : IsLegalBy BuiltMayFollow after.system after.log) (each : count ≡ (after.system).clusters) (alive : LivesThere after) (over : IsOver then → IsOver after)
+module _ (b then after : BusView) (left still now : Remaining) (first count : ℕ) (valid : is_system after.system ≡ true) (legal : IsLegalBy MayStand after.system after.log) (each : count ≡ (after.system).clusters) (alive : LivesThere after) (over : IsOver then → IsOver after)
     (first_lasts : IsOver then ⊎ IsAtMost left still) (second_lasts : IsOver after ⊎ IsAtMost still now) where
   all_marked : Rests b then first count → Rests then after 0 first → (n : ℕ) → (n < first) ⊎ (first ≤ n) → n < count → HasMark after n ⊎ IsLost after n ⊎ AwaitsPage after
   all_marked one two n (inl earlier) low = two.marked n (omega arith) earlier

@@ -14,7 +14,7 @@ use Rattle.cert_sched.specs.Schedule.{placement}
 use Rattle.cert_sched.specs.Appended.{entry_of}
 use Rattle.cert_sched.specs.Rules.{is_over}
 use Rattle.cert_sched.specs.Legal.{IsLegalBy}
-use Rattle.cert_sched.specs.Built.{BuiltMayFollow, UnlostMayFollow}
+use Rattle.cert_sched.specs.Built.{MayStand, UnlostMayFollow}
 use Rattle.cert_sched.specs.Scripted.{closes}
 use Rattle.cert_sched.specs.Losses.{is_by_cluster, is_crash_of, is_from, was_lost_in}
 use Rattle.cert_sched.proofs.Induction.{is_over-snoc}
@@ -64,8 +64,8 @@ module _ (log : List Entry) (c : ClusterView) (post : Post) (after : BusView) (s
   pub clears : after_sent c c.queue ≡ cleared c
   clears = ap (after_sent c) queue_is ∙ ap (λ (v : ClusterView). record v { queue = tail_of c.queue; tried = false }) (same_after post.what c may.built)
 
-  legal_next : IsLegalBy BuiltMayFollow c.system (log ++ next ∷ [])
-  legal_next = IsLegal-snoc BuiltMayFollow c.system log next s.legal (may_unlost c.system log next may)
+  legal_next : IsLegalBy MayStand c.system (log ++ next ∷ [])
+  legal_next = IsLegal-snoc MayStand c.system log next s.legal (may_unlost c.system log next may)
 
   pub lives_log : was_lost_in log c.number ≡ false
   lives_log = ap (λ l. was_lost_in l c.number) (sym (take_all c.cursor log (omega (arith, s.seen)))) ∙ (s.beside).lives
@@ -99,10 +99,10 @@ module _ (log : List Entry) (c : ClusterView) (post : Post) (after : BusView) (s
   at_cursor : slice_get after.log c.cursor ≡ Some next
   at_cursor = (λ i. slice_get (s.longer i) (s.seen i)) ∙ get_last log next
 
-  open_first : IsOpen BuiltMayFollow c.system log
+  open_first : IsOpen MayStand c.system log
   open_first = (s.legal, s.goes_on)
 
-  open_next : IsOpen BuiltMayFollow c.system (log ++ next ∷ [])
+  open_next : IsOpen MayStand c.system (log ++ next ∷ [])
   open_next = (legal_next, goes_on_next)
 
   stands_between : StandsBetween FollowsBuilt c.system log next (cleared c)
@@ -172,7 +172,7 @@ module _ (log : List Entry) (c : ClusterView) (post : Post) (after : BusView) (s
         }) (absorbs log open_first open_next between)
 
   -- before it takes the entry in, it stands between that and the log before
-  pub before_sent : IsLegalBy BuiltMayFollow after.system after.log → (left : ClusterView) → left ≡ after_sent c c.queue → IsBeforeStep after left
+  pub before_sent : IsLegalBy MayStand after.system after.log → (left : ClusterView) → left ≡ after_sent c c.queue → IsBeforeStep after left
   before_sent legal left left_is = subst (IsBeforeStep after) (sym (left_is ∙ clears)) (record {
     system = s.system;
     has = subst (λ (y : System). (c.number).0 < y.clusters) s.system (s.beside).has;

@@ -22,7 +22,7 @@ use Rattle.bus_msg.specs.PlacedAfter.{what}
 use Rattle.cert_sched.specs.declared.script.ScriptWord.{ScriptWord}
 use Rattle.cert_sched.specs.Appended.{entry_of}
 use Rattle.cert_sched.specs.Legal.{IsLegalBy}
-use Rattle.cert_sched.specs.Built.{BuiltMayFollow}
+use Rattle.cert_sched.specs.Built.{MayStand}
 use Rattle.cert_sched.specs.Losses.{capped, is_by_cluster, is_crash_of, least_calls, least_steps, was_lost_in}
 use Rattle.cluster_core.specs.View.{ClusterView, after_head, after_sent}
 use Rattle.cluster_core.specs.Follows.{FollowsBuilt, StandsBetween}
@@ -118,7 +118,7 @@ stands_longer b after c more system script longer within others (inl (unfailed, 
 stands_longer b after c more system script longer within others (inr failed) = inr (failed_longer b after c more system script longer within others failed)
 
 -- a cluster stands before its next step still when others have added to the log
-pub before_longer : (b after : BusView) (c : ClusterView) (more : List Entry) → IsLegalBy BuiltMayFollow after.system after.log → after.system ≡ b.system → after.script ≡ b.script → after.log ≡ b.log ++ more → list_any (is_told_by c.number) more ≡ false
+pub before_longer : (b after : BusView) (c : ClusterView) (more : List Entry) → IsLegalBy MayStand after.system after.log → after.system ≡ b.system → after.script ≡ b.script → after.log ≡ b.log ++ more → list_any (is_told_by c.number) more ≡ false
     → IsBeforeStep b c → IsBeforeStep after c
 before_longer b after c more legal system script longer others before =
     let long : length after.log ≡ length b.log + length more = ap length longer ∙ length-append b.log more in
@@ -339,7 +339,7 @@ pub gone_inside : (b : BusView) (c : ClusterView) → IsGone b c → end_of_life
 gone_inside b c gone = let before = life_ends b.log c.number gone.lost in let first = first_within (its_loss c.number) b.log gone.lost in omega (arith, before, first)
 
 -- who is gone stays so when others add to the log
-pub gone_longer : (b after : BusView) (c : ClusterView) (more : List Entry) → IsLegalBy BuiltMayFollow after.system after.log → after.system ≡ b.system → after.script ≡ b.script → after.log ≡ b.log ++ more → IsGone b c → IsGone after c
+pub gone_longer : (b after : BusView) (c : ClusterView) (more : List Entry) → IsLegalBy MayStand after.system after.log → after.system ≡ b.system → after.script ≡ b.script → after.log ≡ b.log ++ more → IsGone b c → IsGone after c
 gone_longer b after c more legal system script longer gone =
     let left = gone.left in
     let lost : was_lost_in after.log c.number ≡ true = ap (λ l. was_lost_in l c.number) longer ∙ list_any-append (its_loss c.number) b.log more ∙ ap (λ t. t || was_lost_in more c.number) gone.lost in

@@ -11,7 +11,7 @@ use Rattle.bus_msg.specs.declared.entry.What.TheVariants.{Done, Stop}
 use Rattle.bus_msg.specs.declared.entry.Entry.{Entry}
 use Rattle.bus_msg.specs.PlacedAfter.{what}
 use Rattle.cert_sched.specs.Legal.{IsLegalBy}
-use Rattle.cert_sched.specs.Built.{BuiltMayFollow}
+use Rattle.cert_sched.specs.Built.{MayStand}
 use Rattle.cert_sched.specs.Losses.{is_crash_of, was_lost_in}
 use Rattle.cert_sched.specs.Scripted.{closes, is_closed}
 use Rattle.bus_order.specs.Log.{open_length}
@@ -120,7 +120,7 @@ upto_loss k log at loss = upto_first k log at loss.entry loss.there loss.loses l
 
 -- ---- what the bus says
 
-module _ (system : System) (k : ClusterNo) (log : List Entry) (legal : IsLegalBy BuiltMayFollow system log) where
+module _ (system : System) (k : ClusterNo) (log : List Entry) (legal : IsLegalBy MayStand system log) where
   pub upto_off : (at : ℕ) → off_at log k ≡ Some at → upto k log ≡ at
   upto_off at is = upto_loss k log at (off_is_its_loss system log k at legal is)
 

@@ -37,7 +37,7 @@ use Rattle.cert_sched.specs.Steps.{before_fork_at, emission_at, silent_upto}
 use Rattle.cert_sched.specs.Appended.{entry_of}
 use Rattle.cert_sched.specs.Rests.{home_pids}
 use Rattle.cert_sched.specs.Rules.{is_over}
-use Rattle.cert_sched.specs.Built.{BuiltMayFollow, UnlostMayFollow, is_unlost}
+use Rattle.cert_sched.specs.Built.{MayStand, UnlostMayFollow, is_unlost}
 use Rattle.cert_sched.specs.Legal.{IsLegalBy}
 use Rattle.cert_sched.specs.Losses.{was_lost_in}
 use Rattle.cert_sched.proofs.KernelSums.{one_of_sum}
@@ -306,7 +306,7 @@ rising_long : (xs : List ℕ) → length (rising xs) ≡ length xs
 rising_long [] = refl
 rising_long (x ∷ xs) = omega (arith, put_long x (rising xs), rising_long xs)
 
-few_here : (system : System) (log : List Entry) (c : ClusterView) → is_system system ≡ true → IsLegalBy BuiltMayFollow system log → rising (pids_in c.here) ≡ rising (home_pids system log c.number) → length c.here ≤ placed_count system
+few_here : (system : System) (log : List Entry) (c : ClusterView) → is_system system ≡ true → IsLegalBy MayStand system log → rising (pids_in c.here) ≡ rising (home_pids system log c.number) → length c.here ≤ placed_count system
 few_here system log c valid legal same =
     let here : length c.here ≡ length (home_pids system log c.number) = sym (length-map c.here (λ (e : Pid × Held). (e.0).0)) ∙ sym (rising_long (pids_in c.here)) ∙ ap length same ∙ rising_long (home_pids system log c.number) in
     let home : length (home_pids system log c.number) ≡ count_by (is_at_home c.number) (placement system log).placed =
@@ -317,7 +317,7 @@ few_here system log c valid legal same =
 abbrev pub most_load : System → ℕ
 most_load system = placed_count system * most_held system
 
-load_within : (system : System) (log : List Entry) (c : ClusterView) → is_system system ≡ true → IsLegalBy BuiltMayFollow system log → FollowsBuilt system log c → NoTwo (pids_in c.here) → load c ≤ most_load system
+load_within : (system : System) (log : List Entry) (c : ClusterView) → is_system system ≡ true → IsLegalBy MayStand system log → FollowsBuilt system log c → NoTwo (pids_in c.here) → load c ≤ most_load system
 load_within system log c valid legal follows two =
     let each : All (λ (e : Pid × Held). held_load e.1 ≤ most_held system) c.here =
     each_held (λ h. held_load h ≤ most_held system) c.here two (λ p h at. held_within system log c.queue p h (follows.queue).legal (queued_rightly system log c p follows.queued) ((follows.processes).held p h at)) in
@@ -342,9 +342,9 @@ failed_within b c disk = let none : load c ≡ 0 = ap (sum_by (λ (e : Pid × He
 
 -- one that is gone follows what it had taken in, or did before it sent its last post
 module _ (b : BusView) (c : ClusterView) (sound : IsSound b) (gone : IsGone b c) where
-  open_there : IsOpen BuiltMayFollow b.system (take c.cursor b.log)
+  open_there : IsOpen MayStand b.system (take c.cursor b.log)
   open_there = (
-    legal_prefix BuiltMayFollow b.system b.log c.cursor sound.legal,
+    legal_prefix MayStand b.system b.log c.cursor sound.legal,
     elim (slice_get_cases b.log c.cursor).1 [
       | inl there ↦ goes_on_before b.system b.log c.cursor there.0 sound.legal there.2
       | inr past ↦ absurd (let low = (gone.left).within in let inside = gone_inside b c gone in omega (arith, low, inside, past.0))
@@ -354,7 +354,7 @@ module _ (b : BusView) (c : ClusterView) (sound : IsSound b) (gone : IsGone b c)
   follows_then : (v : ClusterView) → v.system ≡ b.system → FollowsBuilt b.system (take c.cursor b.log) v → load v ≤ most_load b.system
   follows_then v system follows = some_within b v sound system (record {
     log = take c.cursor b.log;
-    open_log = subst (λ s. IsOpen BuiltMayFollow s (take c.cursor b.log)) (sym system) open_there;
+    open_log = subst (λ s. IsOpen MayStand s (take c.cursor b.log)) (sym system) open_there;
     follows = subst (λ s. FollowsBuilt s (take c.cursor b.log) v) (sym system) follows;
   })
 
@@ -412,7 +412,7 @@ steps_within system log = by_kernel (plain_after system log) refl
 abbrev pub most_posts : System → ℕ
 most_posts system = 3 * boot_load system + most_pages system + most_syncs system
 
-pub posts_within : (system : System) (log : List Entry) → is_system system ≡ true → IsLegalBy BuiltMayFollow system log → length log < 2 ^ 64 → left_to_send system log ≤ most_posts system
+pub posts_within : (system : System) (log : List Entry) → is_system system ≡ true → IsLegalBy MayStand system log → length log < 2 ^ 64 → left_to_send system log ≤ most_posts system
 posts_within system log valid legal fits =
     all_parts (log_load system log) (boot_load system) (left_of_pages system log) (most_pages system) (left_of_syncs system log) (most_syncs system) (steps_within system log) (pages_within system log valid legal fits)
     (syncs_within system log valid (built_stands system log legal))

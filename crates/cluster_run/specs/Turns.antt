@@ -8,7 +8,7 @@ use Rattle.cert_sched.specs.Losses.{was_lost_in}
 use Rattle.cert_sched.specs.Rules.{is_over}
 use Rattle.cert_sched.specs.Appended.{entry_of}
 use Rattle.cert_sched.specs.Legal.{IsLegalBy}
-use Rattle.cert_sched.specs.Built.{BuiltMayFollow}
+use Rattle.cert_sched.specs.Built.{MayStand}
 use Rattle.checkpoint_laws.specs.remaining.Left.{left_to_send}
 use Rattle.cluster_core.specs.View.{ClusterView, head_of}
 use Rattle.bus_order.specs.Script.{is_unpassed}
@@ -114,7 +114,7 @@ pub record IsSent (log : List Entry) (c : ClusterView) (post : Post) (after : Bu
   pub goes_on : is_over c.system log ≡ false
   pub head : head_of c.queue ≡ Some post
   pub tried : c.tried ≡ true
-  pub legal : IsLegalBy BuiltMayFollow c.system log
+  pub legal : IsLegalBy MayStand c.system log
   pub system : c.system ≡ after.system
   pub longer : after.log ≡ log ++ entry_of c.system log post ∷ []
 

@@ -23,7 +23,7 @@ use Rattle.bus_msg.specs.declared.entry.Entry.{Entry}
 use Rattle.cert_sched.specs.Schedule.{plain_after, schedule_of}
 use Rattle.cert_sched.specs.Scripted.{is_finished}
 use Rattle.cert_sched.specs.Legal.{IsLegalBy}
-use Rattle.cert_sched.specs.Built.{BuiltMayFollow}
+use Rattle.cert_sched.specs.Built.{MayStand}
 use Rattle.cert_sched.proofs.Applied.{finished_kernel_still, legal_runs}
 use Rattle.cert_sched.proofs.LogLaws.{plain_run-schedule_of}
 use Rattle.cert_sched.proofs.StepLaws.{plain_after-rising}
@@ -60,7 +60,7 @@ pub still_report : (k : Kernel) → IsRising k → is_still k ≡ true → plain
 still_report k rising still = ap (λ lines. ttys_report k (range_with_len 0 16) ++ lines) (lines_are k k.processes (λ q s found. found) rising (none_acts (list_any can_act k.processes) still))
 
 -- what a log that came to its end tells is printed as the kernel after its schedule is
-pub finished_report : (system : System) (log : List Entry) → is_system system ≡ true → IsLegalBy BuiltMayFollow system log → is_finished log ≡ true
+pub finished_report : (system : System) (log : List Entry) → is_system system ≡ true → IsLegalBy MayStand system log → is_finished log ≡ true
     → (kernel : Kernel) × (plain_run system (schedule_of system log) ≡ Some kernel) × (plain_report kernel ≡ outcome_report (outcome_of system log))
 finished_report system log valid legal finished =
     let runs = legal_runs system log legal in
@@ -68,5 +68,5 @@ finished_report system log valid legal finished =
       runs.0,
       runs.1,
       still_report runs.0 (plain_after-rising system log runs.0 after) (finished_kernel_still system log runs.0 legal finished runs.1)
-          ∙ ap outcome_report (outcome-is BuiltMayFollow (λ system log e may. may.stands) system log valid legal runs.0 after),
+          ∙ ap outcome_report (outcome-is MayStand (λ system log e may. may.stands) system log valid legal runs.0 after),
     )

@@ -12,7 +12,7 @@ use Rattle.cert_sched.specs.Told.{Told, told, cluster_lost}
 use Rattle.cert_sched.specs.Legal.{IsLegalBy, MayFollow}
 use Rattle.cert_sched.specs.Counted.{counted}
 use Rattle.cert_sched.specs.Scripted.{IsScriptedBy, has_counted, is_finished}
-use Rattle.cert_sched.specs.Built.{BuiltMayFollow}
+use Rattle.cert_sched.specs.Built.{MayStand}
 use Rattle.report_text.specs.declared.run.Run.{Run}
 use Rattle.report_text.specs.declared.run.Ended.{Ended}
 use Rattle.report_text.specs.declared.run.Ended.TheVariants.{Finished, Lost}
@@ -42,4 +42,4 @@ IsGood system script r = IsGoodBy MayFollow has_counted system script r
 
 -- the same of the entries that are built so far
 abbrev pub IsGoodBuilt : System → List ScriptWord → Run → Type 0
-IsGoodBuilt system script r = IsGoodBy BuiltMayFollow has_counted system script r
+IsGoodBuilt system script r = IsGoodBy MayStand has_counted system script r

@@ -24,7 +24,7 @@ use Rattle.cert_sched.specs.Schedule.{placement, places_at_boot, placed_root}
 use Rattle.cert_sched.specs.Rules.{is_over, ends_run}
 use Rattle.cert_sched.specs.Scripted.{closes, is_closed}
 use Rattle.cert_sched.specs.Legal.{IsLegalBy}
-use Rattle.cert_sched.specs.Built.{BuiltMayFollow, UnlostMayFollow, is_built, is_unlost, is_built_word}
+use Rattle.cert_sched.specs.Built.{MayStand, UnlostMayFollow, is_built, is_unlost, is_built_word}
 use Rattle.cert_sched.proofs.ListLaws.{list_all-weaker}
 use Rattle.cert_sched.proofs.LogLaws.{placement-snoc, IsLegal-snoc}
 use Rattle.cert_sched.proofs.Induction.{legal_induction, is_over-snoc}
@@ -54,9 +54,9 @@ uncounted true h = absurd (omega (arith, h))
 uncounted false h = refl
 
 -- it is one of the kinds without a loss
-pub crashless_unlost : (system : System) (log : List Entry) → IsLegalBy BuiltMayFollow system log → crashes log ≤ 0 → IsLegalBy UnlostMayFollow system log
+pub crashless_unlost : (system : System) (log : List Entry) → IsLegalBy MayStand system log → crashes log ≤ 0 → IsLegalBy UnlostMayFollow system log
 crashless_unlost system log legal =
-    legal_induction BuiltMayFollow system (λ log. crashes log ≤ 0 → IsLegalBy UnlostMayFollow system log) (λ none. none_unlost system)
+    legal_induction MayStand system (λ log. crashes log ≤ 0 → IsLegalBy UnlostMayFollow system log) (λ none. none_unlost system)
     (λ log e before may none.
     let more = count-snoc (λ (e : Entry). is_loss (what e)) log e in
     IsLegal-snoc UnlostMayFollow system log e (before (omega (arith, none, more))) (record {
@@ -192,16 +192,16 @@ unlost_covered system log k valid legal =
     (ap (λ pager. list_any (λ s. not (same_cluster s k)) (filter (never_lost (placement system log)) (pager.0 ∷ pager.1 ∷ []))) (unlost_pager system log legal)
     ∙ one_left (system.pager).0 (system.pager).1 k (never_lost (placement system log)) (server (system.pager).0 bounds.first) (server (system.pager).1 bounds.second) bounds.apart)
 
-pub crashless_covered : (system : System) (log : List Entry) (k : ClusterNo) → is_system system ≡ true → IsLegalBy BuiltMayFollow system log → crashes log ≡ 0 → is_covered (placement system log) k ≡ true
+pub crashless_covered : (system : System) (log : List Entry) (k : ClusterNo) → is_system system ≡ true → IsLegalBy MayStand system log → crashes log ≡ 0 → is_covered (placement system log) k ≡ true
 crashless_covered system log k valid legal none = unlost_covered system log k valid (crashless_unlost system log legal (omega (arith, none)))
 
 -- ---- one loss at most
 
 record Ends (system : System) (log : List Entry) : Type 0 where
-  pub legal : IsLegalBy BuiltMayFollow system log
+  pub legal : IsLegalBy MayStand system log
   pub closed : crashes log ≤ 1 → is_over system log ≡ true → is_closed log ≡ true
 
-ends_closed : (system : System) (log : List Entry) (w : What) → is_system system ≡ true → IsLegalBy BuiltMayFollow system log → crashes log + cond (is_loss w) 1 0 ≤ 1 → ends_run (placement system log) w ≡ true → closes w ≡ true
+ends_closed : (system : System) (log : List Entry) (w : What) → is_system system ≡ true → IsLegalBy MayStand system log → crashes log + cond (is_loss w) 1 0 ≤ 1 → ends_run (placement system log) w ≡ true → closes w ≡ true
 ends_closed system log (Crash k cause) valid legal few h =
     let covered = unlost_covered system log k valid (crashless_unlost system log legal (omega (arith, few))) in
     absurd (true≢false (sym h ∙ ap not covered))
@@ -210,18 +210,18 @@ ends_closed system log Stop valid legal few h = refl
 ends_closed system log _ valid legal few h = h
 
 -- such a log ends only by Done or Stop
-pub few_losses_close : (system : System) (log : List Entry) → is_system system ≡ true → IsLegalBy BuiltMayFollow system log → crashes log ≤ 1 → is_over system log ≡ true → is_closed log ≡ true
+pub few_losses_close : (system : System) (log : List Entry) → is_system system ≡ true → IsLegalBy MayStand system log → crashes log ≤ 1 → is_over system log ≡ true → is_closed log ≡ true
 few_losses_close system log valid legal =
-    (legal_induction BuiltMayFollow system (Ends system) (record { legal = none_legal system; closed = λ few over. absurd (true≢false (sym over ∙ none_over system)) })
+    (legal_induction MayStand system (Ends system) (record { legal = none_legal system; closed = λ few over. absurd (true≢false (sym over ∙ none_over system)) })
     (λ log e before may. record {
-      legal = IsLegal-snoc BuiltMayFollow system log e before.legal may;
+      legal = IsLegal-snoc MayStand system log e before.legal may;
       closed = λ few over.
           let more = count-snoc (λ (e : Entry). is_loss (what e)) log e in
           closed-snoc log e ∙ ends_closed system log (what e) valid before.legal (omega (arith, few, more)) (sym (is_over-snoc system log e) ∙ over);
     }) log legal).closed
 
 -- a script of one word ends no run
-pub one_word_closes : (b : BusView) → is_system b.system ≡ true → IsLegalBy BuiltMayFollow b.system b.log → KeepsScript b → list_all is_built_word b.script ≡ true → length b.script ≤ 1 → is_over b.system b.log ≡ true → is_closed b.log ≡ true
+pub one_word_closes : (b : BusView) → is_system b.system ≡ true → IsLegalBy MayStand b.system b.log → KeepsScript b → list_all is_built_word b.script ≡ true → length b.script ≤ 1 → is_over b.system b.log ≡ true → is_closed b.log ≡ true
 one_word_closes b valid legal keeps built few over =
     let within = crashes_within b keeps legal built in
     few_losses_close b.system b.log valid legal (omega (arith, within, few)) over

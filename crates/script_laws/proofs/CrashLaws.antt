@@ -13,7 +13,7 @@ use Rattle.bus_msg.specs.PlacedAfter.{what}
 use Rattle.cert_sched.specs.declared.script.ScriptWord.{ScriptWord}
 use Rattle.cert_sched.specs.declared.script.ScriptWord.TheVariants.{CrashAt, CrashStep, DiskAt, ReturnAt}
 use Rattle.cert_sched.specs.Legal.{IsLegalBy}
-use Rattle.cert_sched.specs.Built.{BuiltMayFollow, is_built_word}
+use Rattle.cert_sched.specs.Built.{MayStand, is_built_word}
 use Rattle.cert_sched.specs.Looked.{Looked, at_start, gives_nothing, gives, goes_on, none_reached, is_bus_word, is_given, is_reached, waits_for_no_word, waits_for_words}
 use Rattle.bus_order.specs.View.{BusView, KeepsScript}
 use Rattle.bus_order.proofs.WordsLaws.{length-without}
@@ -114,7 +114,7 @@ keys_within b keeps =
     omega (arith, all, long)
 
 -- no more losses than words
-pub crashes_within : (b : BusView) → KeepsScript b → IsLegalBy BuiltMayFollow b.system b.log → list_all is_built_word b.script ≡ true → crashes b.log ≤ length b.script
+pub crashes_within : (b : BusView) → KeepsScript b → IsLegalBy MayStand b.system b.log → list_all is_built_word b.script ≡ true → crashes b.log ≤ length b.script
 crashes_within b keeps legal built =
     let each = crash_parts b.log in
     let places = looked_within b.system b.script b.log (filter is_bus_word b.left) keeps.looked in
@@ -123,7 +123,7 @@ crashes_within b keeps legal built =
     omega (arith, each, places, keys, all)
 
 -- nor with those that are left
-pub crashes_and_left : (b : BusView) → KeepsScript b → IsLegalBy BuiltMayFollow b.system b.log → list_all is_built_word b.script ≡ true → list_all is_built_word b.left ≡ true → crashes b.log + length b.left ≤ length b.script
+pub crashes_and_left : (b : BusView) → KeepsScript b → IsLegalBy MayStand b.system b.log → list_all is_built_word b.script ≡ true → list_all is_built_word b.left ≡ true → crashes b.log + length b.left ≤ length b.script
 crashes_and_left b keeps legal built left =
     let each = crash_parts b.log in
     let places = looked_within b.system b.script b.log (filter is_bus_word b.left) keeps.looked in

@@ -15,7 +15,7 @@ use Rattle.cert_sched.specs.declared.script.ScriptWord.TheVariants.{CrashAt, Cra
 use Rattle.cert_sched.specs.Schedule.{placement}
 use Rattle.cert_sched.specs.Rules.{is_over}
 use Rattle.cert_sched.specs.Legal.{IsLegalBy}
-use Rattle.cert_sched.specs.Built.{BuiltMayFollow, is_built_word}
+use Rattle.cert_sched.specs.Built.{MayStand, is_built_word}
 use Rattle.cert_sched.specs.Looked.{first_reached, given_by, is_reached, without_reached}
 use Rattle.cert_sched.specs.Simulation.{crash_entry}
 use Rattle.cert_sched.proofs.ListLaws.{list_all-weaker}
@@ -206,7 +206,7 @@ none_is_reached n b none = settled_stays n b (by_end (is_over b.system b.log) re
 -- ---- what stays
 
 record Stays (b : BusView) : Type 0 where
-  pub legal : IsLegalBy BuiltMayFollow b.system b.log
+  pub legal : IsLegalBy MayStand b.system b.log
   pub words : list_all is_built_word b.left ≡ true
   pub scripted : KeepsScript b
 
@@ -222,7 +222,7 @@ stays_once b stays =
     let may = given_loses b (CrashAt j place) j stays.scripted stays.words goes_on first given in
     let more : IsMore b (crash_entry b.system b.log j Place) (without_reached b.log b.left) = loss_more b j Place (without_reached b.log b.left) stays.legal may in
     record {
-      legal = IsLegal-snoc BuiltMayFollow b.system b.log (crash_entry b.system b.log j Place) stays.legal more.may;
+      legal = IsLegal-snoc MayStand b.system b.log (crash_entry b.system b.log j Place) stays.legal more.may;
       words = more.words;
       scripted = scripted_more b (crash_entry b.system b.log j Place) (without_reached b.log b.left) (no_marks b.marks) stays.scripted more;
     })
@@ -231,12 +231,12 @@ all_stays : (n : ℕ) (b : BusView) → Stays b → Stays (looks n b)
 all_stays zero b stays = stays
 all_stays (suc n) b stays = all_stays n (look_once b) (stays_once b stays)
 
-pub looks_legal : (n : ℕ) (b : BusView) → IsLegalBy BuiltMayFollow b.system b.log → list_all is_built_word b.left ≡ true → KeepsScript b → IsLegalBy BuiltMayFollow (looks n b).system (looks n b).log
+pub looks_legal : (n : ℕ) (b : BusView) → IsLegalBy MayStand b.system b.log → list_all is_built_word b.left ≡ true → KeepsScript b → IsLegalBy MayStand (looks n b).system (looks n b).log
 looks_legal n b legal built keeps = (all_stays n b (record { legal = legal; words = built; scripted = keeps })).legal
 
 pub looks_built : (n : ℕ) (b : BusView) → list_all is_built_word b.left ≡ true → list_all is_built_word (looks n b).left ≡ true
 looks_built zero b built = built
 looks_built (suc n) b built = looks_built n (look_once b) (built_once b built)
 
-pub looks_scripted : (n : ℕ) (b : BusView) → IsLegalBy BuiltMayFollow b.system b.log → list_all is_built_word b.left ≡ true → KeepsScript b → KeepsScript (looks n b)
+pub looks_scripted : (n : ℕ) (b : BusView) → IsLegalBy MayStand b.system b.log → list_all is_built_word b.left ≡ true → KeepsScript b → KeepsScript (looks n b)
 looks_scripted n b legal built keeps = (all_stays n b (record { legal = legal; words = built; scripted = keeps })).scripted

@@ -20,7 +20,7 @@ use Rattle.cert_sched.specs.Rules.{is_by_right}
 use Rattle.cert_sched.specs.Kinds.{KindHolds}
 use Rattle.cert_sched.specs.Losses.{is_by_cluster, is_crash_of, is_from, was_lost_in}
 use Rattle.cert_sched.specs.Legal.{IsLegalBy}
-use Rattle.cert_sched.specs.Built.{BuiltMayFollow, is_built}
+use Rattle.cert_sched.specs.Built.{MayStand, is_built}
 use Rattle.cert_sched.proofs.LogLaws.{IsLegal-snoc}
 use Rattle.cert_sched.proofs.Induction.{legal_induction}
 use Rattle.cert_sched.proofs.ServerLaws.{first_server, servers_live}
@@ -77,9 +77,9 @@ off_after log e k built =
 
 -- ---- off exactly where it was lost
 
-pub lost_off : (system : System) (log : List Entry) (k : ClusterNo) → IsLegalBy BuiltMayFollow system log → was_lost_in log k ≡ is_some (off_at log k)
+pub lost_off : (system : System) (log : List Entry) (k : ClusterNo) → IsLegalBy MayStand system log → was_lost_in log k ≡ is_some (off_at log k)
 lost_off system log k legal =
-    legal_induction BuiltMayFollow system (λ log. was_lost_in log k ≡ is_some (off_at log k)) refl
+    legal_induction MayStand system (λ log. was_lost_in log k ≡ is_some (off_at log k)) refl
     (λ log e before may.
     lost-snoc log e k ∙ ap (λ b. b || is_crash_of k (what e)) before
     ∙ by_test e.place (off_at log k) (is_crash_of k (what e))
@@ -91,11 +91,11 @@ lost_off system log k legal =
     by_test place None true = refl
     by_test place None false = refl
 
-pub not_off_not_lost : (system : System) (log : List Entry) (k : ClusterNo) → IsLegalBy BuiltMayFollow system log → off_at log k ≡ None → was_lost_in log k ≡ false
+pub not_off_not_lost : (system : System) (log : List Entry) (k : ClusterNo) → IsLegalBy MayStand system log → off_at log k ≡ None → was_lost_in log k ≡ false
 not_off_not_lost system log k legal none = lost_off system log k legal ∙ ap is_some none
 
 -- a cluster of the system lives exactly where it was not lost
-pub lives_unless_lost : (system : System) (log : List Entry) (k : ClusterNo) → IsLegalBy BuiltMayFollow system log → k.0 < system.clusters → lives_in (placement system log) k ≡ not (was_lost_in log k)
+pub lives_unless_lost : (system : System) (log : List Entry) (k : ClusterNo) → IsLegalBy MayStand system log → k.0 < system.clusters → lives_in (placement system log) k ≡ not (was_lost_in log k)
 lives_unless_lost system log k legal within = by_off (off_at log k) refl
   where
     no_some : (n : ℕ) → ◌≡◌ {A = Option ℕ} (Some n) None → ⊥
@@ -117,7 +117,7 @@ lost_lived system log e k (Crash j cause) kind h = subst (λ c. lives_in (placem
 lost_lived system log e k _ kind h = absurd (true≢false (sym h))
 
 record Losses (system : System) (k : ClusterNo) (at : ℕ) (log : List Entry) : Type 0 where
-  pub legal : IsLegalBy BuiltMayFollow system log
+  pub legal : IsLegalBy MayStand system log
   pub loss : off_at log k ≡ Some at → IsItsLoss log k at
 
 -- the loss that stands last
@@ -149,18 +149,18 @@ loss_earlier log e k at other loss =
     }
 
 -- where a cluster is off it was lost there, and nowhere else
-pub off_is_its_loss : (system : System) (log : List Entry) (k : ClusterNo) (at : ℕ) → IsLegalBy BuiltMayFollow system log → off_at log k ≡ Some at → IsItsLoss log k at
+pub off_is_its_loss : (system : System) (log : List Entry) (k : ClusterNo) (at : ℕ) → IsLegalBy MayStand system log → off_at log k ≡ Some at → IsItsLoss log k at
 off_is_its_loss system log k at legal =
-    (legal_induction BuiltMayFollow system (Losses system k at) (record { legal = none_legal system; loss = λ is. absurd (nothing is) })
+    (legal_induction MayStand system (Losses system k at) (record { legal = none_legal system; loss = λ is. absurd (nothing is) })
     (λ log e before may. record {
-      legal = IsLegal-snoc BuiltMayFollow system log e before.legal may;
+      legal = IsLegal-snoc MayStand system log e before.legal may;
       loss = λ is. by_test log e before may (is_crash_of k (what e)) refl (sym (off_after log e k may.built) ∙ is);
     }) log legal).loss
   where
     nothing : ◌≡◌ {A = Option ℕ} None (Some at) → ⊥
     nothing h = cc
 
-    by_test : (log : List Entry) (e : Entry) → Losses system k at log → BuiltMayFollow system log e → (b : Bool) → is_crash_of k (what e) ≡ b → cond (is_crash_of k (what e)) (Some e.place) (off_at log k) ≡ Some at → IsItsLoss (log ++ e ∷ []) k at
+    by_test : (log : List Entry) (e : Entry) → Losses system k at log → MayStand system log e → (b : Bool) → is_crash_of k (what e) ≡ b → cond (is_crash_of k (what e)) (Some e.place) (off_at log k) ≡ Some at → IsItsLoss (log ++ e ∷ []) k at
     by_test log e before may true loses is =
         let placed : length log ≡ at = sym ((may.stands).placed).0 ∙ ap (λ (o : Option ℕ). unwrap_or o at) (sym (ap (λ b. cond b (Some e.place) (off_at log k)) loses) ∙ is) in
         let lived = lost_lived system log e k (what e) (may.stands).kind loses in
@@ -186,7 +186,7 @@ sender_lives places serve (Cluster j) k w built right from = subst (λ c. lives_
 sender_lives places serve Bus k w built right from = absurd (true≢false (sym from))
 
 -- so one that was lost sends no further entry
-lost_sends_not : (system : System) (log : List Entry) (e : Entry) (k : ClusterNo) → IsLegalBy BuiltMayFollow system log → BuiltMayFollow system log e → was_lost_in log k ≡ true → is_by_cluster k e ≡ false
+lost_sends_not : (system : System) (log : List Entry) (e : Entry) (k : ClusterNo) → IsLegalBy MayStand system log → MayStand system log e → was_lost_in log k ≡ true → is_by_cluster k e ≡ false
 lost_sends_not system log e k legal may lost = by_test (is_by_cluster k e) refl
   where
     by_test : (b : Bool) → is_by_cluster k e ≡ b → is_by_cluster k e ≡ false
@@ -201,15 +201,15 @@ taken_lost log n k lost =
     ∙ ap (λ b. b || was_lost_in (drop n log) k) lost
 
 record Silent (system : System) (k : ClusterNo) (n : ℕ) (log : List Entry) : Type 0 where
-  pub legal : IsLegalBy BuiltMayFollow system log
+  pub legal : IsLegalBy MayStand system log
   pub silent : was_lost_in (take n log) k ≡ true → list_any (is_by_cluster k) (drop n log) ≡ false
 
 -- no entry of a cluster stands after its loss
-pub silent_once_lost : (system : System) (log : List Entry) (k : ClusterNo) (n : ℕ) → IsLegalBy BuiltMayFollow system log → was_lost_in (take n log) k ≡ true → list_any (is_by_cluster k) (drop n log) ≡ false
+pub silent_once_lost : (system : System) (log : List Entry) (k : ClusterNo) (n : ℕ) → IsLegalBy MayStand system log → was_lost_in (take n log) k ≡ true → list_any (is_by_cluster k) (drop n log) ≡ false
 silent_once_lost system log k n legal =
-    (legal_induction BuiltMayFollow system (Silent system k n) (record { legal = none_legal system; silent = λ lost. ap (list_any (is_by_cluster k)) (none_past [] n (omega arith)) })
+    (legal_induction MayStand system (Silent system k n) (record { legal = none_legal system; silent = λ lost. ap (list_any (is_by_cluster k)) (none_past [] n (omega arith)) })
     (λ log e before may. record {
-      legal = IsLegal-snoc BuiltMayFollow system log e before.legal may;
+      legal = IsLegal-snoc MayStand system log e before.legal may;
       silent = by_length log e before may (within n (length log));
     }) log legal).silent
   where
@@ -231,7 +231,7 @@ silent_once_lost system log k n legal =
     none_of false true h g = absurd (true≢false g)
     none_of false false h g = refl
 
-    by_length : (log : List Entry) (e : Entry) → Silent system k n log → BuiltMayFollow system log e → (n ≤ length log) ⊎ (length log + 1 ≤ n) → was_lost_in (take n (log ++ e ∷ [])) k ≡ true → list_any (is_by_cluster k) (drop n (log ++ e ∷ [])) ≡ false
+    by_length : (log : List Entry) (e : Entry) → Silent system k n log → MayStand system log e → (n ≤ length log) ⊎ (length log + 1 ≤ n) → was_lost_in (take n (log ++ e ∷ [])) k ≡ true → list_any (is_by_cluster k) (drop n (log ++ e ∷ [])) ≡ false
     by_length log e before may (inl short) lost =
         let here : was_lost_in (take n log) k ≡ true = sym (ap (λ l. was_lost_in l k) (take-append-le n log (e ∷ []) short)) ∙ lost in
         ap (list_any (is_by_cluster k)) (drop-append-le n log (e ∷ []) short)
@@ -241,7 +241,7 @@ silent_once_lost system log k n legal =
         ap (list_any (is_by_cluster k)) (none_past (log ++ e ∷ []) n (let more = long log e in omega (arith, past, more)))
 
 -- nor after the place since which it is off
-pub silent_once_off : (system : System) (log : List Entry) (k : ClusterNo) (at : ℕ) → IsLegalBy BuiltMayFollow system log → off_at log k ≡ Some at → list_any (is_by_cluster k) (drop (at + 1) log) ≡ false
+pub silent_once_off : (system : System) (log : List Entry) (k : ClusterNo) (at : ℕ) → IsLegalBy MayStand system log → off_at log k ≡ Some at → list_any (is_by_cluster k) (drop (at + 1) log) ≡ false
 silent_once_off system log k at legal off =
     let loss = off_is_its_loss system log k at legal off in
     let next : at + 1 ≡ suc at = omega arith in

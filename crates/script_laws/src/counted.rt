@@ -2,13 +2,13 @@
 ghost use Rattle.std.specs.Prelude.{◌≡◌, ◌+◌, ◌≤◌, true, length};
 ghost use Rattle.std.specs.List.{list_all};
 ghost use Rattle.cert_sched.specs.Legal.{IsLegalBy};
-ghost use Rattle.cert_sched.specs.Built.{BuiltMayFollow, is_built_word};
+ghost use Rattle.cert_sched.specs.Built.{MayStand, is_built_word};
 ghost use Rattle.bus_order.specs.View.{BusView, KeepsScript};
 ghost use Rattle.script_laws.specs.Crashes.{crashes};
 
 /// A law and no code: each loss of a log was given by a word of the script, so there are no more losses than words.
 pub fn crashes_are_of_words()
-    ensures within { (b : BusView) → KeepsScript b → IsLegalBy BuiltMayFollow b.system b.log → list_all is_built_word b.script ≡ true → crashes b.log ≤ length b.script }
+    ensures within { (b : BusView) → KeepsScript b → IsLegalBy MayStand b.system b.log → list_all is_built_word b.script ≡ true → crashes b.log ≤ length b.script }
     // Nor are there with the words that are left.
-    ensures left { (b : BusView) → KeepsScript b → IsLegalBy BuiltMayFollow b.system b.log → list_all is_built_word b.script ≡ true → list_all is_built_word b.left ≡ true → crashes b.log + length b.left ≤ length b.script }
+    ensures left { (b : BusView) → KeepsScript b → IsLegalBy MayStand b.system b.log → list_all is_built_word b.script ≡ true → list_all is_built_word b.left ≡ true → crashes b.log + length b.left ≤ length b.script }
 {}

@@ -10,19 +10,19 @@ ghost use Rattle.cert_sched.specs.Schedule.{placement};
 ghost use Rattle.cert_sched.specs.Rules.{is_over};
 ghost use Rattle.cert_sched.specs.Scripted.{is_closed};
 ghost use Rattle.cert_sched.specs.Legal.{IsLegalBy};
-ghost use Rattle.cert_sched.specs.Built.{BuiltMayFollow, is_built_word};
+ghost use Rattle.cert_sched.specs.Built.{MayStand, is_built_word};
 ghost use Rattle.bus_order.specs.View.{BusView, KeepsScript};
 ghost use Rattle.script_laws.specs.Crashes.{crashes};
 
 /// A law and no code: in a log of a valid system with no loss, the loss of each cluster is covered.
 pub fn first_loss_is_covered()
-    ensures { (system : System) (log : List Entry) (k : ClusterNo) → is_system system ≡ true → IsLegalBy BuiltMayFollow system log → crashes log ≡ 0 → is_covered (placement system log) k ≡ true }
+    ensures { (system : System) (log : List Entry) (k : ClusterNo) → is_system system ≡ true → IsLegalBy MayStand system log → crashes log ≡ 0 → is_covered (placement system log) k ≡ true }
 {}
 
 /// A law and no code: one loss ends no run.
 pub fn one_word_ends_no_run()
     // A log of a valid system with one loss at most is over only where the end or a stop stands last,
-    ensures few { (system : System) (log : List Entry) → is_system system ≡ true → IsLegalBy BuiltMayFollow system log → crashes log ≤ 1 → is_over system log ≡ true → is_closed log ≡ true }
+    ensures few { (system : System) (log : List Entry) → is_system system ≡ true → IsLegalBy MayStand system log → crashes log ≤ 1 → is_over system log ≡ true → is_closed log ≡ true }
     // and so is one of a script of one word at most.
-    ensures word { (b : BusView) → is_system b.system ≡ true → IsLegalBy BuiltMayFollow b.system b.log → KeepsScript b → list_all is_built_word b.script ≡ true → length b.script ≤ 1 → is_over b.system b.log ≡ true → is_closed b.log ≡ true }
+    ensures word { (b : BusView) → is_system b.system ≡ true → IsLegalBy MayStand b.system b.log → KeepsScript b → list_all is_built_word b.script ≡ true → length b.script ≤ 1 → is_over b.system b.log ≡ true → is_closed b.log ≡ true }
 {}

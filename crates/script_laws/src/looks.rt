@@ -2,7 +2,7 @@
 ghost use Rattle.std.specs.Prelude.{ℕ, ◌≡◌, true, false, length};
 ghost use Rattle.std.specs.List.{list_any, list_all};
 ghost use Rattle.cert_sched.specs.Legal.{IsLegalBy};
-ghost use Rattle.cert_sched.specs.Built.{BuiltMayFollow, is_built_word};
+ghost use Rattle.cert_sched.specs.Built.{MayStand, is_built_word};
 ghost use Rattle.cert_sched.specs.Looked.{is_reached};
 ghost use Rattle.bus_order.specs.View.{BusView, KeepsScript, after_words, looks};
 ghost use Rattle.script_laws.specs.Added.{AddsLosses};
@@ -20,7 +20,7 @@ pub fn looks_add_losses()
 /// A law and no code: what a bus keeps of its script stays after some of the looks, and after all that are due, which
 /// are `looks (length b.left) b`.
 pub fn looks_keep_script()
-    ensures legal { (n : ℕ) (b : BusView) → IsLegalBy BuiltMayFollow b.system b.log → list_all is_built_word b.left ≡ true → KeepsScript b → IsLegalBy BuiltMayFollow (looks n b).system (looks n b).log }
+    ensures legal { (n : ℕ) (b : BusView) → IsLegalBy MayStand b.system b.log → list_all is_built_word b.left ≡ true → KeepsScript b → IsLegalBy MayStand (looks n b).system (looks n b).log }
     ensures words { (n : ℕ) (b : BusView) → list_all is_built_word b.left ≡ true → list_all is_built_word (looks n b).left ≡ true }
-    ensures scripted { (n : ℕ) (b : BusView) → IsLegalBy BuiltMayFollow b.system b.log → list_all is_built_word b.left ≡ true → KeepsScript b → KeepsScript (looks n b) }
+    ensures scripted { (n : ℕ) (b : BusView) → IsLegalBy MayStand b.system b.log → list_all is_built_word b.left ≡ true → KeepsScript b → KeepsScript (looks n b) }
 {}

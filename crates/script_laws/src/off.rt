@@ -8,18 +8,18 @@ ghost use Rattle.bus_msg.specs.Places.{lives_in};
 ghost use Rattle.cert_sched.specs.Schedule.{placement};
 ghost use Rattle.cert_sched.specs.Losses.{is_by_cluster, was_lost_in};
 ghost use Rattle.cert_sched.specs.Legal.{IsLegalBy};
-ghost use Rattle.cert_sched.specs.Built.{BuiltMayFollow};
+ghost use Rattle.cert_sched.specs.Built.{MayStand};
 ghost use Rattle.bus_order.specs.Script.{off_at};
 ghost use Rattle.script_laws.specs.Off.{IsItsLoss};
 
 /// A law and no code: while the entries are of the kinds that are built so far, a cluster is off exactly where it was lost.
 pub fn off_is_lost()
     // It was lost at the place since which it is off, and nowhere else.
-    ensures off { (system : System) (log : List Entry) (k : ClusterNo) (at : ℕ) → IsLegalBy BuiltMayFollow system log → off_at log k ≡ Some at → IsItsLoss log k at }
-    ensures not_off { (system : System) (log : List Entry) (k : ClusterNo) → IsLegalBy BuiltMayFollow system log → off_at log k ≡ None → was_lost_in log k ≡ false }
+    ensures off { (system : System) (log : List Entry) (k : ClusterNo) (at : ℕ) → IsLegalBy MayStand system log → off_at log k ≡ Some at → IsItsLoss log k at }
+    ensures not_off { (system : System) (log : List Entry) (k : ClusterNo) → IsLegalBy MayStand system log → off_at log k ≡ None → was_lost_in log k ≡ false }
     // One of the system lives exactly where it was not lost.
-    ensures lives { (system : System) (log : List Entry) (k : ClusterNo) → IsLegalBy BuiltMayFollow system log → k.0 < system.clusters → lives_in (placement system log) k ≡ not (was_lost_in log k) }
+    ensures lives { (system : System) (log : List Entry) (k : ClusterNo) → IsLegalBy MayStand system log → k.0 < system.clusters → lives_in (placement system log) k ≡ not (was_lost_in log k) }
     // After its loss it sends no entry, so none after the place since which it is off.
-    ensures silent { (system : System) (log : List Entry) (k : ClusterNo) (n : ℕ) → IsLegalBy BuiltMayFollow system log → was_lost_in (take n log) k ≡ true → list_any (is_by_cluster k) (drop n log) ≡ false }
-    ensures silent_off { (system : System) (log : List Entry) (k : ClusterNo) (at : ℕ) → IsLegalBy BuiltMayFollow system log → off_at log k ≡ Some at → list_any (is_by_cluster k) (drop (at + 1) log) ≡ false }
+    ensures silent { (system : System) (log : List Entry) (k : ClusterNo) (n : ℕ) → IsLegalBy MayStand system log → was_lost_in (take n log) k ≡ true → list_any (is_by_cluster k) (drop n log) ≡ false }
+    ensures silent_off { (system : System) (log : List Entry) (k : ClusterNo) (at : ℕ) → IsLegalBy MayStand system log → off_at log k ≡ Some at → list_any (is_by_cluster k) (drop (at + 1) log) ≡ false }
 {}

@@ -1,6 +1,6 @@
 //! What `load` makes of its size: the text of its workload, or the run of it.
 ghost use Rattle.std.specs.Prelude.{◌≡◌, IfOk, None, false, true};
-ghost use Rattle.cert_sched.specs.Built.{BuiltMayFollow};
+ghost use Rattle.cert_sched.specs.Built.{MayStand};
 ghost use Rattle.cert_sched.specs.Legal.{IsLegalBy};
 ghost use Rattle.cert_sched.specs.Schedule.{schedule_of};
 ghost use Rattle.sys_text.specs.declared.system.System.{System as ASystem};
@@ -90,7 +90,7 @@ fn run_ring<R: Threads + Wait + Sync, G: Gate + Sync>(
 // The reply that tells of the run of a workload.
 fn tell(alloc: Global, system: &System, run: &Run, size: u32) -> Result<Reply, NoMemory>
     requires valid { is_system system.now ≡ true }
-    requires legal { IsLegalBy BuiltMayFollow system.now run.now.log }
+    requires legal { IsLegalBy MayStand system.now run.now.log }
     requires items { run.now.items ≡ schedule_of system.now run.now.log }
     ensures done { IfOk result (λ r. (r.status ≡ 0) × (r.why ≡ None)) }
     ensures text { IfOk result (λ r. IsTextOf system.now (load_text size) run.now r.text) }

@@ -1,6 +1,6 @@
 //! What `sim` and `run` make of the bytes of their input: a run of clusters, and what is written of it.
 ghost use Rattle.std.specs.Prelude.{ℕ, ◌≡◌, ◌<◌, ◌^◌, IfOk, List, None, Ok, true};
-ghost use Rattle.cert_sched.specs.Built.{BuiltMayFollow};
+ghost use Rattle.cert_sched.specs.Built.{MayStand};
 ghost use Rattle.cert_sched.specs.Legal.{IsLegalBy};
 ghost use Rattle.cert_sched.specs.Schedule.{schedule_of};
 ghost use Rattle.cert_sched.specs.Scripted.{is_finished};
@@ -113,7 +113,7 @@ pub fn with_clusters(alloc: Global, system: System, script: &Script) -> Result<R
 // The reply that tells of a run that came to its end.
 fn tell(alloc: Global, system: &System, run: &Run, log: bool) -> Result<Reply, NoMemory>
     requires valid { is_system system.now ≡ true }
-    requires legal { IsLegalBy BuiltMayFollow system.now run.now.log }
+    requires legal { IsLegalBy MayStand system.now run.now.log }
     requires items { run.now.items ≡ schedule_of system.now run.now.log }
     requires finished { is_finished run.now.log ≡ true }
     ensures done { IfOk result (λ r. (r.status ≡ 0) × (r.why ≡ None)) }
@@ -130,7 +130,7 @@ fn tell(alloc: Global, system: &System, run: &Run, log: bool) -> Result<Reply, N
 // What is written of a run that came to its end, by its log.
 fn run_text(alloc: Global, system: &System, run: &Run, log: bool) -> Result<Text, NoMemory>
     requires valid { is_system system.now ≡ true }
-    requires legal { IsLegalBy BuiltMayFollow system.now run.now.log }
+    requires legal { IsLegalBy MayStand system.now run.now.log }
     requires items { run.now.items ≡ schedule_of system.now run.now.log }
     requires finished { is_finished run.now.log ≡ true }
     ensures { IfOk result (λ text. IsTextOf system.now (run_text_of log) run.now text) }

@@ -13,7 +13,7 @@ use Rattle.log_laws.specs.records.Kept.{changes_in_place}
 use Rattle.log_laws.proofs.records.KeptLaws.{records_kept}
 use Rattle.log_laws.proofs.records.Standing.{built_stands}
 use Rattle.crash_notice.specs.Splitting.{moves_here}
-use Rattle.cert_sched.specs.Built.{BuiltMayFollow, tells_or_closes}
+use Rattle.cert_sched.specs.Built.{MayStand, tells_or_closes}
 use Rattle.cert_sched.specs.Losses.{is_by_cluster, is_crash_of}
 use Rattle.cert_sched.specs.Rules.{home_at}
 use Rattle.bus_msg.specs.declared.placed.Placed.{Placed}
@@ -69,7 +69,7 @@ use Rattle.cert_sched.specs.Deeds.{letter_for}
 
 -- beside what is queued the cluster follows the log with it, whichever kind it is of
 beside_next : (which : Pid → Bool) (c : ClusterView) (log : List Entry) (e : Entry) (server : Option PagerState) → is_system c.system ≡ true → AllOwn c.cursor c.here → are_rising (moved_by c.places c.number (what e) (records_after (what e) c.records)) ≡ true
-    → IsOpen BuiltMayFollow c.system log → IsOpen BuiltMayFollow c.system (log ++ e ∷ []) → Serves (placement c.system log) e c.server server → FollowsBeside which c.system log c → is_by_cluster c.number e ≡ false → is_crash_of c.number (what e) ≡ false
+    → IsOpen MayStand c.system log → IsOpen MayStand c.system (log ++ e ∷ []) → Serves (placement c.system log) e c.server server → FollowsBeside which c.system log c → is_by_cluster c.number e ≡ false → is_crash_of c.number (what e) ≡ false
     → FollowsBeside which c.system (log ++ e ∷ []) (with_server server (absorbed c e))
 beside_next which c log e server valid own order now later serves f foreign spared = by_kind_of (one_of c.system log e later)
   where
@@ -87,7 +87,7 @@ beside_next which c log e server valid own order now later serves f foreign spar
 
 -- ---- beside a batch, or a birth
 
-module _ (c : ClusterView) (log : List Entry) (e : Entry) (p : Pid) (process : Process) (there : held_at c p ≡ Some (Runs process)) (valid : is_system c.system ≡ true) (now : IsOpen BuiltMayFollow c.system log) (later : IsOpen BuiltMayFollow c.system (log ++ e ∷ []))
+module _ (c : ClusterView) (log : List Entry) (e : Entry) (p : Pid) (process : Process) (there : held_at c p ≡ Some (Runs process)) (valid : is_system c.system ≡ true) (now : IsOpen MayStand c.system log) (later : IsOpen MayStand c.system (log ++ e ∷ []))
     (f : FollowsBuilt c.system log c) (foreign : is_by_cluster c.number e ≡ false) (spared : is_crash_of c.number (what e) ≡ false) (order : are_rising (moved_by c.places c.number (what e) (records_after (what e) c.records)) ≡ true) where
   home : HomeHere (placement c.system log) p c.number
   home = home_here (placement c.system log) c.number (pids_in c.here) p (differ_built c.system log valid now.0) (f.processes).each_once (is_among c.here p (Runs process) there)
@@ -247,7 +247,7 @@ may_come c e valid r = by_loss (one_of c.system r.log e r.open_next)
 -- its child, where it tells of one, is the next of its parent
 pub ready_absorbable : (c : ClusterView) (e : Entry) → is_system c.system ≡ true → ReadyFor e c → CanBeAbsorbed c.places (what e)
 ready_absorbable c e valid r =
-    subst (λ places. CanBeAbsorbed places (what e)) (sym (places_ready c r.log e r.ready)) (may_be_absorbed c.system r.log e valid (r.open_log).0 (IsLegal-last BuiltMayFollow c.system r.log e (r.open_next).0).stands)
+    subst (λ places. CanBeAbsorbed places (what e)) (sym (places_ready c r.log e r.ready)) (may_be_absorbed c.system r.log e valid (r.open_log).0 (IsLegal-last MayStand c.system r.log e (r.open_next).0).stands)
   where
     places_ready : (c : ClusterView) (log : List Entry) (e : Entry) → IsReady log e c → c.places ≡ placement c.system log
     places_ready c log e (inl f) = ((f.0).log).places

@@ -18,7 +18,7 @@ use Rattle.bus_msg.specs.declared.placed.Placed.{Placed}
 use Rattle.bus_msg.specs.Places.{Places, lives_in, same_pid}
 use Rattle.bus_msg.specs.PlacedAfter.{what}
 use Rattle.bus_msg.specs.Route.{backup_of, bits_of, letter_dests, route}
-use Rattle.cert_sched.specs.Built.{BuiltMayFollow, tells_or_closes}
+use Rattle.cert_sched.specs.Built.{MayStand, tells_or_closes}
 use Rattle.cert_sched.specs.Deeds.{is_end_of}
 use Rattle.cert_sched.specs.Parts.{rising}
 use Rattle.cert_sched.specs.Rests.{home_pids}
@@ -94,7 +94,7 @@ comes_of system log e k here valid n once p h there is =
     ap (λ dests. goes_to dests k) ((((n.may).stands).placed).1) ∙ entry_comes (placement system log) k p (what e) (home_lives system log p k valid n.legal n.before home) home (n.may).built is
 
 pub comes_here : (c : ClusterView) (e : Entry) → is_system c.system ≡ true → ReadyFor e c → ComesHere c.number e c.here
-comes_here c e valid r = by_loss (kind_is (what e) (IsLegal-last BuiltMayFollow c.system r.log e r.open_next.0).built)
+comes_here c e valid r = by_loss (kind_is (what e) (IsLegal-last MayStand c.system r.log e r.open_next.0).built)
   where
     by_case : Next c.system r.log e → IsReady r.log e c → ComesHere c.number e c.here
     by_case n (inl f) = comes_of c.system r.log e c.number c.here valid n ((f.0).processes).each_once

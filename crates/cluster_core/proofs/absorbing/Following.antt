@@ -35,7 +35,7 @@ use Rattle.cert_sched.specs.Steps.{process_of, silent_upto, emission_at, after_i
 use Rattle.cert_sched.specs.Rules.{is_over, is_by, is_living, home_at, is_by_home, is_by_right, has_its_pages, keeps_limits}
 use Rattle.cert_sched.specs.Kinds.{ChildrenSynced, IsSent, KindHolds}
 use Rattle.cert_sched.specs.Legal.{IsLegalBy, Stands}
-use Rattle.cert_sched.specs.Built.{tells_or_closes, BuiltMayFollow, TellingMayFollow, KeepsWaits, UnlostMayFollow, is_unlost}
+use Rattle.cert_sched.specs.Built.{tells_or_closes, MayStand, TellingMayFollow, KeepsWaits, UnlostMayFollow, is_unlost}
 use Rattle.cert_sched.specs.Losses.{is_from, is_by_cluster, is_crash_of, was_lost_in, least_steps, capped}
 use Rattle.cert_sched.specs.Appended.{entry_of}
 use Rattle.cert_sched.specs.Rests.{home_pids}
@@ -91,16 +91,16 @@ use Rattle.checkpoint_laws.proofs.limits.StayingLimits.{sent_stays}
 
 -- a log, its next entry, and what that tells
 pub record Next (system : System) (log : List Entry) (e : Entry) : Type 0 where
-  pub legal : IsLegalBy BuiltMayFollow system log
-  pub more : IsLegalBy BuiltMayFollow system (log ++ e ∷ [])
+  pub legal : IsLegalBy MayStand system log
+  pub more : IsLegalBy MayStand system (log ++ e ∷ [])
   pub may : TellingMayFollow system log e
   pub before : is_over system log ≡ false
   pub goes_on : is_over system (log ++ e ∷ []) ≡ false
   pub told : Telling system log e
 
-pub next_of : (system : System) (log : List Entry) (e : Entry) → tells_or_closes (what e) ≡ true → IsOpen BuiltMayFollow system log → IsOpen BuiltMayFollow system (log ++ e ∷ []) → Next system log e
+pub next_of : (system : System) (log : List Entry) (e : Entry) → tells_or_closes (what e) ≡ true → IsOpen MayStand system log → IsOpen MayStand system (log ++ e ∷ []) → Next system log e
 next_of system log e tells now later =
-    let last = IsLegal-last BuiltMayFollow system log e later.0 in
+    let last = IsLegal-last MayStand system log e later.0 in
     let may : TellingMayFollow system log e = record { stands = last.stands; built = tells; limits = last.limits; pages = last.pages } in
     record { legal = now.0; more = later.0; may = may; before = now.1; goes_on = later.1; told = telling system log e may (not_closed system log e may.built later.1) }
 
@@ -263,7 +263,7 @@ may_end_still system log e f p at (Sent letter) w valid legal stands none tells 
 may_end_still system log e f p at (Ended end) w valid legal stands none tells kind = children_stay system log e p valid legal stands none (subst (KindHolds system log f) tells kind).1
 
 -- a post may follow that tells what its process sends, by the home of that, where the process is within the limits after it
-pub post_may : (system : System) (log : List Entry) (post : Post) (p : Pid) (at : ℕ) (m : Emission) (s : ProcState) → IsLegalBy BuiltMayFollow system log → is_over system log ≡ false → tells_or_closes post.what ≡ true → Tells p at m post.what
+pub post_may : (system : System) (log : List Entry) (post : Post) (p : Pid) (at : ℕ) (m : Emission) (s : ProcState) → IsLegalBy MayStand system log → is_over system log ≡ false → tells_or_closes post.what ≡ true → Tells p at m post.what
     → emission_at system log p at ≡ Some (m, s) → is_by_home (placement system log) post.by (Some p) ≡ true → keeps_limits system log p s ≡ true → KeepsWaits system log (entry_of system log post) → MayEnd system log p m → TellingMayFollow system log (entry_of system log post)
 post_may system log post p at m s legal goes_on built tells sends at_home keeps pages may_end = record {
   stands = record {
@@ -334,7 +334,7 @@ post_stays system log e n k post valid differ foreign own may =
     keeps : keeps_limits system more u.pid (with_arrival (n.told).emission u.pid u.after) ≡ true
     keeps =
         subst (λ s. keeps_limits system more u.pid s ≡ true) (sym (arrival_brings (what e) (n.told).pid (n.told).at (n.told).emission u.pid u.after (n.told).tells))
-        (sent_stays system log e u.pid u.at u.emission u.after valid (legal_stands BuiltMayFollow built_stands system log n.legal) (by_home_there (placement system log) post.by u.pid u.by_home) quiet u.is (told_within system log u.pid u.at u.emission u.after u.is post.what u.tells may.limits))
+        (sent_stays system log e u.pid u.at u.emission u.after valid (legal_stands MayStand built_stands system log n.legal) (by_home_there (placement system log) post.by u.pid u.by_home) quiet u.is (told_within system log u.pid u.at u.emission u.after u.is post.what u.tells may.limits))
 
     found : home_at (placement system more) u.pid ≡ home_at (placement system log) u.pid
     found = ap (option_map (λ (q : Placed). q.home)) (found_stays system log e n.told u.pid other)
@@ -356,7 +356,7 @@ rolls_arrived : (system : System) (log : List Entry) (e : Entry) (n : Next syste
 rolls_arrived system log e n queue p s counts births valid unended other none rolls = (
   none,
   subst (λ t. RollsBehind system (log ++ e ∷ []) p t counts births) (sym (arrival_letters (what e) p s (n.may).built))
-      (behind_standing system log e p BuiltMayFollow built_stands (state_of s) counts births valid n.more unended (told_cuts_none p (what e) (n.may).built) (no_deeds p (n.told).pid (n.told).at (n.told).emission (what e) (n.told).tells other) rolls),
+      (behind_standing system log e p MayStand built_stands (state_of s) counts births valid n.more unended (told_cuts_none p (what e) (n.may).built) (no_deeds p (n.told).pid (n.told).at (n.told).emission (what e) (n.told).tells other) rolls),
 )
 
 -- a cluster with an entry taken in that is no loss
@@ -447,7 +447,7 @@ marks_foreign which c log e n valid differ own f foreign p h at among =
     let m0 : MarkedIfThere CarriesMarks c.system (with_queue c.system log (posts_of q)) p (unended_process before.was) =
     subst (λ ps. MarkedIfThere CarriesMarks c.system (with_queue c.system log ps) p (unended_process before.was)) queue_is (f.marks p before.was before.there among) in
     subst (λ ps. MarkedIfThere CarriesMarks c.system (with_queue c.system later ps) p (unended_process h)) (sym queue_is)
-    (marked_after c.system log e p q before.was h valid (legal_stands BuiltMayFollow built_stands c.system later n.more) (ap is_some home.found) (ap is_some (found_stays c.system log e n.told p other ∙ home.found)) (f.queued).together
+    (marked_after c.system log e p q before.was h valid (legal_stands MayStand built_stands c.system later n.more) (ap is_some home.found) (ap is_some (found_stays c.system log e n.told p other ∙ home.found)) (f.queued).together
     (queue_tells c.system log c.number q posts_own posts_legal) (queue_tells c.system later c.number q posts_own legal_still)
     (subst (λ ps. IsHeldAs c.system log ps p before.was) queue_is (one_of_them which c.system log c.queue p before.was among ((f.processes).held p before.was before.there)))
     (subst (λ ps. IsHeldAs c.system later ps p h) queue_is (one_of_them which c.system later c.queue p h among (held_foreign which c log e n q queue_is (f.queued).together valid differ own f foreign p h at)))
@@ -493,7 +493,7 @@ counted_foreign c log e foreign h =
 -- the records of the log are those of the log with the entry
 records_after_entry : (system : System) (log : List Entry) (e : Entry) (n : Next system log e) (k : ClusterNo) (recs : List BackRec) → is_system system ≡ true → KeepsRecords system log k recs → KeepsRecords system (log ++ e ∷ []) k (records_after (what e) recs)
 records_after_entry system log e n k recs valid keeps =
-    records_kept system log e k recs valid (legal_stands BuiltMayFollow (λ system log e may. may.stands) system (log ++ e ∷ []) n.more)
+    records_kept system log e k recs valid (legal_stands MayStand (λ system log e may. may.stands) system (log ++ e ∷ []) n.more)
     (by_kind (λ w. changes_in_place w ≡ true) (λ at letter. refl) (λ pid at end. refl) (λ rests. refl) refl (what e) (n.may).built) keeps
 
 pub follows_foreign : (which : Pid → Bool) (c : ClusterView) (log : List Entry) (e : Entry) (n : Next c.system log e) (server : Option PagerState) → is_system c.system ≡ true

@@ -25,7 +25,7 @@ use Rattle.bus_msg.specs.declared.placed.Placed.{Placed}
 use Rattle.bus_msg.specs.Places.{Places, ClusterPlace, lives_in, same_pid, same_cluster, is_cluster, unended_at, all_clusters, cluster_no, servers_in}
 use Rattle.bus_msg.specs.PlacedAfter.{what}
 use Rattle.bus_msg.specs.Route.{backup_of, home_of, bits_of, letter_dests, route, to_list, to_all}
-use Rattle.cert_sched.specs.Built.{BuiltMayFollow, tells_or_closes}
+use Rattle.cert_sched.specs.Built.{MayStand, tells_or_closes}
 use Rattle.cert_sched.specs.Schedule.{placement}
 use Rattle.cert_sched.specs.Record.{backup_record}
 use Rattle.backup_records.specs.Records.{CanNote, record_in, record_after, record_of_child, records_after, is_receiver, after_birth, with_child_of, with_record, with_saved, with_counted, with_cut}
@@ -267,8 +267,8 @@ can_note_next c e valid r room =
 pub noted_next : (c : ClusterView) (e : Entry) → is_system c.system ≡ true → ReadyFor e c → IsNotedHere c.number e c.records
 noted_next c e valid r elsewhere = by_loss (kind_is (what e) may.built)
   where
-    may : BuiltMayFollow c.system r.log e
-    may = IsLegal-last BuiltMayFollow c.system r.log e (r.open_next).0
+    may : MayStand c.system r.log e
+    may = IsLegal-last MayStand c.system r.log e (r.open_next).0
 
     by_loss : OneOf (what e) → records_after (what e) c.records ≡ c.records
     by_loss (inl tells) = noted_here c.system r.log e c.number c.records (((may.stands).placed).1) tells (backups_live c.system r.log valid (r.open_log).0) (kept_of c r.log e r.ready).records elsewhere

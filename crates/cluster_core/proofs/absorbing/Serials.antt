@@ -24,7 +24,7 @@ use Rattle.sys_text.proofs.Bounds.{system_bounds}
 use Rattle.cluster_core.specs.View.{ClusterView}
 use Rattle.cluster_core.specs.Work.{next_pid}
 use Rattle.cluster_core.specs.Calls.{FollowsSome}
-use Rattle.cert_sched.specs.Built.{BuiltMayFollow}
+use Rattle.cert_sched.specs.Built.{MayStand}
 use Rattle.cert_sched.specs.Family.{born, births_of}
 use Rattle.cert_sched.specs.Legal.{IsLegalBy}
 use Rattle.cert_sched.specs.Schedule.{placed_root, placement, places_at_boot}
@@ -95,9 +95,9 @@ placement_none : (system : System) → placement system [] ≡ places_at_boot sy
 unfolding placement
 placement_none system = refl
 
-serial_few : (system : System) (log : List Entry) (k : ClusterNo) → IsLegalBy BuiltMayFollow system log → next_serial_in (placement system log) k ≤ 1 + length system.roots + length (births_of log)
+serial_few : (system : System) (log : List Entry) (k : ClusterNo) → IsLegalBy MayStand system log → next_serial_in (placement system log) k ≤ 1 + length system.roots + length (births_of log)
 serial_few system log k =
-    legal_induction BuiltMayFollow system (λ log. next_serial_in (placement system log) k ≤ 1 + length system.roots + length (births_of log)) (omega (arith, serial_at_boot system k, ap (λ places. next_serial_in places k) (placement_none system)))
+    legal_induction MayStand system (λ log. next_serial_in (placement system log) k ≤ 1 + length system.roots + length (births_of log)) (omega (arith, serial_at_boot system k, ap (λ places. next_serial_in places k) (placement_none system)))
     (λ log e few may. omega (
       arith,
       few,
@@ -109,10 +109,10 @@ serial_few system log k =
     )) log
 
 -- so the pid of the next child fits
-pid_fits : (system : System) (log : List Entry) (k : ClusterNo) → is_system system ≡ true → IsLegalBy BuiltMayFollow system log → k.0 < 16 → next_pid k (placement system log) < 2 ^ 32
+pid_fits : (system : System) (log : List Entry) (k : ClusterNo) → is_system system ≡ true → IsLegalBy MayStand system log → k.0 < 16 → next_pid k (placement system log) < 2 ^ 32
 pid_fits system log k valid legal inside =
     let serial = serial_few system log k legal in
-    let births = few_births system log valid (plain_there BuiltMayFollow (λ system log e may. may.stands) system log legal) in
+    let births = few_births system log valid (plain_there MayStand (λ system log e may. may.stands) system log legal) in
     omega (arith, serial, births, inside)
 
 pub next_fits : (c : ClusterView) → is_system c.system ≡ true → (c.number).0 < (c.system).clusters → FollowsSome c → next_pid c.number c.places < 2 ^ 32

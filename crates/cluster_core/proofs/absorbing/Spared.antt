@@ -23,7 +23,7 @@ use Rattle.bus_msg.specs.Places.{Places, unended_at, same_cluster}
 use Rattle.bus_msg.specs.PlacedAfter.{placed_after, what}
 use Rattle.channel_table.specs.Changes.{pids_differ}
 use Rattle.cert_sched.specs.Appended.{entry_of}
-use Rattle.cert_sched.specs.Built.{tells_or_closes, BuiltMayFollow, TellingMayFollow, UnlostMayFollow}
+use Rattle.cert_sched.specs.Built.{tells_or_closes, MayStand, TellingMayFollow, UnlostMayFollow}
 use Rattle.cert_sched.specs.Deeds.{deeds_in, is_cut, letter_for, is_birth_of}
 use Rattle.cert_sched.specs.Legal.{Stands}
 use Rattle.cert_sched.specs.Losses.{is_by_cluster, is_from, is_crash_of}
@@ -114,7 +114,7 @@ pub record BringsNothing (system : System) (log : List Entry) (e : Entry) : Type
 abbrev pub passed : ClusterView → Entry → ClusterView
 passed c e = record c { cursor = c.cursor + 1; places = placed_after c.places (what e); records = records_after (what e) c.records; family = family_after (what e) c.family; steps = next_count c.steps }
 
-module _ (system : System) (valid : is_system system ≡ true) (log : List Entry) (e : Entry) (now : IsOpen BuiltMayFollow system log) (next : IsOpen BuiltMayFollow system (log ++ e ∷ [])) (n : BringsNothing system log e) where
+module _ (system : System) (valid : is_system system ≡ true) (log : List Entry) (e : Entry) (now : IsOpen MayStand system log) (next : IsOpen MayStand system (log ++ e ∷ [])) (n : BringsNothing system log e) where
   abbrev later : List Entry
   later = log ++ e ∷ []
 
@@ -122,7 +122,7 @@ module _ (system : System) (valid : is_system system ≡ true) (log : List Entry
   places = placement system log
 
   stands : Stands system log e
-  stands = (IsLegal-last BuiltMayFollow system log e next.0).stands
+  stands = (IsLegal-last MayStand system log e next.0).stands
 
   differ : pids_differ places.placed ≡ true
   differ = differ_built system log valid now.0
@@ -212,7 +212,7 @@ module _ (system : System) (valid : is_system system ≡ true) (log : List Entry
   held_stays k q p (Rolls process counts births) together home s own held = (
     held.0,
     subst (λ t. RollsBehind system later p t counts births) (no_letter p (state_of process))
-        (behind_standing system log e p BuiltMayFollow standing (state_of process) counts births valid next.0 (ap is_some home.found) s.no_cut s.no_deed held.1),
+        (behind_standing system log e p MayStand standing (state_of process) counts births valid next.0 (ap is_some home.found) s.no_cut s.no_deed held.1),
   )
   held_stays k q p (Waits waiting) together home s own held = (
     held.0,

@@ -23,7 +23,7 @@ use Rattle.cert_sched.specs.Steps.{process_of, silent_upto, emission_at, after_i
 use Rattle.cert_sched.specs.Kinds.{KindHolds}
 use Rattle.cert_sched.specs.Rules.{is_by_home, is_by_right, is_over, ends_run}
 use Rattle.cert_sched.specs.Legal.{IsLegalBy}
-use Rattle.cert_sched.specs.Built.{BuiltMayFollow, TellingMayFollow, tells_or_closes}
+use Rattle.cert_sched.specs.Built.{MayStand, TellingMayFollow, tells_or_closes}
 use Rattle.cert_sched.specs.Scripted.{closes}
 use Rattle.cert_sched.proofs.Induction.{is_over-snoc}
 use Rattle.cert_sched.proofs.StepLaws.{Tells, SentTo, is_sent}
@@ -142,6 +142,6 @@ pub sends_still : (system : System) (log : List Entry) (e : Entry) (t : Telling 
 sends_still system log e t q n m s apart sends = emission_at-receiver system log e t.pid t.at t.emission t.after q n m s t.is t.tells apart sends
 
 -- where silent steps lead another process that has not ended, they lead after the entry too
-pub silent_still : (system : System) (log : List Entry) (e : Entry) (t : Telling system log e) (q : Pid) (n : ℕ) (s : ProcState) → IsLegalBy BuiltMayFollow system log → is_over system log ≡ false → q.0 ≢ (t.pid).0
+pub silent_still : (system : System) (log : List Entry) (e : Entry) (t : Telling system log e) (q : Pid) (n : ℕ) (s : ProcState) → IsLegalBy MayStand system log → is_over system log ≡ false → q.0 ≢ (t.pid).0
     → is_some (unended_at (placement system log) q) ≡ true → silent_upto system log q n ≡ Some s → silent_upto system (log ++ e ∷ []) q n ≡ Some (with_arrival t.emission q s)
-silent_still system log e t q n s legal goes_on apart placed silent = silent_upto-arrives BuiltMayFollow built_is_plain system log e t.pid t.at t.emission t.after legal goes_on t.is t.tells q n s apart placed silent
+silent_still system log e t q n s legal goes_on apart placed silent = silent_upto-arrives MayStand built_is_plain system log e t.pid t.at t.emission t.after legal goes_on t.is t.tells q n s apart placed silent

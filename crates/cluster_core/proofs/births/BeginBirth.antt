@@ -13,7 +13,7 @@ use Rattle.cert_sched.specs.Parts.{rising}
 use Rattle.cert_sched.specs.Kinds.{next_child_at}
 use Rattle.cert_sched.specs.Schedule.{placement, done_after}
 use Rattle.cert_sched.specs.Steps.{silent_upto}
-use Rattle.cert_sched.specs.Built.{BuiltMayFollow}
+use Rattle.cert_sched.specs.Built.{MayStand}
 use Rattle.cert_sched.specs.Losses.{capped, least_calls, least_steps}
 use Rattle.log_laws.proofs.records.Standing.{built_stands}
 use Rattle.cluster_core.specs.declared.quantum.Forking.{Forking}
@@ -59,7 +59,7 @@ ahead_moved system log p s t n is silent =
 -- ---- a process of a cluster that follows a log, where nothing is queued, and which comes to its fork
 
 module _ (c : ClusterView) (p : Pid) (made : ℕ) (was : Held) (forking : Forking) (new : Held) (k : ComesToFork (limits_of c.system) 64 made was forking new) (child : Pid) (valid : is_system c.system ≡ true) (empty : c.queue ≡ []) (there : held_at c p ≡ Some was)
-    (log : List Entry) (go : IsOpen BuiltMayFollow c.system log) (f : FollowsBuilt c.system log c) where
+    (log : List Entry) (go : IsOpen MayStand c.system log) (f : FollowsBuilt c.system log c) where
   -- the cluster with the birth queued
   abbrev pub bearing : ClusterView
   bearing = record c { here = with_changed p (Runs k.now) c.here; queue = birth_post c.number p (state_of k.now) child ∷ []; steps = next_count c.steps }

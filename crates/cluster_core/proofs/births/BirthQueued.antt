@@ -16,7 +16,7 @@ use Rattle.bus_msg.specs.declared.entry.Post.{Post}
 use Rattle.bus_msg.specs.declared.entry.Entry.{Entry}
 use Rattle.bus_msg.specs.PlacedAfter.{what}
 use Rattle.cert_sched.specs.Appended.{entry_of}
-use Rattle.cert_sched.specs.Built.{BuiltMayFollow, UnlostMayFollow}
+use Rattle.cert_sched.specs.Built.{MayStand, UnlostMayFollow}
 use Rattle.cert_sched.specs.Deeds.{arrived_count}
 use Rattle.cert_sched.specs.Legal.{IsLegalBy, Stands}
 use Rattle.cert_sched.specs.Losses.{capped, is_by_cluster, is_from, is_page_is_entry, least_calls}
@@ -70,7 +70,7 @@ calls_still system heard log e k other =
 
 -- ---- a birth of a process here
 
-module _ (system : System) (log : List Entry) (c : ClusterView) (b : BearsChild system log c) (valid : is_system system ≡ true) (open_log : IsOpen BuiltMayFollow system log) where
+module _ (system : System) (log : List Entry) (c : ClusterView) (b : BearsChild system log c) (valid : is_system system ≡ true) (open_log : IsOpen MayStand system log) where
   abbrev p : Pid
   p = b.pid
 

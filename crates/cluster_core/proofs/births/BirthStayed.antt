@@ -25,7 +25,7 @@ use Rattle.bus_msg.specs.declared.placed.Placed.{Placed}
 use Rattle.bus_msg.specs.Places.{ClusterPlace, Places, next_serial_in, placed_at, same_cluster, unended_at}
 use Rattle.bus_msg.specs.PlacedAfter.{changed_at, lost_cluster, placed_after, raised_serial, what, with_birth}
 use Rattle.channel_table.specs.Changes.{pids_differ}
-use Rattle.cert_sched.specs.Built.{BuiltMayFollow}
+use Rattle.cert_sched.specs.Built.{MayStand}
 use Rattle.cert_sched.specs.Kinds.{KindHolds, next_child_at}
 use Rattle.cert_sched.specs.Losses.{is_by_cluster, is_crash_of}
 use Rattle.cert_sched.specs.Parts.{rising}
@@ -120,15 +120,15 @@ child_by_home places (Some q) = refl
 
 -- ---- an entry of another cluster
 
-module _ (system : System) (valid : is_system system ≡ true) (log : List Entry) (e : Entry) (k : ClusterNo) (now : IsOpen BuiltMayFollow system log) (next : IsOpen BuiltMayFollow system (log ++ e ∷ [])) (foreign : is_by_cluster k e ≡ false) where
+module _ (system : System) (valid : is_system system ≡ true) (log : List Entry) (e : Entry) (k : ClusterNo) (now : IsOpen MayStand system log) (next : IsOpen MayStand system (log ++ e ∷ [])) (foreign : is_by_cluster k e ≡ false) where
   abbrev later : List Entry
   later = log ++ e ∷ []
 
   abbrev places : Places
   places = placement system log
 
-  may_e : BuiltMayFollow system log e
-  may_e = IsLegal-last BuiltMayFollow system log e next.0
+  may_e : MayStand system log e
+  may_e = IsLegal-last MayStand system log e next.0
 
   differ : pids_differ places.placed ≡ true
   differ = differ_built system log valid now.0
@@ -177,7 +177,7 @@ module _ (system : System) (valid : is_system system ≡ true) (log : List Entry
 -- ---- the whole
 
 -- the parent neither moved nor changed but for letters that came: its birth still stands next in the queue
-pub bears_still : (c : ClusterView) (log : List Entry) (e : Entry) (b : BearsChild c.system log c) → is_system c.system ≡ true → IsOpen BuiltMayFollow c.system log → IsOpen BuiltMayFollow c.system (log ++ e ∷ [])
+pub bears_still : (c : ClusterView) (log : List Entry) (e : Entry) (b : BearsChild c.system log c) → is_system c.system ≡ true → IsOpen MayStand c.system log → IsOpen MayStand c.system (log ++ e ∷ [])
     → rising (pids_in c.here) ≡ rising (home_pids c.system log c.number) → is_by_cluster c.number e ≡ false → is_crash_of c.number (what e) ≡ false
     → (new : ClusterView) → new.system ≡ c.system → new.number ≡ c.number → new.queue ≡ c.queue → rising (pids_in new.here) ≡ rising (home_pids c.system (log ++ e ∷ []) c.number)
     → home_at (placement c.system (log ++ e ∷ [])) b.pid ≡ home_at (placement c.system log) b.pid → ((h : Held) → held_at new b.pid ≡ Some h → RunsStill (letter_for b.pid (what e)) b.process h) → BearsChild c.system (log ++ e ∷ []) new

@@ -14,7 +14,7 @@ use Rattle.bus_msg.specs.PlacedAfter.{placed_after, what, with_birth as with_chi
 use Rattle.channel_table.specs.Changes.{CanBeAbsorbed, pids_differ}
 use Rattle.page_server.specs.Account.{PagerState}
 use Rattle.cert_sched.specs.Appended.{entry_of}
-use Rattle.cert_sched.specs.Built.{BuiltMayFollow}
+use Rattle.cert_sched.specs.Built.{MayStand}
 use Rattle.cert_sched.specs.Losses.{is_by_cluster, is_crash_of, is_page_entry, least_calls}
 use Rattle.cert_sched.specs.Parts.{put_rising, rising}
 use Rattle.cert_sched.specs.Rests.{home_pids}
@@ -62,7 +62,7 @@ use Rattle.cert_sched.specs.Deeds.{letter_for}
 
 -- ---- an entry of another cluster
 
-pub follows_beside_birth : (c : ClusterView) (log : List Entry) (e : Entry) (b : BearsChild c.system log c) → is_system c.system ≡ true → IsOpen BuiltMayFollow c.system log → IsOpen BuiltMayFollow c.system (log ++ e ∷ []) → FollowsBuilt c.system log c
+pub follows_beside_birth : (c : ClusterView) (log : List Entry) (e : Entry) (b : BearsChild c.system log c) → is_system c.system ≡ true → IsOpen MayStand c.system log → IsOpen MayStand c.system (log ++ e ∷ []) → FollowsBuilt c.system log c
     → is_by_cluster c.number e ≡ false → is_crash_of c.number (what e) ≡ false → (server : Option PagerState) → FollowsBeside all_of c.system (log ++ e ∷ []) (with_server server (absorbed (unqueued c) e))
     → home_at (placement c.system (log ++ e ∷ [])) b.pid ≡ home_at (placement c.system log) b.pid → ((h : Held) → held_at (absorbed c e) b.pid ≡ Some h → RunsStill (letter_for b.pid (what e)) b.process h) → FollowsBuilt c.system (log ++ e ∷ []) (with_server server (absorbed c e))
 follows_beside_birth c log e b valid now later f other spared server beside same_home stays =
@@ -81,7 +81,7 @@ rising-last : (xs : List ℕ) (n : ℕ) → rising (xs ++ n ∷ []) ≡ put_risi
 rising-last xs n = rising-append xs (n ∷ []) ∙ put_all-put xs n [] ∙ ap (put_rising n) (put_all-none xs)
 
 module _ (system : System) (valid : is_system system ≡ true) (log : List Entry) (v : ClusterView) (g : FollowsBuilt system log v) (tried : v.tried ≡ true) (own : AllOwn v.cursor v.here) (b : BearsChild system log v) (e : Entry)
-    (whole : entry_of system log (birth_post v.number b.pid (state_of b.process) b.child) ≡ e) (now : IsOpen BuiltMayFollow system log) (next : IsOpen BuiltMayFollow system (log ++ e ∷ [])) where
+    (whole : entry_of system log (birth_post v.number b.pid (state_of b.process) b.child) ≡ e) (now : IsOpen MayStand system log) (next : IsOpen MayStand system (log ++ e ∷ [])) where
   abbrev later : List Entry
   later = log ++ e ∷ []
 
@@ -108,7 +108,7 @@ module _ (system : System) (valid : is_system system ≡ true) (log : List Entry
 
   -- the child was nowhere
   nowhere : placed_at places child ≡ None
-  nowhere = (subst (CanBeAbsorbed places) is (may_be_absorbed system log e valid now.0 (IsLegal-last BuiltMayFollow system log e next.0).stands)).0
+  nowhere = (subst (CanBeAbsorbed places) is (may_be_absorbed system log e valid now.0 (IsLegal-last MayStand system log e next.0).stands)).0
 
   pub absent : list_any (λ (e : Pid × Held). same_pid e.0 child) v.here ≡ false
   absent = any_pids child v.here ∙ by_test (list_any (λ n. eqb n child.0) (pids_in v.here)) refl
@@ -158,7 +158,7 @@ module _ (system : System) (valid : is_system system ≡ true) (log : List Entry
   forks_after : ForksLeft (family_after (what e) v.family) (with_born p child v.here)
   forks_after =
       let new = subst (λ births. list_any (stands_in child) births ≡ false) (sym g.family)
-      (stands_in_none system log e p (((b.process).small).steps + 1) child (next_end (state_of b.process)) valid (built_stands system log now.0) (IsLegal-last BuiltMayFollow system log e next.0).stands is) in
+      (stands_in_none system log e p (((b.process).small).steps + 1) child (next_end (state_of b.process)) valid (built_stands system log now.0) (IsLegal-last MayStand system log e next.0).stands is) in
       subst (λ w. ForksLeft (family_after w v.family) (with_born p child v.here)) (sym is) (forks_born v.family v.here p child b.process b.there absent new g.forks)
 
   pub follows_born : (server : Option PagerState) → Serves places e v.server server → FollowsBuilt system later (with_server server born_view)
@@ -206,7 +206,7 @@ module _ (system : System) (valid : is_system system ≡ true) (log : List Entry
       made w = record v { cursor = v.cursor + 1; places = placed_after v.places w; here = with_born p child v.here; records = records_after w v.records; family = family_after w v.family; queue = []; tried = false; steps = next_count v.steps }
 
 -- a cluster that takes in the birth that it had queued
-pub follows_own_birth : (c : ClusterView) (log : List Entry) (e : Entry) (server : Option PagerState) → is_system c.system ≡ true → AllOwn c.cursor c.here → IsOpen BuiltMayFollow c.system log → IsOpen BuiltMayFollow c.system (log ++ e ∷ [])
+pub follows_own_birth : (c : ClusterView) (log : List Entry) (e : Entry) (server : Option PagerState) → is_system c.system ≡ true → AllOwn c.cursor c.here → IsOpen MayStand c.system log → IsOpen MayStand c.system (log ++ e ∷ [])
     → (s : StandsBetween FollowsBuilt c.system log e c) → BearsChild c.system log s.before → Serves (placement c.system log) e c.server server → FollowsBuilt c.system (log ++ e ∷ []) (with_server server (absorbed c e))
 follows_own_birth c log e server valid own now later s b serves =
     subst (λ (d : ClusterView). FollowsBuilt c.system (log ++ e ∷ []) (with_server server (absorbed d e))) (sym same)

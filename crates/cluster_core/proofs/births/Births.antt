@@ -16,7 +16,7 @@ use Rattle.bus_msg.specs.Places.{Places, placed_at, same_cluster, same_pid, unen
 use Rattle.bus_msg.specs.PlacedAfter.{placed_after, what, with_birth}
 use Rattle.channel_table.specs.Changes.{pids_differ}
 use Rattle.cert_sched.specs.Account.{is_exit_of}
-use Rattle.cert_sched.specs.Built.{BuiltMayFollow}
+use Rattle.cert_sched.specs.Built.{MayStand}
 use Rattle.cert_sched.specs.Deeds.{deeds_in, is_birth_of, is_cut, letter_for}
 use Rattle.roll_forward.specs.Deeds.{Bears}
 use Rattle.cert_sched.specs.Kinds.{BirthHolds, KindHolds, next_child_at}
@@ -77,7 +77,7 @@ birth_taken c e parent at child end is away = ap taken is ∙ ap (λ o. record (
     spared : What → ClusterView
     spared w = record c { cursor = c.cursor + 1; places = placed_after c.places w; records = records_after w c.records; family = family_after w c.family; steps = next_count c.steps }
 
-module _ (system : System) (valid : is_system system ≡ true) (log : List Entry) (e : Entry) (parent : Pid) (at : ℕ) (child : Pid) (end : ℕ) (is : what e ≡ Birth parent at child end) (now : IsOpen BuiltMayFollow system log) (next : IsOpen BuiltMayFollow system (log ++ e ∷ [])) where
+module _ (system : System) (valid : is_system system ≡ true) (log : List Entry) (e : Entry) (parent : Pid) (at : ℕ) (child : Pid) (end : ℕ) (is : what e ≡ Birth parent at child end) (now : IsOpen MayStand system log) (next : IsOpen MayStand system (log ++ e ∷ [])) where
   abbrev later : List Entry
   later = log ++ e ∷ []
 
@@ -85,7 +85,7 @@ module _ (system : System) (valid : is_system system ≡ true) (log : List Entry
   places = placement system log
 
   stands : Stands system log e
-  stands = (IsLegal-last BuiltMayFollow system log e next.0).stands
+  stands = (IsLegal-last MayStand system log e next.0).stands
 
   differ : pids_differ places.placed ≡ true
   differ = differ_built system log valid now.0
@@ -112,7 +112,7 @@ module _ (system : System) (valid : is_system system ≡ true) (log : List Entry
         true≢false (sym (by_one k (Cluster (here.placed).home) (e.post).by (Some (here.placed).home) (eq-eqb ((here.placed).home).0 ((here.placed).home).0 refl) by here.home) ∙ foreign)
 
     not_child : (p : Pid) → HomeHere places p k → same_pid child p ≡ false
-    not_child p here = sym (ap (is_birth_of p) is) ∙ unended_not_born BuiltMayFollow (λ system log e may. may.stands) system log e p valid now.0 stands (ap is_some here.found)
+    not_child p here = sym (ap (is_birth_of p) is) ∙ unended_not_born MayStand (λ system log e may. may.stands) system log e p valid now.0 stands (ap is_some here.found)
 
     -- the parent is at home elsewhere
     parent_away : (q : Placed) → placed_at places parent ≡ Some q → same_cluster q.home k ≡ false

@@ -11,7 +11,7 @@ use Rattle.bus_msg.specs.declared.entry.Entry.{Entry}
 use Rattle.bus_msg.specs.declared.placed.Placed.{Placed}
 use Rattle.bus_msg.specs.Places.{is_at_home, same_cluster, same_pid, unended_at}
 use Rattle.birth_notice.specs.Family.{first_unsynced}
-use Rattle.cert_sched.specs.Built.{BuiltMayFollow}
+use Rattle.cert_sched.specs.Built.{MayStand}
 use Rattle.cert_sched.specs.Kinds.{ChildrenSynced}
 use Rattle.cert_sched.specs.Legal.{IsLegalBy, Stands}
 use Rattle.cert_sched.specs.Parts.{rising}
@@ -71,7 +71,7 @@ home_among k p q (r ∷ qs) found home = by_tests (same_pid r.pid p) r.ended ref
 -- ---- beside a log
 
 module _ (c : ClusterView) (log : List Entry) (f : FollowsBuilt c.system log c) where
-  module _ (valid : is_system c.system ≡ true) (go : IsOpen BuiltMayFollow c.system log) (p child : Pid) (first : first_unsynced c.family p ≡ Some child) where
+  module _ (valid : is_system c.system ≡ true) (go : IsOpen MayStand c.system log) (p child : Pid) (first : first_unsynced c.family p ≡ Some child) where
     legal : IsLegalBy Stands c.system log
     legal = built_stands c.system log go.0
 

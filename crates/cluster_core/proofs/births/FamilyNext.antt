@@ -10,7 +10,7 @@ use Rattle.bus_msg.specs.declared.entry.Entry.{Entry}
 use Rattle.bus_msg.specs.Places.{same_pid}
 use Rattle.bus_msg.specs.PlacedAfter.{what}
 use Rattle.birth_notice.specs.Family.{stands_in}
-use Rattle.cert_sched.specs.Built.{BuiltMayFollow}
+use Rattle.cert_sched.specs.Built.{MayStand}
 use Rattle.cert_sched.specs.Legal.{IsLegalBy, Stands}
 use Rattle.cert_sched.proofs.LogLaws.{IsLegal-last}
 use Rattle.log_laws.specs.births.Unsynced.{changes_unsynced, unsynced_births}
@@ -21,9 +21,9 @@ use Rattle.cluster_core.specs.Families.{CanJoin, family_after}
 use Rattle.cluster_core.specs.Follows.{IsOpen}
 use Rattle.cluster_core.proofs.losses.NotMoved.{by_built}
 
-module _ (system : System) (log : List Entry) (e : Entry) (births : List (Pid × Pid)) (valid : is_system system ≡ true) (now : IsOpen BuiltMayFollow system log) (next : IsOpen BuiltMayFollow system (log ++ e ∷ [])) (kept : births ≡ unsynced_births system log) where
-  may : BuiltMayFollow system log e
-  may = IsLegal-last BuiltMayFollow system log e next.0
+module _ (system : System) (log : List Entry) (e : Entry) (births : List (Pid × Pid)) (valid : is_system system ≡ true) (now : IsOpen MayStand system log) (next : IsOpen MayStand system (log ++ e ∷ [])) (kept : births ≡ unsynced_births system log) where
+  may : MayStand system log e
+  may = IsLegal-last MayStand system log e next.0
 
   legal : IsLegalBy Stands system log
   legal = built_stands system log now.0

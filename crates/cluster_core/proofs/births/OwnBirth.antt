@@ -20,7 +20,7 @@ use Rattle.bus_msg.specs.PlacedAfter.{placed_after, what, with_birth}
 use Rattle.channel_table.specs.Changes.{pids_differ}
 use Rattle.cert_sched.specs.Account.{is_exit_of}
 use Rattle.cert_sched.specs.Appended.{entry_of}
-use Rattle.cert_sched.specs.Built.{BuiltMayFollow}
+use Rattle.cert_sched.specs.Built.{MayStand}
 use Rattle.cert_sched.specs.Deeds.{deeds_in, is_birth_of, is_cut, letter_for}
 use Rattle.cert_sched.specs.Kinds.{BirthHolds, KindHolds}
 use Rattle.cert_sched.specs.Legal.{IsLegalBy, Stands}
@@ -69,7 +69,7 @@ use Rattle.cluster_core.proofs.absorbing.Telling.{done_is}
 use Rattle.cluster_core.proofs.here.Within.{carried, runs_marked, start_within, within_same}
 
 module _ (system : System) (valid : is_system system ≡ true) (log : List Entry) (e : Entry) (c : ClusterView) (f : FollowsBeside all_of system log (unqueued c)) (b : BearsChild system log c)
-    (whole : entry_of system log (birth_post c.number b.pid (state_of b.process) b.child) ≡ e) (now : IsOpen BuiltMayFollow system log) (next : IsOpen BuiltMayFollow system (log ++ e ∷ [])) where
+    (whole : entry_of system log (birth_post c.number b.pid (state_of b.process) b.child) ≡ e) (now : IsOpen MayStand system log) (next : IsOpen MayStand system (log ++ e ∷ [])) where
   abbrev later : List Entry
   later = log ++ e ∷ []
 
@@ -101,7 +101,7 @@ module _ (system : System) (valid : is_system system ≡ true) (log : List Entry
   legal_later = built_stands system later next.0
 
   stands : Stands system log e
-  stands = (IsLegal-last BuiltMayFollow system log e next.0).stands
+  stands = (IsLegal-last MayStand system log e next.0).stands
 
   differ : pids_differ places.placed ≡ true
   differ = differ_built system log valid now.0
@@ -217,7 +217,7 @@ module _ (system : System) (valid : is_system system ≡ true) (log : List Entry
 
   -- none that is here is born by it
   not_child : (q : Pid) → HomeHere places q c.number → same_pid b.child q ≡ false
-  not_child q here = sym (ap (is_birth_of q) is) ∙ unended_not_born BuiltMayFollow (λ system log e may. may.stands) system log e q valid now.0 stands (ap is_some here.found)
+  not_child q here = sym (ap (is_birth_of q) is) ∙ unended_not_born MayStand (λ system log e may. may.stands) system log e q valid now.0 stands (ap is_some here.found)
 
   spares_other : (q : Pid) → same_pid p q ≡ false → HomeHere places q c.number → Spares system log e q
   spares_other q apart here = record {

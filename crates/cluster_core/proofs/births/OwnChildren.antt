@@ -9,7 +9,7 @@ use Rattle.sys_text.specs.Valid.{is_system}
 use Rattle.bus_msg.specs.declared.entry.Entry.{Entry}
 use Rattle.bus_msg.specs.declared.placed.Placed.{Placed}
 use Rattle.bus_msg.specs.Places.{Places, is_cluster, same_cluster, same_pid, unended_at}
-use Rattle.cert_sched.specs.Built.{BuiltMayFollow}
+use Rattle.cert_sched.specs.Built.{MayStand}
 use Rattle.cert_sched.specs.Legal.{IsLegalBy, Stands}
 use Rattle.cert_sched.specs.Rules.{home_at}
 use Rattle.cert_sched.specs.Schedule.{placement}
@@ -92,7 +92,7 @@ home_concerns places k b = by_found (unended_at places b.1)
     by_found None home = absurd (true≢false (sym home))
     by_found (Some q) home = ap (λ x. x || is_cluster q.backup k) home
 
-pub own_first : (c : ClusterView) (log : List Entry) (p : Pid) (h : Held) → is_system c.system ≡ true → IsOpen BuiltMayFollow c.system log → FollowsHeard c.system log c → held_at c p ≡ Some h
+pub own_first : (c : ClusterView) (log : List Entry) (p : Pid) (h : Held) → is_system c.system ≡ true → IsOpen MayStand c.system log → FollowsHeard c.system log c → held_at c p ≡ Some h
     → first_unsynced c.family p ≡ first_unsynced (unsynced_births c.system log) p
 own_first c log p h valid now f there =
     ap (λ bs. first_unsynced bs p) f.family

@@ -29,7 +29,7 @@ use Rattle.cert_sched.specs.Account.{account_after}
 use Rattle.cert_sched.specs.Steps.{silent_upto, emission_at, before_fork_at}
 use Rattle.cert_sched.specs.Rules.{is_over, has_its_pages}
 use Rattle.cert_sched.specs.Legal.{IsLegalBy}
-use Rattle.cert_sched.specs.Built.{BuiltMayFollow}
+use Rattle.cert_sched.specs.Built.{MayStand}
 use Rattle.log_laws.specs.records.Kept.{has_backup_in}
 use Rattle.page_waits.specs.Waiting.{WaitingState}
 use Rattle.replay_laws.specs.pages.Waits.{WaitsAs, none_queued}
@@ -41,19 +41,19 @@ use Rattle.cluster_core.proofs.examples.WorkedViews.{pid, cluster, by_cluster, i
 
 -- ---- the log up to the synchronisation
 
-letter_follows : BuiltMayFollow far_system [] far_0
+letter_follows : MayStand far_system [] far_0
 unfolding boot one_step steps silently plain_after schedule_of placement told is_over silent_upto emission_at before_fork_at backup_record account_after
 letter_follows = record { stands = record { placed = (refl, refl, refl); by_right = refl; applies = refl; kind = refl }; built = refl; limits = refl; new_page = refl; pages = refl }
 
-end_follows : BuiltMayFollow far_system (far_0 ∷ []) far_1
+end_follows : MayStand far_system (far_0 ∷ []) far_1
 unfolding boot one_step steps silently plain_after schedule_of placement told is_over silent_upto emission_at before_fork_at backup_record account_after
 end_follows = record { stands = record { placed = (refl, refl, refl); by_right = refl; applies = refl; kind = refl }; built = refl; limits = refl; new_page = refl; pages = refl }
 
-page_follows : BuiltMayFollow far_system came far_2
+page_follows : MayStand far_system came far_2
 unfolding boot one_step steps silently plain_after schedule_of placement told is_over silent_upto emission_at before_fork_at backup_record account_after
 page_follows = record { stands = record { placed = (refl, refl, refl); by_right = refl; applies = refl; kind = record { within = lit< tt; not_before = lit≤ tt; page = refl } }; built = refl; limits = refl; new_page = refl; pages = refl }
 
-sync_follows : BuiltMayFollow far_system (far_0 ∷ far_1 ∷ far_2 ∷ []) synced_3
+sync_follows : MayStand far_system (far_0 ∷ far_1 ∷ far_2 ∷ []) synced_3
 unfolding boot one_step steps silently plain_after schedule_of placement told is_over silent_upto emission_at before_fork_at backup_record account_after
 sync_follows = record { stands = record { placed = (refl, refl, refl); by_right = refl; applies = refl; kind = record { state = refl; took_first = refl; reads = refl; children = refl; account = refl; due = refl } }; built = refl; limits = refl; new_page = refl; pages = refl }
 
@@ -136,19 +136,19 @@ lost_6 = entry 6 (by_cluster 1) 2 (PageIs (pid 16) 0 read_page)
 abbrev served_log : List Entry
 served_log = far_0 ∷ far_1 ∷ far_2 ∷ synced_3 ∷ lost_4 ∷ lost_5 ∷ lost_6 ∷ []
 
-loss_follows : BuiltMayFollow far_system synced_log lost_4
+loss_follows : MayStand far_system synced_log lost_4
 unfolding boot one_step steps silently plain_after schedule_of placement told is_over silent_upto emission_at before_fork_at backup_record account_after
 loss_follows = record { stands = record { placed = (refl, refl, refl); by_right = refl; applies = refl; kind = refl }; built = refl; limits = refl; new_page = refl; pages = refl }
 
-fetch_follows : BuiltMayFollow far_system lost_log lost_5
+fetch_follows : MayStand far_system lost_log lost_5
 unfolding boot one_step steps silently plain_after schedule_of placement told is_over silent_upto emission_at before_fork_at backup_record account_after
 fetch_follows = record { stands = record { placed = (refl, refl, refl); by_right = refl; applies = refl; kind = record { within = lit< tt; moved = refl; unasked = refl } }; built = refl; limits = refl; new_page = refl; pages = refl }
 
-page_comes : BuiltMayFollow far_system (far_0 ∷ far_1 ∷ far_2 ∷ synced_3 ∷ lost_4 ∷ lost_5 ∷ []) lost_6
+page_comes : MayStand far_system (far_0 ∷ far_1 ∷ far_2 ∷ synced_3 ∷ lost_4 ∷ lost_5 ∷ []) lost_6
 unfolding boot one_step steps silently plain_after schedule_of placement told is_over silent_upto emission_at before_fork_at backup_record account_after
 page_comes = record { stands = record { placed = (refl, refl, refl); by_right = refl; applies = refl; kind = record { asked = refl; page = refl } }; built = refl; limits = refl; new_page = refl; pages = refl }
 
-served_legal : IsLegalBy BuiltMayFollow far_system served_log
+served_legal : IsLegalBy MayStand far_system served_log
 unfolding IsLegalBy
 served_legal = (letter_follows, (end_follows, (page_follows, (sync_follows, (loss_follows, (fetch_follows, (page_comes, tt)))))))
 
@@ -212,27 +212,27 @@ said_8 = entry 8 (by_cluster 1) 2 (PageIs (pid 16) 0 read_page)
 abbrev rolled_log : List Entry
 rolled_log = far_0 ∷ far_1 ∷ far_2 ∷ synced_3 ∷ ended_4 ∷ said_5 ∷ said_6 ∷ said_7 ∷ said_8 ∷ []
 
-exit_follows : BuiltMayFollow far_system synced_log ended_4
+exit_follows : MayStand far_system synced_log ended_4
 unfolding boot one_step steps silently plain_after schedule_of placement told is_over silent_upto emission_at before_fork_at backup_record account_after
 exit_follows = record { stands = record { placed = (refl, refl, refl); by_right = refl; applies = refl; kind = (refl, refl) }; built = refl; limits = refl; new_page = refl; pages = refl }
 
-said_follows : BuiltMayFollow far_system ended_log said_5
+said_follows : MayStand far_system ended_log said_5
 unfolding boot one_step steps silently plain_after schedule_of placement told is_over silent_upto emission_at before_fork_at backup_record account_after
 said_follows = record { stands = record { placed = (refl, refl, refl); by_right = refl; applies = refl; kind = refl }; built = refl; limits = refl; new_page = refl; pages = refl }
 
-later_loss_follows : BuiltMayFollow far_system (far_0 ∷ far_1 ∷ far_2 ∷ synced_3 ∷ ended_4 ∷ said_5 ∷ []) said_6
+later_loss_follows : MayStand far_system (far_0 ∷ far_1 ∷ far_2 ∷ synced_3 ∷ ended_4 ∷ said_5 ∷ []) said_6
 unfolding boot one_step steps silently plain_after schedule_of placement told is_over silent_upto emission_at before_fork_at backup_record account_after
 later_loss_follows = record { stands = record { placed = (refl, refl, refl); by_right = refl; applies = refl; kind = refl }; built = refl; limits = refl; new_page = refl; pages = refl }
 
-later_fetch_follows : BuiltMayFollow far_system said_log said_7
+later_fetch_follows : MayStand far_system said_log said_7
 unfolding boot one_step steps silently plain_after schedule_of placement told is_over silent_upto emission_at before_fork_at backup_record account_after
 later_fetch_follows = record { stands = record { placed = (refl, refl, refl); by_right = refl; applies = refl; kind = record { within = lit< tt; moved = refl; unasked = refl } }; built = refl; limits = refl; new_page = refl; pages = refl }
 
-later_page_comes : BuiltMayFollow far_system (far_0 ∷ far_1 ∷ far_2 ∷ synced_3 ∷ ended_4 ∷ said_5 ∷ said_6 ∷ said_7 ∷ []) said_8
+later_page_comes : MayStand far_system (far_0 ∷ far_1 ∷ far_2 ∷ synced_3 ∷ ended_4 ∷ said_5 ∷ said_6 ∷ said_7 ∷ []) said_8
 unfolding boot one_step steps silently plain_after schedule_of placement told is_over silent_upto emission_at before_fork_at backup_record account_after
 later_page_comes = record { stands = record { placed = (refl, refl, refl); by_right = refl; applies = refl; kind = record { asked = refl; page = refl } }; built = refl; limits = refl; new_page = refl; pages = refl }
 
-rolled_legal : IsLegalBy BuiltMayFollow far_system rolled_log
+rolled_legal : IsLegalBy MayStand far_system rolled_log
 unfolding IsLegalBy
 rolled_legal = (letter_follows, (end_follows, (page_follows, (sync_follows, (exit_follows, (said_follows, (later_loss_follows, (later_fetch_follows, (later_page_comes, tt)))))))))
 

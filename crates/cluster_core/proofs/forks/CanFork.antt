@@ -11,7 +11,7 @@ use Rattle.sys_calls.specs.Next.{next_step}
 use Rattle.bus_msg.specs.declared.entry.Entry.{Entry}
 use Rattle.roll_forward.specs.RunsOut.{RunsOn}
 use Rattle.roll_forward.specs.Rolling.{with_saved}
-use Rattle.cert_sched.specs.Built.{BuiltMayFollow}
+use Rattle.cert_sched.specs.Built.{MayStand}
 use Rattle.cert_sched.specs.Legal.{IsLegalBy, Stands}
 use Rattle.cert_sched.specs.Record.{has_state}
 use Rattle.cert_sched.specs.Simulation.{IsUnended}
@@ -40,7 +40,7 @@ runs_less s counts More Less (Emits (Sent letter) t) births less on = (on.0, les
 runs_less s counts More Less (Emits (Ended end) t) births less on = absurd on
 runs_less s counts More Less Over births less on = absurd on
 
-module _ (c : ClusterView) (log : List Entry) (valid : is_system c.system ≡ true) (empty : c.queue ≡ []) (go : IsOpen BuiltMayFollow c.system log) (f : FollowsBuilt c.system log c) where
+module _ (c : ClusterView) (log : List Entry) (valid : is_system c.system ≡ true) (empty : c.queue ≡ []) (go : IsOpen MayStand c.system log) (f : FollowsBuilt c.system log c) where
   legal : IsLegalBy Stands c.system log
   legal = built_stands c.system log go.0
 
@@ -73,6 +73,6 @@ module _ (c : ClusterView) (log : List Entry) (valid : is_system c.system ≡ tr
             (rolls_on c.system log p l.now l.led s counts births rolls.rolls left),
       )
 
-pub can_fork_again : (c : ClusterView) (log : List Entry) → is_system c.system ≡ true → c.queue ≡ [] → IsOpen BuiltMayFollow c.system log → FollowsBuilt c.system log c → CanForkAgain c.here
+pub can_fork_again : (c : ClusterView) (log : List Entry) → is_system c.system ≡ true → c.queue ≡ [] → IsOpen MayStand c.system log → FollowsBuilt c.system log c → CanForkAgain c.here
 can_fork_again c log valid empty go f p process counts births at n =
     at_forks c log valid empty go f n p (state_of process) counts births (unended_here c log valid empty go f p (Rolls process counts births) at) ((f.processes).held p (Rolls process counts births) at).1

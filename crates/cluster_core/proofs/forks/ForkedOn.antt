@@ -10,7 +10,7 @@ use Rattle.sys_calls.specs.Next.{next_step}
 use Rattle.sys_calls.proofs.Counting.{ended_is_over}
 use Rattle.bus_msg.specs.declared.entry.Entry.{Entry}
 use Rattle.roll_forward.specs.RunsOut.{nothing_left}
-use Rattle.cert_sched.specs.Built.{BuiltMayFollow}
+use Rattle.cert_sched.specs.Built.{MayStand}
 use Rattle.cert_sched.specs.Legal.{IsLegalBy, Stands}
 use Rattle.cert_sched.specs.Parts.{rising}
 use Rattle.cert_sched.specs.Rules.{has_its_pages}
@@ -36,7 +36,7 @@ use Rattle.cluster_core.proofs.forks.ForkedHere.{kept_at_begin, kept_at_fork, pi
 use Rattle.cluster_core.proofs.rolling.GoingHeld.{going_is_held, going_marked, going_within}
 use Rattle.cluster_core.proofs.here.Within.{start_within}
 
-module _ (c : ClusterView) (log : List Entry) (p : Pid) (process : Process) (counts : Counts) (child : Pid) (births : List Pid) (valid : is_system c.system ≡ true) (empty : c.queue ≡ []) (go : IsOpen BuiltMayFollow c.system log) (f : FollowsBuilt c.system log c)
+module _ (c : ClusterView) (log : List Entry) (p : Pid) (process : Process) (counts : Counts) (child : Pid) (births : List Pid) (valid : is_system c.system ≡ true) (empty : c.queue ≡ []) (go : IsOpen MayStand c.system log) (f : FollowsBuilt c.system log c)
     (there : held_at c p ≡ Some (Rolls process counts (child ∷ births))) (forks : next_step (state_of process) ≡ Forks) where
   legal : IsLegalBy Stands c.system log
   legal = built_stands c.system log go.0
@@ -137,7 +137,7 @@ module _ (c : ClusterView) (log : List Entry) (p : Pid) (process : Process) (cou
   pub family_forked : ForksLeft c.family now
   family_forked = forks_forked c.system log p process counts child births c.here valid legal parent_open behind there held_now c.family f.family f.forks
 
-pub forks_again_follows : (c : ClusterView) (log : List Entry) (p : Pid) (process : Process) (counts : Counts) (child : Pid) (births : List Pid) → is_system c.system ≡ true → c.queue ≡ [] → IsOpen BuiltMayFollow c.system log → FollowsBuilt c.system log c
+pub forks_again_follows : (c : ClusterView) (log : List Entry) (p : Pid) (process : Process) (counts : Counts) (child : Pid) (births : List Pid) → is_system c.system ≡ true → c.queue ≡ [] → IsOpen MayStand c.system log → FollowsBuilt c.system log c
     → held_at c p ≡ Some (Rolls process counts (child ∷ births)) → next_step (state_of process) ≡ Forks → FollowsBuilt c.system log (record c { here = with_fork_again p process counts child births c.here })
 forks_again_follows c log p process counts child births valid empty go f there forks = record {
   log = record { cursor = (f.log).cursor; places = (f.log).places };

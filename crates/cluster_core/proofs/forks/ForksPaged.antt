@@ -15,7 +15,7 @@ use Rattle.bus_msg.specs.declared.entry.Entry.{Entry}
 use Rattle.bus_msg.specs.declared.entry.Post.{Post}
 use Rattle.bus_msg.specs.Places.{same_pid}
 use Rattle.bus_msg.specs.PlacedAfter.{what}
-use Rattle.cert_sched.specs.Built.{BuiltMayFollow}
+use Rattle.cert_sched.specs.Built.{MayStand}
 use Rattle.cert_sched.specs.Family.{births_of, is_unsynced}
 use Rattle.cert_sched.specs.Legal.{IsLegalBy}
 use Rattle.cert_sched.specs.Record.{has_state}
@@ -88,7 +88,7 @@ bears_going_on w child among = by_whole (is_whole w) (w.kept).state
 
 -- ---- all that are here
 
-module _ (system : System) (valid : is_system system ≡ true) (log : List Entry) (e : Entry) (before : IsLegalBy BuiltMayFollow system log) (legal : IsLegalBy BuiltMayFollow system (log ++ e ∷ [])) (of : is_of_page (what e) ≡ true) (queue : List Post) where
+module _ (system : System) (valid : is_system system ≡ true) (log : List Entry) (e : Entry) (before : IsLegalBy MayStand system log) (legal : IsLegalBy MayStand system (log ++ e ∷ [])) (of : is_of_page (what e) ≡ true) (queue : List Post) where
   -- no page comes to a child without a state
   child_stays : (child : Pid) (was : Held) → WaitsAs system log queue child was → has_state system log child ≡ false → is_waiting (page_at (what e) child was) ≡ is_waiting was
   child_stays child was held none = by_page (λ w. what e ≡ w → is_waiting (page_at w child was) ≡ is_waiting was) (λ pid index is. refl) (λ pid index bytes is. by_pid pid index bytes is (same_pid pid child) refl) (what e) of refl

@@ -16,7 +16,7 @@ use Rattle.bus_msg.specs.declared.entry.Entry.{Entry}
 use Rattle.bus_msg.specs.declared.placed.Placed.{Placed}
 use Rattle.bus_msg.specs.Places.{ClusterPlace, Places, is_cluster, never_lost, same_cluster, same_pid, servers_in, unended_at, placed_at}
 use Rattle.bus_msg.specs.PlacedAfter.{after_loss, after_sync, moved_to, placed_after, what, raised_serial}
-use Rattle.cert_sched.specs.Built.{BuiltMayFollow, is_built}
+use Rattle.cert_sched.specs.Built.{MayStand, is_built}
 use Rattle.cert_sched.specs.Losses.{capped, is_by_cluster, is_crash_of, least_steps}
 use Rattle.cert_sched.specs.Schedule.{placement}
 use Rattle.cert_sched.proofs.ExitLaws.{unended_exit}
@@ -129,8 +129,8 @@ sync_keeps_concerns places k pid small read took b =
 
 -- ---- the law
 
-module _ (c : ClusterView) (log : List Entry) (e : Entry) (server : Option PagerState) (valid : is_system c.system ≡ true) (now : IsOpen BuiltMayFollow c.system log)
-    (next : IsOpen BuiltMayFollow c.system (log ++ e ∷ [])) (comes : goes_to e.dests c.number ≡ true) (foreign : is_by_cluster c.number e ≡ false) (spared : is_crash_of c.number (what e) ≡ false)
+module _ (c : ClusterView) (log : List Entry) (e : Entry) (server : Option PagerState) (valid : is_system c.system ≡ true) (now : IsOpen MayStand c.system log)
+    (next : IsOpen MayStand c.system (log ++ e ∷ [])) (comes : goes_to e.dests c.number ≡ true) (foreign : is_by_cluster c.number e ≡ false) (spared : is_crash_of c.number (what e) ≡ false)
     (order : are_rising (moved_by c.places c.number (what e) (records_after (what e) c.records)) ≡ true) (serves : Serves (placement c.system log) e c.server server)
     (f : FollowsHeard c.system log c) where
   abbrev k : ClusterNo
@@ -142,8 +142,8 @@ module _ (c : ClusterView) (log : List Entry) (e : Entry) (server : Option Pager
   abbrev later : List Entry
   later = log ++ e ∷ []
 
-  may : BuiltMayFollow c.system log e
-  may = IsLegal-last BuiltMayFollow c.system log e next.0
+  may : MayStand c.system log e
+  may = IsLegal-last MayStand c.system log e next.0
 
   built : FollowsBuilt c.system log (shadow log c)
   built = shadow_follows c log valid now.0 f
@@ -393,8 +393,8 @@ module _ (c : ClusterView) (log : List Entry) (e : Entry) (server : Option Pager
     own = subst (λ n. AllOwn (n + 1) heard.here) (sym place_is) own_later;
   }
 
-pub taken_in_heard : (c : ClusterView) (log : List Entry) (e : Entry) (server : Option PagerState) → is_system c.system ≡ true → IsOpen BuiltMayFollow c.system log
-    → IsOpen BuiltMayFollow c.system (log ++ e ∷ []) → goes_to e.dests c.number ≡ true → is_by_cluster c.number e ≡ false
+pub taken_in_heard : (c : ClusterView) (log : List Entry) (e : Entry) (server : Option PagerState) → is_system c.system ≡ true → IsOpen MayStand c.system log
+    → IsOpen MayStand c.system (log ++ e ∷ []) → goes_to e.dests c.number ≡ true → is_by_cluster c.number e ≡ false
     → is_crash_of c.number (what e) ≡ false → are_rising (moved_by c.places c.number (what e) (records_after (what e) c.records)) ≡ true → Serves (placement c.system log) e c.server server
     → FollowsHeard c.system log c
     → FollowsHeard c.system (log ++ e ∷ []) (with_server server (with_heard c e))

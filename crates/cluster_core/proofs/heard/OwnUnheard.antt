@@ -15,7 +15,7 @@ use Rattle.bus_msg.specs.Places.{ClusterPlace, Places, lives_in, same_cluster, s
 use Rattle.bus_msg.specs.PlacedAfter.{placed_after, what}
 use Rattle.bus_msg.specs.Route.{route}
 use Rattle.cert_sched.specs.Appended.{entry_of}
-use Rattle.cert_sched.specs.Built.{BuiltMayFollow, UnlostMayFollow, is_unlost}
+use Rattle.cert_sched.specs.Built.{MayStand, UnlostMayFollow, is_unlost}
 use Rattle.cert_sched.specs.Losses.{capped, is_by_cluster, is_from, least_steps}
 use Rattle.cert_sched.specs.Schedule.{placement}
 use Rattle.log_laws.specs.births.Unsynced.{unsynced_births}
@@ -47,7 +47,7 @@ head_stays c (Return j) unlost = absurd (true≢false (sym unlost))
 head_stays c (Rebackup to fresh recs) unlost = absurd (true≢false (sym unlost))
 head_stays c _ unlost = refl
 
-module _ (c : ClusterView) (log : List Entry) (e : Entry) (valid : is_system c.system ≡ true) (now : IsOpen BuiltMayFollow c.system log) (next : IsOpen BuiltMayFollow c.system (log ++ e ∷ []))
+module _ (c : ClusterView) (log : List Entry) (e : Entry) (valid : is_system c.system ≡ true) (now : IsOpen MayStand c.system log) (next : IsOpen MayStand c.system (log ++ e ∷ []))
     (away : goes_to e.dests c.number ≡ false) (f : FollowsHeard c.system log c) (tried : c.tried ≡ true) (post : Post) (rest : List Post) (queue : c.queue ≡ post ∷ rest)
     (whole : entry_of c.system log post ≡ e) where
   abbrev k : ClusterNo
@@ -210,7 +210,7 @@ module _ (c : ClusterView) (log : List Entry) (e : Entry) (valid : is_system c.s
       subst (FollowsHeard c.system later)
       (sym (ap (after_sent_heard c) queue ∙ ap (λ w. record (after_head_heard c w) { queue = rest; tried = false }) (sym said) ∙ as_known)) follows_known
 
-pub sent_unheard : (c : ClusterView) (log : List Entry) (e : Entry) → is_system c.system ≡ true → IsOpen BuiltMayFollow c.system log → IsOpen BuiltMayFollow c.system (log ++ e ∷ [])
+pub sent_unheard : (c : ClusterView) (log : List Entry) (e : Entry) → is_system c.system ≡ true → IsOpen MayStand c.system log → IsOpen MayStand c.system (log ++ e ∷ [])
     → goes_to e.dests c.number ≡ false → FollowsHeard c.system log c → c.tried ≡ true
     → option_map (entry_of c.system log) (head_of c.queue) ≡ Some e → FollowsHeard c.system (log ++ e ∷ []) (after_sent_heard c c.queue)
 sent_unheard c log e valid now next away f tried head = by_queue c.queue refl head

@@ -18,7 +18,7 @@ use Rattle.bus_msg.specs.declared.placed.Placed.{Placed}
 use Rattle.bus_msg.specs.Places.{Places, is_cluster, lives_in, same_cluster, same_pid, servers_in, unended_at, ClusterPlace}
 use Rattle.bus_msg.specs.PlacedAfter.{after_sync, placed_after, what}
 use Rattle.bus_msg.specs.Route.{backup_of, home_of, route, to_clusters}
-use Rattle.cert_sched.specs.Built.{BuiltMayFollow}
+use Rattle.cert_sched.specs.Built.{MayStand}
 use Rattle.cert_sched.specs.Losses.{capped, is_by_cluster, is_crash_of, least_steps}
 use Rattle.cert_sched.specs.Rules.{is_by, is_by_home, is_by_right}
 use Rattle.cert_sched.specs.Schedule.{placement}
@@ -88,7 +88,7 @@ own_upto m n (e ∷ here) order own = (one e.1 own.0, own_upto m n here order ow
 
 -- ---- the law
 
-module _ (c : ClusterView) (log : List Entry) (e : Entry) (valid : is_system c.system ≡ true) (now : IsOpen BuiltMayFollow c.system log) (next : IsOpen BuiltMayFollow c.system (log ++ e ∷ []))
+module _ (c : ClusterView) (log : List Entry) (e : Entry) (valid : is_system c.system ≡ true) (now : IsOpen MayStand c.system log) (next : IsOpen MayStand c.system (log ++ e ∷ []))
     (away : goes_to e.dests c.number ≡ false) (f : FollowsHeard c.system log c) where
   abbrev k : ClusterNo
   k = c.number
@@ -99,8 +99,8 @@ module _ (c : ClusterView) (log : List Entry) (e : Entry) (valid : is_system c.s
   abbrev later : List Entry
   later = log ++ e ∷ []
 
-  pub may : BuiltMayFollow c.system log e
-  may = IsLegal-last BuiltMayFollow c.system log e next.0
+  pub may : MayStand c.system log e
+  may = IsLegal-last MayStand c.system log e next.0
 
   pub elsewhere : goes_to (route places (what e)) k ≡ false
   elsewhere = ap (λ dests. goes_to dests k) (sym ((may.stands).placed).1) ∙ away
@@ -356,7 +356,7 @@ module _ (c : ClusterView) (log : List Entry) (e : Entry) (valid : is_system c.s
       own = f.own;
     }
 
-pub passed_over : (c : ClusterView) (log : List Entry) (e : Entry) → is_system c.system ≡ true → IsOpen BuiltMayFollow c.system log → IsOpen BuiltMayFollow c.system (log ++ e ∷ [])
+pub passed_over : (c : ClusterView) (log : List Entry) (e : Entry) → is_system c.system ≡ true → IsOpen MayStand c.system log → IsOpen MayStand c.system (log ++ e ∷ [])
     → goes_to e.dests c.number ≡ false → is_by_cluster c.number e ≡ false → FollowsHeard c.system log c
     → FollowsHeard c.system (log ++ e ∷ []) c
 passed_over c log e valid now next away foreign f = passed_over_so c log e valid now next away f foreign

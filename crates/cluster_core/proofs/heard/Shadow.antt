@@ -9,7 +9,7 @@ use Rattle.sys_text.specs.Valid.{is_system}
 use Rattle.bus_msg.specs.declared.entry.Entry.{Entry}
 use Rattle.bus_msg.specs.declared.placed.Placed.{Placed}
 use Rattle.bus_msg.specs.Places.{Places, is_cluster, same_cluster, same_pid, unended_at}
-use Rattle.cert_sched.specs.Built.{BuiltMayFollow}
+use Rattle.cert_sched.specs.Built.{MayStand}
 use Rattle.cert_sched.specs.Legal.{IsLegalBy}
 use Rattle.cert_sched.specs.Losses.{capped}
 use Rattle.cert_sched.specs.Schedule.{placement}
@@ -84,7 +84,7 @@ shadow_queued c log (inr (inl y)) = inr (inl (record {
 }))
 shadow_queued c log (inr (inr b)) = inr (inr (record { pid = b.pid; process = b.process; child = b.child; posts = b.posts; there = b.there; stands = b.stands; undue = b.undue; next = b.next }))
 
-pub shadow_follows : (c : ClusterView) (log : List Entry) → is_system c.system ≡ true → IsLegalBy BuiltMayFollow c.system log → FollowsHeard c.system log c → FollowsBuilt c.system log (shadow log c)
+pub shadow_follows : (c : ClusterView) (log : List Entry) → is_system c.system ≡ true → IsLegalBy MayStand c.system log → FollowsHeard c.system log c → FollowsBuilt c.system log (shadow log c)
 shadow_follows c log valid legal f = record {
   log = record { cursor = refl; places = refl };
   processes = record { held = (f.processes).held; each_once = (f.processes).each_once };

@@ -11,7 +11,7 @@ use Rattle.proc_state.specs.State.{state_of, has_ended}
 use Rattle.plain_kernel.specs.Kernel.{process_at}
 use Rattle.bus_msg.specs.declared.entry.Entry.{Entry}
 use Rattle.roll_forward.specs.RunsOut.{RunsOut}
-use Rattle.cert_sched.specs.Built.{BuiltMayFollow}
+use Rattle.cert_sched.specs.Built.{MayStand}
 use Rattle.cert_sched.specs.Legal.{IsLegalBy, Stands}
 use Rattle.cert_sched.specs.Rules.{keeps_limits}
 use Rattle.cert_sched.specs.Schedule.{done, process_after}
@@ -101,7 +101,7 @@ synced_within system process = start_within (limits_of system) (synced process) 
 
 -- ---- steps of roll-forward
 
-module _ (system : System) (log : List Entry) (p : Pid) (valid : is_system system ≡ true) (open_log : IsOpen BuiltMayFollow system log) (unended : IsUnended system log p) where
+module _ (system : System) (log : List Entry) (p : Pid) (valid : is_system system ≡ true) (open_log : IsOpen MayStand system log) (unended : IsUnended system log p) where
   -- one that has just caught up is within its limits
   caught_within : (n : ℕ) (s : Process) (counts : Counts) (births : List Pid) (q : Process) → RollsBehind system log p (state_of s) counts births → RollsTo n (Rolls s counts births) (Runs q) → IsHeldAs system log [] p (Runs q)
       → MarkedIfThere CarriesMarks system log p (unended_process (Runs q)) → is_within (limits_of system) q ≡ true

@@ -20,7 +20,7 @@ use Rattle.bus_msg.specs.PlacedAfter.{what, placed_after, after_loss, after_sync
 use Rattle.channel_table.specs.Changes.{pids_differ}
 use Rattle.t32_base.specs.declared.process.End.{End}
 use Rattle.t32_base.specs.Small.{SmallState}
-use Rattle.cert_sched.specs.Built.{BuiltMayFollow}
+use Rattle.cert_sched.specs.Built.{MayStand}
 use Rattle.cert_sched.specs.Schedule.{placement, placed_root}
 use Rattle.cert_sched.specs.Legal.{IsLegalBy}
 use Rattle.cert_sched.specs.Kinds.{BirthHolds, KindHolds, next_child_at}
@@ -128,7 +128,7 @@ birth_live places parent child r differ there live = subst (λ o. BackupsLive (w
             ∙ sym (find-append (λ (q : Placed). same_pid q.pid p && not q.ended) places.placed (child_of r child ∷ [])) ∙ found)
         by_pid false apart = live p q b (sym (born_beside p child places (Some r) apart) ∙ found) backup
 
-next_live : (system : System) (log : List Entry) (e : Entry) → pids_differ (placement system log).placed ≡ true → BackupsLive (placement system log) → BuiltMayFollow system log e → BackupsLive (placement system (log ++ e ∷ []))
+next_live : (system : System) (log : List Entry) (e : Entry) → pids_differ (placement system log).placed ≡ true → BackupsLive (placement system log) → MayStand system log e → BackupsLive (placement system (log ++ e ∷ []))
 next_live system log e differ live may = subst BackupsLive (sym (placement-snoc system log e)) (by_loss (kind_is (what e) may.built))
   where
     places : Places
@@ -151,14 +151,14 @@ next_live system log e differ live may = subst BackupsLive (sym (placement-snoc 
 -- ---- the whole
 
 record Both (system : System) (log : List Entry) : Type 0 where
-  pub legal : IsLegalBy BuiltMayFollow system log
+  pub legal : IsLegalBy MayStand system log
   pub live : BackupsLive (placement system log)
 
-none_legal : (system : System) → IsLegalBy BuiltMayFollow system []
+none_legal : (system : System) → IsLegalBy MayStand system []
 unfolding IsLegalBy
 none_legal system = tt
 
-pub backups_live : (system : System) (log : List Entry) → is_system system ≡ true → IsLegalBy BuiltMayFollow system log → BackupsLive (placement system log)
+pub backups_live : (system : System) (log : List Entry) → is_system system ≡ true → IsLegalBy MayStand system log → BackupsLive (placement system log)
 backups_live system log valid legal =
-    (legal_induction BuiltMayFollow system (Both system) (record { legal = none_legal system; live = live_at_boot system valid })
-    (λ log e both may. record { legal = IsLegal-snoc BuiltMayFollow system log e both.legal may; live = next_live system log e (differ_built system log valid both.legal) both.live may }) log legal).live
+    (legal_induction MayStand system (Both system) (record { legal = none_legal system; live = live_at_boot system valid })
+    (λ log e both may. record { legal = IsLegal-snoc MayStand system log e both.legal may; live = next_live system log e (differ_built system log valid both.legal) both.live may }) log legal).live

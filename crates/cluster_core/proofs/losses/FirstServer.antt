@@ -16,7 +16,7 @@ use Rattle.cert_sched.specs.Parts.{first_of}
 use Rattle.cert_sched.specs.Schedule.{placement}
 use Rattle.cert_sched.specs.Rules.{is_by}
 use Rattle.cert_sched.specs.Legal.{IsLegalBy}
-use Rattle.cert_sched.specs.Built.{BuiltMayFollow, is_built}
+use Rattle.cert_sched.specs.Built.{MayStand, is_built}
 use Rattle.cert_sched.specs.Losses.{is_crash_of, was_lost_in}
 use Rattle.cert_sched.specs.Scripted.{is_server}
 use Rattle.cert_sched.proofs.BirthClusters.{birth_keeps}
@@ -76,16 +76,16 @@ never_before _ places k built never = record { before = never; no_loss = refl }
 -- ---- a log
 
 -- the two page servers stay those of the system
-pager_stays : (system : System) (log : List Entry) → IsLegalBy BuiltMayFollow system log → (placement system log).pager ≡ system.pager
+pager_stays : (system : System) (log : List Entry) → IsLegalBy MayStand system log → (placement system log).pager ≡ system.pager
 unfolding placement
 pager_stays system log legal =
-    legal_induction BuiltMayFollow system (λ log. (placement system log).pager ≡ system.pager) refl
+    legal_induction MayStand system (λ log. (placement system log).pager ≡ system.pager) refl
     (λ log e same may. ap (λ (p : Places). p.pager) (placement-snoc system log e) ∙ same_pager (what e) (placement system log) may.built ∙ same) log legal
 
 -- a cluster that the placement says was never lost has no loss in the log
-never_in : (system : System) (log : List Entry) (k : ClusterNo) → IsLegalBy BuiltMayFollow system log → never_lost (placement system log) k ≡ true → was_lost_in log k ≡ false
+never_in : (system : System) (log : List Entry) (k : ClusterNo) → IsLegalBy MayStand system log → never_lost (placement system log) k ≡ true → was_lost_in log k ≡ false
 never_in system log k legal =
-    legal_induction BuiltMayFollow system (λ log. never_lost (placement system log) k ≡ true → was_lost_in log k ≡ false) (λ never. refl)
+    legal_induction MayStand system (λ log. never_lost (placement system log) k ≡ true → was_lost_in log k ≡ false) (λ never. refl)
     (λ log e more may never.
     let b = never_before (what e) (placement system log) k may.built (ap (λ (p : Places). never_lost p k) (sym (placement-snoc system log e)) ∙ never) in
     list_any-append (λ (e : Entry). is_crash_of k (what e)) log (e ∷ []) ∙ (λ i. more b.before i || (b.no_loss i || false))) log legal
@@ -119,7 +119,7 @@ pub record FirstServes (system : System) (log : List Entry) (k : ClusterNo) : Ty
   pub server : is_server system k ≡ true
 
 -- in a log of the kinds that are built
-pub first_serves : (system : System) (log : List Entry) (k : ClusterNo) → IsLegalBy BuiltMayFollow system log → is_by (Cluster k) (first_of (servers_in (placement system log))) ≡ true → FirstServes system log k
+pub first_serves : (system : System) (log : List Entry) (k : ClusterNo) → IsLegalBy MayStand system log → is_by (Cluster k) (first_of (servers_in (placement system log))) ≡ true → FirstServes system log k
 first_serves system log k legal first = record {
   unlost = never_in system log k legal (first_server (placement system log) k first);
   server = ap (λ pager. same_cluster k pager.0 || same_cluster k pager.1) (sym (pager_stays system log legal)) ∙ first_of_pair (placement system log) k first;

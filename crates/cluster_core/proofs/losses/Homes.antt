@@ -13,7 +13,7 @@ use Rattle.cert_sched.specs.Parts.{rising}
 use Rattle.sys_text.specs.declared.system.System.{System}
 use Rattle.sys_text.specs.Valid.{is_system}
 use Rattle.bus_msg.specs.declared.entry.Entry.{Entry}
-use Rattle.cert_sched.specs.Built.{BuiltMayFollow}
+use Rattle.cert_sched.specs.Built.{MayStand}
 use Rattle.cert_sched.specs.Legal.{IsLegalBy}
 use Rattle.cert_sched.specs.Rules.{is_over}
 use Rattle.cert_sched.specs.Schedule.{placement}
@@ -105,16 +105,16 @@ differ_of (q ∷ qs) two = λ i. not ((any_placed qs ∙ two.0) i) && differ_of 
     any_placed (r ∷ rs) = ap (λ b. same_pid r.pid q.pid || b) (any_placed rs)
 
 -- so it is in each log that is built
-pub differ_built : (system : System) (log : List Entry) → is_system system ≡ true → IsLegalBy BuiltMayFollow system log → pids_differ (placement system log).placed ≡ true
-differ_built system log valid legal = differ_of (placement system log).placed (two_apart system log (all_roll BuiltMayFollow (λ system log e may. may.stands) system log valid legal))
+pub differ_built : (system : System) (log : List Entry) → is_system system ≡ true → IsLegalBy MayStand system log → pids_differ (placement system log).placed ≡ true
+differ_built system log valid legal = differ_of (placement system log).placed (two_apart system log (all_roll MayStand (λ system log e may. may.stands) system log valid legal))
 
 -- ---- who is at home lives
 
 -- a cluster lives in which a process is at home, while the log goes on
-pub home_lives : (system : System) (log : List Entry) (p : Pid) (k : ClusterNo) → is_system system ≡ true → IsLegalBy BuiltMayFollow system log → is_over system log ≡ false → HomeHere (placement system log) p k → lives_in (placement system log) k ≡ true
+pub home_lives : (system : System) (log : List Entry) (p : Pid) (k : ClusterNo) → is_system system ≡ true → IsLegalBy MayStand system log → is_over system log ≡ false → HomeHere (placement system log) p k → lives_in (placement system log) k ≡ true
 home_lives system log p k valid legal goes_on here =
     let same : (here.placed).home ≡ k = λ i. record { 0 = eqb-true ((here.placed).home).0 k.0 here.home i } in
-    ap (lives_in (placement system log)) (sym same) ∙ homes_live BuiltMayFollow (λ system log e may. may.stands) system log valid legal goes_on p here.placed here.found
+    ap (lives_in (placement system log)) (sym same) ∙ homes_live MayStand (λ system log e may. may.stands) system log valid legal goes_on p here.placed here.found
 
 -- ---- an exit
 

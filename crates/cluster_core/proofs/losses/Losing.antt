@@ -21,7 +21,7 @@ use Rattle.bus_msg.specs.declared.placed.Placed.{Placed}
 use Rattle.bus_msg.specs.Places.{Places, is_at_home, is_cluster, placed_at, same_cluster, same_pid, unended_at, is_moved_by}
 use Rattle.bus_msg.specs.PlacedAfter.{what, placed_after, after_loss}
 use Rattle.crash_notice.specs.Splitting.{is_moved_here, moves_here, stays}
-use Rattle.cert_sched.specs.Built.{BuiltMayFollow, UnlostMayFollow}
+use Rattle.cert_sched.specs.Built.{MayStand, UnlostMayFollow}
 use Rattle.cert_sched.specs.Deeds.{deeds_in, is_birth_of, is_cut, letter_for, start_of}
 use Rattle.cert_sched.specs.Losses.{is_by_cluster, is_from, is_crash_of}
 use Rattle.cert_sched.specs.Parts.{rising}
@@ -158,10 +158,10 @@ module _ (system : System) (valid : is_system system ≡ true) (log : List Entry
   spared = not_here_lost system valid log e lost cause n k apart
 
   stands : Stands system log e
-  stands = (IsLegal-last BuiltMayFollow system log e n.more).stands
+  stands = (IsLegal-last MayStand system log e n.more).stands
 
   differ : NoTwo (placed_pids places.placed)
-  differ = two_apart system log (all_roll BuiltMayFollow (λ system log e may. may.stands) system log valid n.legal)
+  differ = two_apart system log (all_roll MayStand (λ system log e may. may.stands) system log valid n.legal)
 
   -- the home of a process that is at home here
   home_is : (p : Pid) → HomeHere places p k → home_at places p ≡ Some k
@@ -271,7 +271,7 @@ module _ (system : System) (valid : is_system system ≡ true) (log : List Entry
   held_still q p (Rolls s counts births) together home held = (
     held.0,
     subst (λ w. RollsBehind system later p (all_delivered (state_of s) (letter_for p w)) counts births) n.same
-        (behind_standing system log e p BuiltMayFollow standing (state_of s) counts births valid n.more (ap is_some home.found) (ap (is_cut p) n.same) (ap (deeds_in p) n.same) held.1),
+        (behind_standing system log e p MayStand standing (state_of s) counts births valid n.more (ap is_some home.found) (ap (is_cut p) n.same) (ap (deeds_in p) n.same) held.1),
   )
   held_still q p (Waits waiting) together home held = (
     held.0,

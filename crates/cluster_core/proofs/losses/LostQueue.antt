@@ -19,7 +19,7 @@ use Rattle.bus_msg.specs.declared.entry.Entry.{Entry}
 use Rattle.bus_msg.specs.declared.placed.Placed.{Placed}
 use Rattle.bus_msg.specs.Places.{Places, lives_in, same_cluster, same_pid, unended_at}
 use Rattle.bus_msg.specs.PlacedAfter.{after_loss, what, placed_after}
-use Rattle.cert_sched.specs.Built.{BuiltMayFollow, TellingMayFollow, tells_or_closes, UnlostMayFollow}
+use Rattle.cert_sched.specs.Built.{MayStand, TellingMayFollow, tells_or_closes, UnlostMayFollow}
 use Rattle.cert_sched.specs.Legal.{IsLegalBy}
 use Rattle.cert_sched.specs.Losses.{is_by_cluster, is_from, is_crash_of}
 use Rattle.cert_sched.specs.Appended.{entry_of}
@@ -62,8 +62,8 @@ fetched_home places by p i w (inr of) =
 
 -- a log, and the loss of a cluster that stands next
 pub record NextLoss (system : System) (log : List Entry) (e : Entry) (lost : ClusterNo) (cause : Cause) : Type 0 where
-  pub legal : IsLegalBy BuiltMayFollow system log
-  pub more : IsLegalBy BuiltMayFollow system (log ++ e ∷ [])
+  pub legal : IsLegalBy MayStand system log
+  pub more : IsLegalBy MayStand system (log ++ e ∷ [])
   pub before : is_over system log ≡ false
   pub goes_on : is_over system (log ++ e ∷ []) ≡ false
   pub same : what e ≡ Crash lost cause
@@ -122,8 +122,8 @@ module _ (system : System) (valid : is_system system ≡ true) (log : List Entry
   told_stays : (post : Post) → is_from k post.by ≡ true → TellingMayFollow system log (entry_of system log post) → TellingMayFollow system later (entry_of system later post)
   told_stays post own may =
       post_may system later post u.pid u.at u.emission u.after n.more n.goes_on may.built u.tells (emission_same system log e none u.pid u.at ∙ u.is) at_home keeps
-      (waits_after system log e k post valid n.legal (IsLegal-last BuiltMayFollow system log e n.more).stands (differ_built system log valid n.legal) not_here_lost may.built (ap (is_by_home places post.by) u.process ∙ u.by_home) own may.pages)
-      (may_end_still system log e (entry_of system log post) u.pid u.at u.emission post.what valid (built_stands system log n.legal) (IsLegal-last BuiltMayFollow system log e n.more).stands (ap (deeds_in u.pid) n.same) u.tells (may.stands).kind)
+      (waits_after system log e k post valid n.legal (IsLegal-last MayStand system log e n.more).stands (differ_built system log valid n.legal) not_here_lost may.built (ap (is_by_home places post.by) u.process ∙ u.by_home) own may.pages)
+      (may_end_still system log e (entry_of system log post) u.pid u.at u.emission post.what valid (built_stands system log n.legal) (IsLegal-last MayStand system log e n.more).stands (ap (deeds_in u.pid) n.same) u.tells (may.stands).kind)
     where
       u : Telling system log (entry_of system log post)
       u = telling system log (entry_of system log post) may (no_end k places post.by post.what may.built own (may.stands).by_right)

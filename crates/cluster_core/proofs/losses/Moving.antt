@@ -10,7 +10,7 @@ use Rattle.t32_base.specs.Small.{SmallState}
 use Rattle.sys_text.specs.declared.system.System.{System}
 use Rattle.sys_text.specs.Valid.{is_system}
 use Rattle.bus_msg.specs.declared.entry.Entry.{Entry}
-use Rattle.cert_sched.specs.Built.{BuiltMayFollow}
+use Rattle.cert_sched.specs.Built.{MayStand}
 use Rattle.cert_sched.specs.Deeds.{starts}
 use Rattle.cert_sched.specs.Legal.{IsLegalBy}
 use Rattle.cert_sched.specs.Parts.{upto_last}
@@ -30,7 +30,7 @@ none_come : (n : ℕ) → 1 ≤ n → list_all (is_some {T = List ℕ}) (replica
 none_come zero some = absurd (omega (arith, some))
 none_come (suc n) some = refl
 
-module _ (system : System) (valid : is_system system ≡ true) (log : List Entry) (legal : IsLegalBy BuiltMayFollow system log) (p : Pid) (r : BackRec) (unended : IsUnended system log p) (kept : backup_record system log p ≡ Some r) where
+module _ (system : System) (valid : is_system system ≡ true) (log : List Entry) (legal : IsLegalBy MayStand system log) (p : Pid) (r : BackRec) (unended : IsUnended system log p) (kept : backup_record system log p ≡ Some r) where
   s : StartsSo system log p
   s = starts_so system log p valid legal unended
 

@@ -19,7 +19,7 @@ use Rattle.bus_msg.specs.declared.placed.Placed.{Placed}
 use Rattle.bus_msg.specs.Places.{Places, is_cluster, is_moved_by, placed_at, same_cluster, same_pid, unended_at}
 use Rattle.bus_msg.specs.PlacedAfter.{after_loss, after_sync, moved_to, placed_after, what}
 use Rattle.channel_table.specs.Changes.{pids_differ}
-use Rattle.cert_sched.specs.Built.{BuiltMayFollow, is_built}
+use Rattle.cert_sched.specs.Built.{MayStand, is_built}
 use Rattle.cert_sched.specs.Legal.{IsLegalBy, Stands}
 use Rattle.cert_sched.specs.Losses.{is_crash_of}
 use Rattle.cert_sched.specs.Moved.{moved_with_state}
@@ -133,10 +133,10 @@ abbrev pub NoBackups : System → List Entry → Type 0
 NoBackups system log = (p : Pid) (q : Placed) → moved_with_state system log p ≡ true → unended_at (placement system log) p ≡ Some q → q.backup ≡ None
 
 record Both (system : System) (log : List Entry) : Type 0 where
-  pub legal : IsLegalBy BuiltMayFollow system log
+  pub legal : IsLegalBy MayStand system log
   pub none : NoBackups system log
 
-module _ (system : System) (valid : is_system system ≡ true) (log : List Entry) (e : Entry) (both : Both system log) (may : BuiltMayFollow system log e) where
+module _ (system : System) (valid : is_system system ≡ true) (log : List Entry) (e : Entry) (both : Both system log) (may : MayStand system log e) where
   abbrev places : Places
   places = placement system log
 
@@ -198,7 +198,7 @@ module _ (system : System) (valid : is_system system ≡ true) (log : List Entry
         (λ lost cause is. by_loss lost cause is) (λ r at index bytes is. by_other (Page r at index bytes) is refl) (λ r small read is. by_cut r small read is) (λ rests is. by_other (Done rests) is refl) (λ is. by_other Stop is refl)
         (what e) may.built refl (sym (ap (λ places. unended_at places p) (placement-snoc system log e)) ∙ found)
 
-none_legal : (system : System) → IsLegalBy BuiltMayFollow system []
+none_legal : (system : System) → IsLegalBy MayStand system []
 unfolding IsLegalBy
 none_legal system = tt
 
@@ -207,13 +207,13 @@ unfolding told
 none_moved system p q moved found = absurd (true≢false (sym moved))
 
 -- a process that was moved with a state has no backup, in a log of the kinds that are built
-pub moved_no_backup : (system : System) (log : List Entry) → is_system system ≡ true → IsLegalBy BuiltMayFollow system log → NoBackups system log
+pub moved_no_backup : (system : System) (log : List Entry) → is_system system ≡ true → IsLegalBy MayStand system log → NoBackups system log
 moved_no_backup system log valid legal =
-    (legal_induction BuiltMayFollow system (Both system) (record { legal = none_legal system; none = none_moved system })
-    (λ log e both may. record { legal = IsLegal-snoc BuiltMayFollow system log e both.legal may; none = λ p q moved found. next_none system valid log e both may p q moved found }) log legal).none
+    (legal_induction MayStand system (Both system) (record { legal = none_legal system; none = none_moved system })
+    (λ log e both may. record { legal = IsLegal-snoc MayStand system log e both.legal may; none = λ p q moved found. next_none system valid log e both may p q moved found }) log legal).none
 
 -- so no entry moves it again
-pub moved_not_moved : (system : System) (log : List Entry) (e : Entry) (p : Pid) → is_system system ≡ true → IsLegalBy BuiltMayFollow system log → moved_with_state system log p ≡ true → IsUnended system log p → moves_next system log e p ≡ false
+pub moved_not_moved : (system : System) (log : List Entry) (e : Entry) (p : Pid) → is_system system ≡ true → IsLegalBy MayStand system log → moved_with_state system log p ≡ true → IsUnended system log p → moves_next system log e p ≡ false
 moved_not_moved system log e p valid legal moved unended = by_loss (cluster_lost (what e)) (unended_at (placement system log) p) refl unended
   where
     none_of : (b : Bool) → (b && false) ≡ false

@@ -11,7 +11,7 @@ use Rattle.bus_msg.specs.declared.entry.Entry.{Entry}
 use Rattle.bus_msg.specs.Places.{same_cluster}
 use Rattle.bus_msg.specs.PlacedAfter.{what}
 use Rattle.crash_notice.specs.Splitting.{moves_here}
-use Rattle.cert_sched.specs.Built.{BuiltMayFollow, is_unlost, tells_or_closes}
+use Rattle.cert_sched.specs.Built.{MayStand, is_unlost, tells_or_closes}
 use Rattle.cert_sched.specs.Losses.{is_crash_of}
 use Rattle.cert_sched.specs.Schedule.{placement}
 use Rattle.cert_sched.proofs.LogLaws.{IsLegal-last}
@@ -34,10 +34,10 @@ use Rattle.cluster_core.proofs.losses.Moving.{waits_own}
 -- ---- the next entry
 
 -- it tells of steps, is of a page, is a loss, is one by which a process synchronises, or is a birth
-pub one_of : (system : System) (log : List Entry) (e : Entry) → IsOpen BuiltMayFollow system (log ++ e ∷ []) → OneOf (what e)
-one_of system log e later = kind_is (what e) (IsLegal-last BuiltMayFollow system log e later.0).built
+pub one_of : (system : System) (log : List Entry) (e : Entry) → IsOpen MayStand system (log ++ e ∷ []) → OneOf (what e)
+one_of system log e later = kind_is (what e) (IsLegal-last MayStand system log e later.0).built
 
-pub loss_of : (system : System) (log : List Entry) (e : Entry) (l : IsLoss (what e)) → IsOpen BuiltMayFollow system log → IsOpen BuiltMayFollow system (log ++ e ∷ []) → NextLoss system log e l.lost l.cause
+pub loss_of : (system : System) (log : List Entry) (e : Entry) (l : IsLoss (what e)) → IsOpen MayStand system log → IsOpen MayStand system (log ++ e ∷ []) → NextLoss system log e l.lost l.cause
 loss_of system log e l now later = record { legal = now.0; more = later.0; before = now.1; goes_on = later.1; same = l.same }
 
 -- the loss is of another cluster

@@ -13,7 +13,7 @@ use Rattle.bus_msg.specs.declared.entry.Post.{Post}
 use Rattle.bus_msg.specs.Places.{Places, same_pid, servers_in}
 use Rattle.cert_sched.specs.Appended.{entry_of}
 use Rattle.cert_sched.specs.Account.{Account, page_in}
-use Rattle.cert_sched.specs.Built.{BuiltMayFollow, UnlostMayFollow, is_unlost}
+use Rattle.cert_sched.specs.Built.{MayStand, UnlostMayFollow, is_unlost}
 use Rattle.cert_sched.specs.Kinds.{PageIsHolds}
 use Rattle.cert_sched.specs.Losses.{is_from, least_steps}
 use Rattle.cert_sched.specs.Moved.{waiting_fetches}
@@ -75,12 +75,12 @@ module _ (c : ClusterView) (served : Option PagerState) (post : Post) (owed : ow
   first : is_first_server c.places c.number ≡ true
   first = (and_parts (is_first_server c.places c.number) (is_some (option_and_then earliest c.server)) owed).0
 
-  answer_may : (log : List Entry) → IsOpen BuiltMayFollow c.system log → FollowsBuilt c.system log c → UnlostMayFollow c.system log (entry_of c.system log one)
+  answer_may : (log : List Entry) → IsOpen MayStand c.system log → FollowsBuilt c.system log c → UnlostMayFollow c.system log (entry_of c.system log one)
   answer_may log go f = record {
     stands = record {
       placed = (refl, refl, go.1);
       by_right = ap (λ (places : Places). is_by (Cluster c.number) (first_of (servers_in places))) (sym (f.log).places) ∙ first_by c.places c.number first;
-      applies = ap is_some (no_items c.system log (entry_of c.system log one) (λ k. refl)) ∙ plain_there BuiltMayFollow (λ system log e may. may.stands) c.system log go.0;
+      applies = ap is_some (no_items c.system log (entry_of c.system log one) (λ k. refl)) ∙ plain_there MayStand (λ system log e may. may.stands) c.system log go.0;
       kind = page_holds c.system log a.was a.pid a.index a.bytes (subst (KeepsIfThere c.system log) a.old_is (f.accounts).keeps) a.waits a.page;
     };
     built = refl;
@@ -102,7 +102,7 @@ module _ (c : ClusterView) (served : Option PagerState) (post : Post) (owed : ow
       let old : IsHeldAs c.system log [] q h = subst (λ queue. IsHeldAs c.system log queue q h) empty ((f.processes).held q h there) in
       subst (λ (p : Post). IsHeldAs c.system log (p ∷ []) q h) (sym a.post_is) (held_answered c.system log c.number a.pid a.index a.bytes q h old)
 
-  may_then : (log : List Entry) → IsOpen BuiltMayFollow c.system log → FollowsBuilt c.system log c → UnlostMayFollow c.system log (entry_of c.system log post)
+  may_then : (log : List Entry) → IsOpen MayStand c.system log → FollowsBuilt c.system log c → UnlostMayFollow c.system log (entry_of c.system log post)
   may_then log go f = subst (λ (p : Post). UnlostMayFollow c.system log (entry_of c.system log p)) (sym a.post_is) (answer_may log go f)
 
   pub answered_goes_on : is_system c.system ≡ true → c.queue ≡ [] → GoesOn c (answered_view c served post)

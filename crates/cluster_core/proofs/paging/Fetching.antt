@@ -7,7 +7,7 @@ use Rattle.sys_text.specs.Valid.{is_system}
 use Rattle.bus_msg.specs.declared.entry.Entry.{Entry}
 use Rattle.bus_msg.specs.Places.{same_pid}
 use Rattle.cert_sched.specs.Appended.{entry_of}
-use Rattle.cert_sched.specs.Built.{BuiltMayFollow, UnlostMayFollow}
+use Rattle.cert_sched.specs.Built.{MayStand, UnlostMayFollow}
 use Rattle.cert_sched.specs.Losses.{is_from, least_steps}
 use Rattle.cert_sched.specs.Parts.{rising}
 use Rattle.cert_sched.specs.Schedule.{placement}
@@ -75,7 +75,7 @@ module _ (c : ClusterView) (p : Pid) (index : ℕ) (waiting : WaitingState) (emp
           (refl, so_alike c.system log q none_queued (is_fetch_queued q (fetch_post c.number p index ∷ [])) w (λ i. sym (fetch_elsewhere c.number p q index i (turned p q other))) held.1)
       by_held _ held = held
 
-  module _ (valid : is_system c.system ≡ true) (log : List Entry) (go : IsOpen BuiltMayFollow c.system log) (f : FollowsBuilt c.system log c) where
+  module _ (valid : is_system c.system ≡ true) (log : List Entry) (go : IsOpen MayStand c.system log) (f : FollowsBuilt c.system log c) where
     -- it waits as the log says
     waits : WaitsAs c.system log p none_queued waiting
     waits = lacks_pages c.system log p none_queued waiting index (subst (λ queue. IsHeldAs c.system log queue p (Waits waiting)) empty ((f.processes).held p (Waits waiting) there)).1 next
@@ -92,7 +92,7 @@ module _ (c : ClusterView) (p : Pid) (index : ℕ) (waiting : WaitingState) (emp
         by_right =
             home_by (placement c.system log) c.number p
             (home_lives c.system log p c.number valid go.0 go.1 (home_of_it c p (Waits waiting) empty there valid log go f)) (home_of_it c p (Waits waiting) empty there valid log go f);
-        applies = ap is_some (no_items c.system log (entry_of c.system log (fetch_post c.number p index)) (λ k. refl)) ∙ plain_there BuiltMayFollow (λ system log e may. may.stands) c.system log go.0;
+        applies = ap is_some (no_items c.system log (entry_of c.system log (fetch_post c.number p index)) (λ k. refl)) ∙ plain_there MayStand (λ system log e may. may.stands) c.system log go.0;
         kind = next_fetch c.system log p waiting waits index next;
       };
       built = refl;

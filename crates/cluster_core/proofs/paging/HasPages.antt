@@ -15,7 +15,7 @@ use Rattle.bus_msg.specs.Places.{Places, lives_in, unended_at}
 use Rattle.bus_msg.specs.PlacedAfter.{what}
 use Rattle.channel_table.specs.Changes.{pids_differ}
 use Rattle.cert_sched.specs.Appended.{entry_of}
-use Rattle.cert_sched.specs.Built.{BuiltMayFollow, KeepsWaits, tells_or_closes}
+use Rattle.cert_sched.specs.Built.{MayStand, KeepsWaits, tells_or_closes}
 use Rattle.cert_sched.specs.Legal.{IsLegalBy, Stands}
 use Rattle.cert_sched.specs.Losses.{is_crash_of, is_from}
 use Rattle.cert_sched.specs.Rules.{awaits_pages, has_its_pages, holds_of, home_at, is_by, is_by_home}
@@ -28,10 +28,10 @@ use Rattle.cluster_core.proofs.losses.Homes.{HomeHere}
 use Rattle.cluster_core.proofs.losses.NotMoved.{home_not_moved}
 
 -- a process that has its pages has them after an entry that does not lose its home
-pub pages_after : (system : System) (log : List Entry) (e : Entry) (p : Pid) (k : ClusterNo) → is_system system ≡ true → IsLegalBy BuiltMayFollow system log → Stands system log e → pids_differ (placement system log).placed ≡ true → HomeHere (placement system log) p k → is_crash_of k (what e) ≡ false
+pub pages_after : (system : System) (log : List Entry) (e : Entry) (p : Pid) (k : ClusterNo) → is_system system ≡ true → IsLegalBy MayStand system log → Stands system log e → pids_differ (placement system log).placed ≡ true → HomeHere (placement system log) p k → is_crash_of k (what e) ≡ false
     → has_its_pages system log p ≡ true → has_its_pages system (log ++ e ∷ []) p ≡ true
 pages_after system log e p k valid legal stands differ here away =
-    pages_kept system log e p stands (unended_not_born BuiltMayFollow (λ system log e may. may.stands) system log e p valid legal stands (ap is_some here.found)) (home_not_moved system log e p k differ here away)
+    pages_kept system log e p stands (unended_not_born MayStand (λ system log e may. may.stands) system log e p valid legal stands (ap is_some here.found)) (home_not_moved system log e p k differ here away)
 
 -- the process of which a cluster sends is at home there
 pub home_of_sender : (places : Places) (k : ClusterNo) (by : By) (p : Pid) → is_from k by ≡ true → is_by_home places by (Some p) ≡ true → HomeHere places p k
@@ -43,7 +43,7 @@ home_of_sender places k (Cluster j) p from right = by_found (unended_at places p
     by_found (Some q) found is = record { placed = q; found = found; home = ap (λ n. eqb n k.0) (sym (eqb-true j.0 (q.home).0 is)) ∙ from }
 
 -- a post of a cluster that tells of steps waits for no pages after an entry that does not lose the cluster, where it waited for none before
-pub waits_after : (system : System) (log : List Entry) (e : Entry) (k : ClusterNo) (post : Post) → is_system system ≡ true → IsLegalBy BuiltMayFollow system log → Stands system log e → pids_differ (placement system log).placed ≡ true → is_crash_of k (what e) ≡ false → tells_or_closes post.what ≡ true
+pub waits_after : (system : System) (log : List Entry) (e : Entry) (k : ClusterNo) (post : Post) → is_system system ≡ true → IsLegalBy MayStand system log → Stands system log e → pids_differ (placement system log).placed ≡ true → is_crash_of k (what e) ≡ false → tells_or_closes post.what ≡ true
     → is_by_home (placement system log) post.by (process_of post.what) ≡ true → is_from k post.by ≡ true → KeepsWaits system log (entry_of system log post) → KeepsWaits system (log ++ e ∷ []) (entry_of system (log ++ e ∷ []) post)
 waits_after system log e k post valid legal stands differ away tells right from =
     by_kind

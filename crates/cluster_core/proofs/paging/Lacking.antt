@@ -10,7 +10,7 @@ use Rattle.bus_msg.specs.declared.entry.By.TheVariants.{Cluster}
 use Rattle.bus_msg.specs.Places.{Places, same_cluster, same_pid}
 use Rattle.bus_msg.specs.declared.entry.Entry.{Entry}
 use Rattle.bus_msg.specs.declared.placed.Placed.{Placed}
-use Rattle.cert_sched.specs.Built.{BuiltMayFollow}
+use Rattle.cert_sched.specs.Built.{MayStand}
 use Rattle.cert_sched.specs.Family.{is_unsynced}
 use Rattle.cert_sched.specs.Legal.{IsLegalBy, Stands}
 use Rattle.cert_sched.specs.Moved.{waiting_fetches}
@@ -124,7 +124,7 @@ waits_there here p is = by_found (held_of here p) refl is
     by_found (Some _) there is = absurd (true≢false (sym is))
 
 module _ (c : ClusterView) (valid : is_system c.system ≡ true) (empty : c.queue ≡ []) (own : AllOwn c.cursor c.here) (stuck : are_stuck (limits_of c.system) c.here ≡ true) (lacks : any_lacks c.here ≡ false) (log : List Entry)
-    (go : IsOpen BuiltMayFollow c.system log) (f : FollowsBuilt c.system log c) where
+    (go : IsOpen MayStand c.system log) (f : FollowsBuilt c.system log c) where
   legal : IsLegalBy Stands c.system log
   legal = built_stands c.system log go.0
 

@@ -20,7 +20,7 @@ use Rattle.bus_msg.specs.PlacedAfter.{after_loss, changed_at, lost_cluster, plac
 use Rattle.channel_table.specs.Changes.{pids_differ}
 use Rattle.cert_sched.specs.Account.{is_exit_of}
 use Rattle.cert_sched.specs.Appended.{entry_of}
-use Rattle.cert_sched.specs.Built.{BuiltMayFollow, UnlostMayFollow}
+use Rattle.cert_sched.specs.Built.{MayStand, UnlostMayFollow}
 use Rattle.cert_sched.specs.Deeds.{is_cut}
 use Rattle.cert_sched.specs.Kinds.{FetchHolds, KindHolds, PageIsHolds}
 use Rattle.cert_sched.specs.Legal.{IsLegalBy, Stands}
@@ -120,7 +120,7 @@ server_after_loss places k lost cause by from apart =
 
 -- ---- an entry of another cluster
 
-module _ (system : System) (valid : is_system system ≡ true) (log : List Entry) (e : Entry) (k : ClusterNo) (now : IsOpen BuiltMayFollow system log) (next : IsOpen BuiltMayFollow system (log ++ e ∷ []))
+module _ (system : System) (valid : is_system system ≡ true) (log : List Entry) (e : Entry) (k : ClusterNo) (now : IsOpen MayStand system log) (next : IsOpen MayStand system (log ++ e ∷ []))
     (foreign : is_by_cluster k e ≡ false) (away : is_crash_of k (what e) ≡ false) where
   abbrev later : List Entry
   later = log ++ e ∷ []
@@ -128,8 +128,8 @@ module _ (system : System) (valid : is_system system ≡ true) (log : List Entry
   abbrev places : Places
   places = placement system log
 
-  may_e : BuiltMayFollow system log e
-  may_e = IsLegal-last BuiltMayFollow system log e next.0
+  may_e : MayStand system log e
+  may_e = IsLegal-last MayStand system log e next.0
 
   differ : pids_differ places.placed ≡ true
   differ = differ_built system log valid now.0
@@ -214,7 +214,7 @@ module _ (system : System) (valid : is_system system ≡ true) (log : List Entry
 
   module _ (post : Post) (from : is_from k post.by ≡ true) (may : UnlostMayFollow system log (entry_of system log post)) where
     applies_later : ((kernel : Kernel) → items_of kernel post.what ≡ []) → is_some (plain_after system (later ++ entry_of system later post ∷ [])) ≡ true
-    applies_later none = ap is_some (no_items system later (entry_of system later post) none) ∙ plain_there BuiltMayFollow (λ system log e may. may.stands) system later next.0
+    applies_later none = ap is_some (no_items system later (entry_of system later post) none) ∙ plain_there MayStand (λ system log e may. may.stands) system later next.0
 
     fetch_stays : (p : Pid) (i : ℕ) → post.what ≡ Fetch p i → UnlostMayFollow system later (entry_of system later post)
     fetch_stays p i is = record {
@@ -264,7 +264,7 @@ module _ (system : System) (valid : is_system system ≡ true) (log : List Entry
         waited = first_waited p i (waiting_fetches system log) holds.asked
 
 -- a queued fetch or answer of a cluster may follow after an entry of another
-pub page_post_stays : (system : System) → is_system system ≡ true → (log : List Entry) (e : Entry) (k : ClusterNo) (post : Post) → IsOpen BuiltMayFollow system log → IsOpen BuiltMayFollow system (log ++ e ∷ []) → is_by_cluster k e ≡ false
+pub page_post_stays : (system : System) → is_system system ≡ true → (log : List Entry) (e : Entry) (k : ClusterNo) (post : Post) → IsOpen MayStand system log → IsOpen MayStand system (log ++ e ∷ []) → is_by_cluster k e ≡ false
     → is_crash_of k (what e) ≡ false → is_from k post.by ≡ true → is_of_page post.what ≡ true → UnlostMayFollow system log (entry_of system log post) → UnlostMayFollow system (log ++ e ∷ []) (entry_of system (log ++ e ∷ []) post)
 page_post_stays system valid log e k post now next foreign away from of may =
     by_page (λ w. post.what ≡ w → UnlostMayFollow system (log ++ e ∷ []) (entry_of system (log ++ e ∷ []) post))

@@ -16,7 +16,7 @@ use Rattle.bus_msg.specs.declared.entry.Entry.{Entry}
 use Rattle.bus_msg.specs.Places.{Places, unended_at, same_pid}
 use Rattle.bus_msg.specs.PlacedAfter.{what, placed_after}
 use Rattle.cert_sched.specs.Appended.{entry_of}
-use Rattle.cert_sched.specs.Built.{tells_or_closes, BuiltMayFollow, TellingMayFollow, UnlostMayFollow}
+use Rattle.cert_sched.specs.Built.{tells_or_closes, MayStand, TellingMayFollow, UnlostMayFollow}
 use Rattle.cert_sched.specs.Deeds.{deeds_in, is_cut, letter_for, is_birth_of, starts}
 use Rattle.cert_sched.specs.Losses.{is_by_cluster, is_from, is_crash_of}
 use Rattle.cert_sched.specs.Parts.{rising}
@@ -126,7 +126,7 @@ page_taken c e =
       steps = next_count c.steps;
     } ≡ record c { cursor = c.cursor + 1; places = placed_after c.places w; here = here_after w c.here; family = family_after w c.family; steps = next_count c.steps }) (λ pid index. refl) (λ pid index bytes. refl) (what e)
 
-module _ (system : System) (valid : is_system system ≡ true) (log : List Entry) (e : Entry) (of : is_of_page (what e) ≡ true) (now : IsOpen BuiltMayFollow system log) (next : IsOpen BuiltMayFollow system (log ++ e ∷ [])) where
+module _ (system : System) (valid : is_system system ≡ true) (log : List Entry) (e : Entry) (of : is_of_page (what e) ≡ true) (now : IsOpen MayStand system log) (next : IsOpen MayStand system (log ++ e ∷ [])) where
   abbrev later : List Entry
   later = log ++ e ∷ []
 
@@ -152,8 +152,8 @@ module _ (system : System) (valid : is_system system ≡ true) (log : List Entry
   post_stays : (k : ClusterNo) (post : Post) → is_from k post.by ≡ true → TellingMayFollow system log (entry_of system log post) → TellingMayFollow system later (entry_of system later post)
   post_stays k post own may =
       post_may system later post u.pid u.at u.emission u.after next.0 next.1 may.built u.tells (emission_same system log e none u.pid u.at ∙ u.is) (ap (λ (places : Places). is_by_home places post.by (Some u.pid)) places_same ∙ u.by_home) keeps
-      (waits_after system log e k post valid now.0 (IsLegal-last BuiltMayFollow system log e next.0).stands differ (loses_none k) may.built (ap (is_by_home (placement system log) post.by) u.process ∙ u.by_home) own may.pages)
-      (may_end_still system log e (entry_of system log post) u.pid u.at u.emission post.what valid (built_stands system log now.0) (IsLegal-last BuiltMayFollow system log e next.0).stands (by_page (λ w. deeds_in u.pid w ≡ []) (λ pid index. refl) (λ pid index bytes. refl) (what e) of) u.tells (may.stands).kind)
+      (waits_after system log e k post valid now.0 (IsLegal-last MayStand system log e next.0).stands differ (loses_none k) may.built (ap (is_by_home (placement system log) post.by) u.process ∙ u.by_home) own may.pages)
+      (may_end_still system log e (entry_of system log post) u.pid u.at u.emission post.what valid (built_stands system log now.0) (IsLegal-last MayStand system log e next.0).stands (by_page (λ w. deeds_in u.pid w ≡ []) (λ pid index. refl) (λ pid index bytes. refl) (what e) of) u.tells (may.stands).kind)
     where
       u : Telling system log (entry_of system log post)
       u = telling system log (entry_of system log post) may (no_end k (placement system log) post.by post.what may.built own (may.stands).by_right)
@@ -199,7 +199,7 @@ module _ (system : System) (valid : is_system system ≡ true) (log : List Entry
     where
       behind : RollsBehind system later p (all_delivered (state_of s) (letter_for p (what e))) counts births
       behind =
-          behind_standing system log e p BuiltMayFollow standing (state_of s) counts births valid next.0 unended (by_page (λ w. is_cut p w ≡ false) (λ pid index. refl) (λ pid index bytes. refl) (what e) of) (by_page (λ w. deeds_in p w ≡ []) (λ pid index. refl) (λ pid index bytes. refl) (what e) of) held.1
+          behind_standing system log e p MayStand standing (state_of s) counts births valid next.0 unended (by_page (λ w. is_cut p w ≡ false) (λ pid index. refl) (λ pid index bytes. refl) (what e) of) (by_page (λ w. deeds_in p w ≡ []) (λ pid index. refl) (λ pid index bytes. refl) (what e) of) held.1
 
       no_letter : all_delivered (state_of s) (letter_for p (what e)) ≡ state_of s
       no_letter = by_page (λ w. all_delivered (state_of s) (letter_for p w) ≡ state_of s) (λ pid index. refl) (λ pid index bytes. refl) (what e) of
@@ -246,7 +246,7 @@ module _ (system : System) (valid : is_system system ≡ true) (log : List Entry
   has_after before k p was home held pages = by_was was held pages
     where
       stays : has_its_pages system log p ≡ true → has_its_pages system later p ≡ true
-      stays has = pages_after system log e p k valid now.0 (IsLegal-last BuiltMayFollow system log e next.0).stands differ home (loses_none k) has
+      stays has = pages_after system log e p k valid now.0 (IsLegal-last MayStand system log e next.0).stands differ home (loses_none k) has
 
       come : (waiting : WaitingState) → IsHeldAs system log before p (Waits waiting) → (w : What) → is_of_page w ≡ true → what e ≡ w → is_some (process_in (page_at w p (Waits waiting))) ≡ true → has_its_pages system later p ≡ true
       come waiting held = by_page (λ w. what e ≡ w → is_some (process_in (page_at w p (Waits waiting))) ≡ true → has_its_pages system later p ≡ true) (λ pid index is runs. absurd (true≢false (sym runs))) (λ pid index bytes is. by_pid pid index bytes is (same_pid pid p) refl)
@@ -287,7 +287,7 @@ module _ (system : System) (valid : is_system system ≡ true) (log : List Entry
 
   -- an entry of another cluster asks for no page of a process that is at home here
   foreign_fetch : (k : ClusterNo) (p : Pid) (i : ℕ) → HomeHere (placement system log) p k → is_by_cluster k e ≡ false → is_fetch p i (what e) ≡ false
-  foreign_fetch k p i home foreign = by_page (λ w. is_by_right (placement system log) (e.post).by w ≡ true → is_fetch p i w ≡ false) (λ pid index right. by_pid pid index right (same_pid pid p) refl) (λ pid index bytes right. refl) (what e) of ((IsLegal-last BuiltMayFollow system log e next.0).stands).by_right
+  foreign_fetch k p i home foreign = by_page (λ w. is_by_right (placement system log) (e.post).by w ≡ true → is_fetch p i w ≡ false) (λ pid index right. by_pid pid index right (same_pid pid p) refl) (λ pid index bytes right. refl) (what e) of ((IsLegal-last MayStand system log e next.0).stands).by_right
     where
       by_pid : (pid : Pid) (index : ℕ) → is_by_home (placement system log) (e.post).by (Some pid) ≡ true → (b : Bool) → same_pid pid p ≡ b → (b && eqb index i) ≡ false
       by_pid pid index right true own =

@@ -16,7 +16,7 @@ use Rattle.bus_msg.specs.declared.entry.Entry.{Entry}
 use Rattle.bus_msg.specs.Places.{same_pid}
 use Rattle.bus_msg.specs.PlacedAfter.{what}
 use Rattle.roll_forward.specs.Deeds.{Sends}
-use Rattle.cert_sched.specs.Built.{tells_or_closes, BuiltMayFollow}
+use Rattle.cert_sched.specs.Built.{tells_or_closes, MayStand}
 use Rattle.cert_sched.specs.Deeds.{deeds_in, is_cut, is_end_of}
 use Rattle.cert_sched.specs.Moved.{is_fetch, is_page_is}
 use Rattle.cert_sched.specs.Simulation.{IsUnended}
@@ -102,7 +102,7 @@ told_sends_none : (p : Pid) (w : What) → tells_or_closes w ≡ true → is_som
 told_sends_none p = by_kind (λ w. is_some_page p w ≡ false) (λ at letter. refl) (λ pid at end. refl) (λ rests. refl) refl
 
 -- so after it the process waits on, with what it brings
-pub waits_told : (system : System) (log : List Entry) (e : Entry) (before after : List Post) (p : Pid) (waiting : WaitingState) → is_system system ≡ true → IsLegalBy BuiltMayFollow system (log ++ e ∷ []) → IsUnended system log p
+pub waits_told : (system : System) (log : List Entry) (e : Entry) (before after : List Post) (p : Pid) (waiting : WaitingState) → is_system system ≡ true → IsLegalBy MayStand system (log ++ e ∷ []) → IsUnended system log p
     → tells_or_closes (what e) ≡ true → (waiting.kept).pid ≡ p → deeds_in p (what e) ≡ [] → move_of p after ≡ None → ((i : ℕ) → is_fetch_queued p before i ≡ is_fetch_queued p after i) → WaitsSo system log p (is_fetch_queued p before) waiting
     → IsHeldAs system (log ++ e ∷ []) after p (arrival_at (what e) p (Waits waiting))
 waits_told system log e before after p waiting valid legal unended tells own none unmoved alike is =
@@ -115,7 +115,7 @@ waits_told system log e before after p waiting valid legal unended tells own non
 -- ---- an entry of a page
 
 -- one that is neither a page of the process nor a crash, and tells of no deed: a fetch of it that was queued may stand in the log now
-pub waits_page : (system : System) (log : List Entry) (e : Entry) (before after : List Post) (p : Pid) (waiting : WaitingState) → is_system system ≡ true → IsLegalBy BuiltMayFollow system (log ++ e ∷ []) → IsUnended system log p
+pub waits_page : (system : System) (log : List Entry) (e : Entry) (before after : List Post) (p : Pid) (waiting : WaitingState) → is_system system ≡ true → IsLegalBy MayStand system (log ++ e ∷ []) → IsUnended system log p
     → is_of_page (what e) ≡ true → ((i : ℕ) → is_page_is p i (what e) ≡ false) → move_of p after ≡ None → ((i : ℕ) → is_fetch_queued p before i ≡ (is_fetch p i (what e) || is_fetch_queued p after i)) → WaitsSo system log p (is_fetch_queued p before) waiting
     → IsHeldAs system (log ++ e ∷ []) after p (Waits waiting)
 waits_page system log e before after p waiting valid legal unended of other unmoved alike is = (
@@ -127,7 +127,7 @@ waits_page system log e before after p waiting valid legal unended of other unmo
 )
 
 -- a page of it that comes: it waits with that page, or goes on where it was the last
-pages_come : (system : System) (log : List Entry) (e : Entry) (queue : List Post) (p : Pid) (i : ℕ) (bytes : List ℕ) (waiting : WaitingState) → is_system system ≡ true → IsOpen BuiltMayFollow system (log ++ e ∷ []) → IsUnended system log p → IsUnended system (log ++ e ∷ []) p
+pages_come : (system : System) (log : List Entry) (e : Entry) (queue : List Post) (p : Pid) (i : ℕ) (bytes : List ℕ) (waiting : WaitingState) → is_system system ≡ true → IsOpen MayStand system (log ++ e ∷ []) → IsUnended system log p → IsUnended system (log ++ e ∷ []) p
     → what e ≡ PageIs p i bytes → move_of p queue ≡ None → WaitsAs system log p (is_fetch_queued p queue) waiting → IsHeldAs system (log ++ e ∷ []) queue p (page_held i bytes (Waits waiting))
 pages_come system log e queue p i bytes waiting valid next unended after is none waits = by_whole (is_whole now) refl
   where
@@ -151,7 +151,7 @@ pages_come system log e queue p i bytes waiting valid next unended after is none
     by_whole false lacks = (none, inl still)
 
 -- where it goes on it has its pages
-pages_has : (system : System) (log : List Entry) (e : Entry) (queue : List Post) (p : Pid) (i : ℕ) (bytes : List ℕ) (waiting : WaitingState) → is_system system ≡ true → IsLegalBy BuiltMayFollow system (log ++ e ∷ []) → IsUnended system log p
+pages_has : (system : System) (log : List Entry) (e : Entry) (queue : List Post) (p : Pid) (i : ℕ) (bytes : List ℕ) (waiting : WaitingState) → is_system system ≡ true → IsLegalBy MayStand system (log ++ e ∷ []) → IsUnended system log p
     → what e ≡ PageIs p i bytes → WaitsAs system log p (is_fetch_queued p queue) waiting → is_some (process_in (page_held i bytes (Waits waiting))) ≡ true → has_its_pages system (log ++ e ∷ []) p ≡ true
 pages_has system log e queue p i bytes waiting valid legal unended is waits = by_whole (is_whole now) refl
   where
@@ -163,7 +163,7 @@ pages_has system log e queue p i bytes waiting valid legal unended is waits = by
     by_whole false lacks goes = absurd (true≢false (sym goes))
 
 -- and begins with the marks of its start
-pages_marked : (system : System) (log : List Entry) (e : Entry) (queue : List Post) (p : Pid) (i : ℕ) (bytes : List ℕ) (waiting : WaitingState) → is_system system ≡ true → IsLegalBy BuiltMayFollow system (log ++ e ∷ []) → IsUnended system log p
+pages_marked : (system : System) (log : List Entry) (e : Entry) (queue : List Post) (p : Pid) (i : ℕ) (bytes : List ℕ) (waiting : WaitingState) → is_system system ≡ true → IsLegalBy MayStand system (log ++ e ∷ []) → IsUnended system log p
     → IsUnended system (log ++ e ∷ []) p → what e ≡ PageIs p i bytes → WaitsAs system log p (is_fetch_queued p queue) waiting → MarkedIfThere CarriesMarks system (log ++ e ∷ []) p (unended_process (page_held i bytes (Waits waiting)))
 pages_marked system log e queue p i bytes waiting valid legal unended after is waits = by_whole (is_whole now) refl
   where
@@ -194,7 +194,7 @@ pages_marked system log e queue p i bytes waiting valid legal unended after is w
     by_whole false lacks = tt
 
 -- such a page is one of its pages, and where it is the last that lacked the process can go on
-pages_may : (system : System) (log : List Entry) (e : Entry) (queue : List Post) (p : Pid) (i : ℕ) (bytes : List ℕ) (waiting : WaitingState) → is_system system ≡ true → IsLegalBy BuiltMayFollow system (log ++ e ∷ []) → IsUnended system log p
+pages_may : (system : System) (log : List Entry) (e : Entry) (queue : List Post) (p : Pid) (i : ℕ) (bytes : List ℕ) (waiting : WaitingState) → is_system system ≡ true → IsLegalBy MayStand system (log ++ e ∷ []) → IsUnended system log p
     → what e ≡ PageIs p i bytes → WaitsAs system log p (is_fetch_queued p queue) waiting → CanComeTo i bytes (Waits waiting)
 pages_may system log e queue p i bytes waiting valid legal unended is waits = (
   page_within system log e p (is_fetch_queued p queue) waiting valid legal i bytes is waits,
@@ -204,20 +204,20 @@ pages_may system log e queue p i bytes waiting valid legal unended is waits = (
 -- ---- the same of one that may wait for its parent's fork: no page comes to such a one
 
 module _ (system : System) (log : List Entry) (e : Entry) (queue : List Post) (p : Pid) (i : ℕ) (bytes : List ℕ) (waiting : WaitingState) (valid : is_system system ≡ true) where
-  for_pages : IsLegalBy BuiltMayFollow system (log ++ e ∷ []) → what e ≡ PageIs p i bytes → WaitsSo system log p (is_fetch_queued p queue) waiting → WaitsAs system log p (is_fetch_queued p queue) waiting
+  for_pages : IsLegalBy MayStand system (log ++ e ∷ []) → what e ≡ PageIs p i bytes → WaitsSo system log p (is_fetch_queued p queue) waiting → WaitsAs system log p (is_fetch_queued p queue) waiting
   for_pages legal is waits = page_for system log e p i bytes (is_fetch_queued p queue) waiting legal is waits
 
-  pub waits_come : IsOpen BuiltMayFollow system (log ++ e ∷ []) → IsUnended system log p → IsUnended system (log ++ e ∷ []) p → what e ≡ PageIs p i bytes → move_of p queue ≡ None → WaitsSo system log p (is_fetch_queued p queue) waiting
+  pub waits_come : IsOpen MayStand system (log ++ e ∷ []) → IsUnended system log p → IsUnended system (log ++ e ∷ []) p → what e ≡ PageIs p i bytes → move_of p queue ≡ None → WaitsSo system log p (is_fetch_queued p queue) waiting
       → IsHeldAs system (log ++ e ∷ []) queue p (page_held i bytes (Waits waiting))
   waits_come next unended after is none waits = pages_come system log e queue p i bytes waiting valid next unended after is none (for_pages next.0 is waits)
 
-  pub has_come : IsLegalBy BuiltMayFollow system (log ++ e ∷ []) → IsUnended system log p → what e ≡ PageIs p i bytes → WaitsSo system log p (is_fetch_queued p queue) waiting → is_some (process_in (page_held i bytes (Waits waiting))) ≡ true
+  pub has_come : IsLegalBy MayStand system (log ++ e ∷ []) → IsUnended system log p → what e ≡ PageIs p i bytes → WaitsSo system log p (is_fetch_queued p queue) waiting → is_some (process_in (page_held i bytes (Waits waiting))) ≡ true
       → has_its_pages system (log ++ e ∷ []) p ≡ true
   has_come legal unended is waits = pages_has system log e queue p i bytes waiting valid legal unended is (for_pages legal is waits)
 
-  pub come_marked : IsLegalBy BuiltMayFollow system (log ++ e ∷ []) → IsUnended system log p → IsUnended system (log ++ e ∷ []) p → what e ≡ PageIs p i bytes → WaitsSo system log p (is_fetch_queued p queue) waiting
+  pub come_marked : IsLegalBy MayStand system (log ++ e ∷ []) → IsUnended system log p → IsUnended system (log ++ e ∷ []) p → what e ≡ PageIs p i bytes → WaitsSo system log p (is_fetch_queued p queue) waiting
       → MarkedIfThere CarriesMarks system (log ++ e ∷ []) p (unended_process (page_held i bytes (Waits waiting)))
   come_marked legal unended after is waits = pages_marked system log e queue p i bytes waiting valid legal unended after is (for_pages legal is waits)
 
-  pub may_come_to : IsLegalBy BuiltMayFollow system (log ++ e ∷ []) → IsUnended system log p → what e ≡ PageIs p i bytes → WaitsSo system log p (is_fetch_queued p queue) waiting → CanComeTo i bytes (Waits waiting)
+  pub may_come_to : IsLegalBy MayStand system (log ++ e ∷ []) → IsUnended system log p → what e ≡ PageIs p i bytes → WaitsSo system log p (is_fetch_queued p queue) waiting → CanComeTo i bytes (Waits waiting)
   may_come_to legal unended is waits = pages_may system log e queue p i bytes waiting valid legal unended is (for_pages legal is waits)

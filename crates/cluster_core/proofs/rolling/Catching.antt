@@ -8,7 +8,7 @@ use Rattle.proc_state.specs.State.{ProcState, state_of}
 use Rattle.bus_msg.specs.declared.entry.Entry.{Entry}
 use Rattle.roll_forward.specs.Advancing.{Going, going, rolled_on}
 use Rattle.roll_forward.specs.RunsOut.{RunsOut, nothing_left}
-use Rattle.cert_sched.specs.Built.{BuiltMayFollow}
+use Rattle.cert_sched.specs.Built.{MayStand}
 use Rattle.cert_sched.specs.Legal.{IsLegalBy, Stands}
 use Rattle.cert_sched.specs.Schedule.{process_after}
 use Rattle.cert_sched.specs.Simulation.{IsUnended}
@@ -38,17 +38,17 @@ in_kernel system log p some = by_process (process_after system log p) refl some
     by_process None is h = absurd (true≢false (sym h))
     by_process (Some now) is h = record { now = now; there = is }
 
-module _ (system : System) (log : List Entry) (p : Pid) (valid : is_system system ≡ true) (open_log : IsOpen BuiltMayFollow system log) (unended : IsUnended system log p) where
+module _ (system : System) (log : List Entry) (p : Pid) (valid : is_system system ≡ true) (open_log : IsOpen MayStand system log) (unended : IsUnended system log p) where
   kernel : InKernel system log p
-  kernel = in_kernel system log p (unended_there BuiltMayFollow (λ system log e may. may.stands) system log p valid open_log.0 unended)
+  kernel = in_kernel system log p (unended_there MayStand (λ system log e may. may.stands) system log p valid open_log.0 unended)
 
   stands : IsLegalBy Stands system log
-  stands = legal_stands BuiltMayFollow (λ system log e may. may.stands) system log open_log.0
+  stands = legal_stands MayStand (λ system log e may. may.stands) system log open_log.0
 
   -- after all steps that were ahead nothing is left
   none_left : (n : ℕ) (g h : Going) → RollsBehind system log p g.state g.counts g.births → RunsOut g.state g.counts g.births (n + 0) → rolled_on n g ≡ Some h → nothing_left h.counts h.births ≡ true
   none_left n g h rolls out rolled =
-      let led = led_unended BuiltMayFollow (λ system log e may. may.stands) system log p kernel.now valid open_log.0 unended kernel.there in
+      let led = led_unended MayStand (λ system log e may. may.stands) system log p kernel.now valid open_log.0 unended kernel.there in
       let went = went_on system log p kernel.now led (n + 0) n g h rolls.rolls out (omega arith) rolled in
       let sum = went.sum in
       let none : went.left ≡ 0 = omega (arith, sum) in
@@ -68,6 +68,6 @@ module _ (system : System) (log : List Entry) (p : Pid) (valid : is_system syste
       let on = rolls.2 in
       let behind = standing_behind system log p (n + 0) n (going s counts births) (going q left unborn) valid stands unended held.1 on.runs_out (omega arith) on.rolled in
       let none = none_left n (going s counts births) (going q left unborn) held.1 on.runs_out on.rolled in
-      at_once system log p (state_of q) (caught_up BuiltMayFollow built_is_plain system log p (state_of q) left unborn valid open_log.0 open_log.1 unended behind none)
+      at_once system log p (state_of q) (caught_up MayStand built_is_plain system log p (state_of q) left unborn valid open_log.0 open_log.1 unended behind none)
   rolled_held n (Rolls s counts births) (Waits waiting) held rolls = absurd rolls
   rolled_held n (Waits waiting) between held rolls = absurd rolls

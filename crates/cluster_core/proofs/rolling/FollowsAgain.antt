@@ -3,14 +3,14 @@ use Rattle.std.proofs.Common.{◌≡◌, ℕ, List, [], inl, inr, subst, sym, tr
 use Rattle.t32_base.specs.declared.process.Pid.{Pid}
 use Rattle.sys_text.specs.Valid.{is_system}
 use Rattle.bus_msg.specs.declared.entry.Entry.{Entry}
-use Rattle.cert_sched.specs.Built.{BuiltMayFollow}
+use Rattle.cert_sched.specs.Built.{MayStand}
 use Rattle.cluster_core.specs.Follows.{FollowsBuilt, IsOpen}
 use Rattle.cluster_core.specs.ForkingAgain.{NoPart, Part, RollsAgain, RollsPart}
 use Rattle.cluster_core.specs.View.{ClusterView, Held}
 use Rattle.cluster_core.proofs.forks.ForkedOn.{forks_again_follows}
 use Rattle.cluster_core.proofs.rolling.RollsAgain.{rolls_again_follows}
 
-module _ (c : ClusterView) (log : List Entry) (p : Pid) (valid : is_system c.system ≡ true) (empty : c.queue ≡ []) (go : IsOpen BuiltMayFollow c.system log) where
+module _ (c : ClusterView) (log : List Entry) (p : Pid) (valid : is_system c.system ≡ true) (empty : c.queue ≡ []) (go : IsOpen MayStand c.system log) where
   abbrev Follows : List (Pid × Held) → Type 0
   Follows here = FollowsBuilt c.system log (record c { here = here })
 

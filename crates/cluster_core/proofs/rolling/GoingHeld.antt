@@ -8,7 +8,7 @@ use Rattle.proc_state.specs.declared.process.Process.{Process}
 use Rattle.proc_state.specs.State.{has_ended, state_of}
 use Rattle.bus_msg.specs.declared.entry.Entry.{Entry}
 use Rattle.roll_forward.specs.RunsOut.{nothing_left}
-use Rattle.cert_sched.specs.Built.{BuiltMayFollow}
+use Rattle.cert_sched.specs.Built.{MayStand}
 use Rattle.cert_sched.specs.Legal.{IsLegalBy, Stands}
 use Rattle.cert_sched.specs.Simulation.{IsUnended}
 use Rattle.cert_sched.proofs.MailLaws.{built_is_plain}
@@ -23,11 +23,11 @@ use Rattle.cluster_core.specs.Holds.{CarriesMarks, IsHeldAs, MarkedIfThere, unen
 use Rattle.cluster_core.proofs.absorbing.Telling.{at_once}
 use Rattle.cluster_core.proofs.here.Within.{own_within, runs_marked}
 
-module _ (system : System) (log : List Entry) (p : Pid) (process : Process) (counts : Counts) (births : List Pid) (valid : is_system system ≡ true) (go : IsOpen BuiltMayFollow system log) (unended : IsUnended system log p)
+module _ (system : System) (log : List Entry) (p : Pid) (process : Process) (counts : Counts) (births : List Pid) (valid : is_system system ≡ true) (go : IsOpen MayStand system log) (unended : IsUnended system log p)
     (behind : RollsBehind system log p (state_of process) counts births) where
   -- with nothing left it has caught up
   runs_held : nothing_left counts births ≡ true → IsHeldAs system log [] p (Runs process)
-  runs_held none = at_once system log p (state_of process) (caught_up BuiltMayFollow built_is_plain system log p (state_of process) counts births valid go.0 go.1 unended behind none)
+  runs_held none = at_once system log p (state_of process) (caught_up MayStand built_is_plain system log p (state_of process) counts births valid go.0 go.1 unended behind none)
 
   -- it is held as the log says
   pub going_is_held : IsHeldAs system log [] p (going_held process counts births)

@@ -4,7 +4,7 @@ use Rattle.t32_base.specs.declared.process.Pid.{Pid}
 use Rattle.sys_text.specs.Valid.{is_system}
 use Rattle.bus_msg.specs.declared.entry.Entry.{Entry}
 use Rattle.cert_sched.specs.Parts.{rising}
-use Rattle.cert_sched.specs.Built.{BuiltMayFollow}
+use Rattle.cert_sched.specs.Built.{MayStand}
 use Rattle.cluster_core.specs.View.{ClusterView, Held, Waits, held_at}
 use Rattle.cluster_core.specs.Residents.{with_changed}
 use Rattle.cluster_core.specs.Queue.{Nothing, with_queue}
@@ -20,7 +20,7 @@ rolled_in : (n : ℕ) (was now : Held) → RollsTo n was now → is_some (proces
 rolled_in n (Waits w) now rolls = absurd rolls
 rolled_in n _ now rolls = refl
 
-pub rolls_again_follows : (c : ClusterView) (log : List Entry) (p : Pid) (n : ℕ) (was now : Held) → is_system c.system ≡ true → c.queue ≡ [] → IsOpen BuiltMayFollow c.system log → FollowsBuilt c.system log c → held_at c p ≡ Some was → 1 ≤ n → RollsTo n was now
+pub rolls_again_follows : (c : ClusterView) (log : List Entry) (p : Pid) (n : ℕ) (was now : Held) → is_system c.system ≡ true → c.queue ≡ [] → IsOpen MayStand c.system log → FollowsBuilt c.system log c → held_at c p ≡ Some was → 1 ≤ n → RollsTo n was now
     → FollowsBuilt c.system log (record c { here = with_changed p now c.here })
 rolls_again_follows c log p n was now valid empty go f there some rolls = record {
   log = record { cursor = (f.log).cursor; places = (f.log).places };

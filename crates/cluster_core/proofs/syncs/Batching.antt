@@ -13,7 +13,7 @@ use Rattle.bus_msg.specs.declared.entry.Entry.{Entry}
 use Rattle.bus_msg.specs.Places.{same_pid}
 use Rattle.bus_msg.specs.PlacedAfter.{what}
 use Rattle.cert_sched.specs.Appended.{entry_of}
-use Rattle.cert_sched.specs.Built.{BuiltMayFollow, UnlostMayFollow}
+use Rattle.cert_sched.specs.Built.{MayStand, UnlostMayFollow}
 use Rattle.cert_sched.specs.Deeds.{arrived_count}
 use Rattle.cert_sched.specs.Legal.{IsLegalBy, Stands}
 use Rattle.cert_sched.specs.Losses.{capped, is_from, least_calls}
@@ -76,7 +76,7 @@ batch_head system log e before y head = by_indices y.indices (sym (ap (λ ps. op
     by_indices [] is = let whole : entry_of system log (sync_left before.number y.pid (state_of y.process) y.read y.took) ≡ e = cc in ap (λ (x : Entry). is_of_sync (what x)) (sym whole)
     by_indices (i ∷ indices) is = let whole : entry_of system log (page_left before.number y.pid (state_of y.process) i) ≡ e = cc in ap (λ (x : Entry). is_of_sync (what x)) (sym whole)
 
-module _ (system : System) (log : List Entry) (c : ClusterView) (y : Synchronises system log c) (valid : is_system system ≡ true) (open_log : IsOpen BuiltMayFollow system log) where
+module _ (system : System) (log : List Entry) (c : ClusterView) (y : Synchronises system log c) (valid : is_system system ≡ true) (open_log : IsOpen MayStand system log) where
   abbrev p : Pid
   p = y.pid
 

@@ -19,7 +19,7 @@ use Rattle.cert_sched.specs.Kinds.{ChildrenSynced}
 use Rattle.cert_sched.specs.Record.{has_state}
 use Rattle.cert_sched.specs.Steps.{silent_upto}
 use Rattle.cert_sched.specs.Legal.{IsLegalBy, Stands}
-use Rattle.cert_sched.specs.Built.{BuiltMayFollow}
+use Rattle.cert_sched.specs.Built.{MayStand}
 use Rattle.cert_sched.specs.Losses.{capped, least_calls, least_steps}
 use Rattle.cert_sched.specs.Rules.{has_its_pages, keeps_limits}
 use Rattle.log_laws.proofs.records.Standing.{built_stands}
@@ -70,7 +70,7 @@ due_or_takes system process new due = either (is_due_by process system.syncreads
 
 -- so it is in each log that the cluster follows
 abbrev pub MayCutIn : ClusterView → Pid → Process → Type 0
-MayCutIn c p process = (log : List Entry) → IsOpen BuiltMayFollow c.system log → FollowsBuilt c.system log c → MayCut c.system log p process
+MayCutIn c p process = (log : List Entry) → IsOpen MayStand c.system log → FollowsBuilt c.system log c → MayCut c.system log p process
 
 -- after its synchronisation it is as it is after the take
 synced_state : (process : Process) → state_of (synced process) ≡ state_of (cut_of process)
@@ -78,7 +78,7 @@ synced_state process = ap (λ (r : Ram). record { small = (cut_of process).small
 
 -- ---- a process of a cluster that follows a log, where nothing is queued and the process may synchronise
 
-module _ (c : ClusterView) (p : Pid) (process : Process) (valid : is_system c.system ≡ true) (empty : c.queue ≡ []) (there : held_at c p ≡ Some (Runs process)) (log : List Entry) (go : IsOpen BuiltMayFollow c.system log) (f : FollowsBuilt c.system log c)
+module _ (c : ClusterView) (p : Pid) (process : Process) (valid : is_system c.system ≡ true) (empty : c.queue ≡ []) (there : held_at c p ≡ Some (Runs process)) (log : List Entry) (go : IsOpen MayStand c.system log) (f : FollowsBuilt c.system log c)
     (may : MayCut c.system log p process) where
   legal : IsLegalBy Stands c.system log
   legal = built_stands c.system log go.0

@@ -7,7 +7,7 @@ use Rattle.roll_forward.specs.Rolling.{RollingState}
 use Rattle.bus_msg.specs.declared.entry.What.TheVariants.{PageIs}
 use Rattle.bus_msg.specs.declared.entry.Entry.{Entry}
 use Rattle.bus_msg.specs.PlacedAfter.{what}
-use Rattle.cert_sched.specs.Built.{BuiltMayFollow}
+use Rattle.cert_sched.specs.Built.{MayStand}
 use Rattle.cert_sched.specs.Legal.{IsLegalBy}
 use Rattle.cert_sched.specs.Simulation.{IsUnended}
 use Rattle.log_laws.proofs.pages.StartPages.{built_waits}
@@ -19,17 +19,17 @@ use Rattle.replay_laws.specs.pages.Waits.{GoesOnAs, WaitsAs}
 use Rattle.std.proofs.lemmas.List.{length-replicate}
 use Rattle.cluster_core.specs.Holds.{CarriesMarks}
 
-goes_on_marked : (system : System) (log : List Entry) (e : Entry) (p : Pid) (i : ℕ) (bytes : List ℕ) (queued : ℕ → Bool) (w : WaitingState) → is_system system ≡ true → IsLegalBy BuiltMayFollow system (log ++ e ∷ [])
+goes_on_marked : (system : System) (log : List Entry) (e : Entry) (p : Pid) (i : ℕ) (bytes : List ℕ) (queued : ℕ → Bool) (w : WaitingState) → is_system system ≡ true → IsLegalBy MayStand system (log ++ e ∷ [])
     → IsUnended system (log ++ e ∷ []) p → what e ≡ PageIs p i bytes → WaitsAs system (log ++ e ∷ []) p queued w → (goes : GoesOnAs system (log ++ e ∷ []) p w) → IsMarked system (log ++ e ∷ []) p (goes.rolling).process
 goes_on_marked system log e p i bytes queued w valid legal unended is waits goes =
     subst (λ (r : RollingState). IsMarked system (log ++ e ∷ []) p r.process) (sym goes.begins)
-    (begun_marked BuiltMayFollow built_waits system log e p i bytes goes.start w.kept valid legal unended is goes.started waits.kept)
+    (begun_marked MayStand built_waits system log e p i bytes goes.start w.kept valid legal unended is goes.started waits.kept)
 
-goes_on_unsent : (system : System) (log : List Entry) (e : Entry) (p : Pid) (i : ℕ) (bytes : List ℕ) (n : ℕ) → IsLegalBy BuiltMayFollow system (log ++ e ∷ []) → what e ≡ PageIs p i bytes → SentUpto system (log ++ e ∷ []) p n
-goes_on_unsent = begun_sent BuiltMayFollow built_waits
+goes_on_unsent : (system : System) (log : List Entry) (e : Entry) (p : Pid) (i : ℕ) (bytes : List ℕ) (n : ℕ) → IsLegalBy MayStand system (log ++ e ∷ []) → what e ≡ PageIs p i bytes → SentUpto system (log ++ e ∷ []) p n
+goes_on_unsent = begun_sent MayStand built_waits
 
 -- so it carries the marks of the log
-pub goes_on_carries : (system : System) (log : List Entry) (e : Entry) (p : Pid) (i : ℕ) (bytes : List ℕ) (queued : ℕ → Bool) (w : WaitingState) → is_system system ≡ true → IsLegalBy BuiltMayFollow system (log ++ e ∷ [])
+pub goes_on_carries : (system : System) (log : List Entry) (e : Entry) (p : Pid) (i : ℕ) (bytes : List ℕ) (queued : ℕ → Bool) (w : WaitingState) → is_system system ≡ true → IsLegalBy MayStand system (log ++ e ∷ [])
     → IsUnended system (log ++ e ∷ []) p → what e ≡ PageIs p i bytes → WaitsAs system (log ++ e ∷ []) p queued w → (goes : GoesOnAs system (log ++ e ∷ []) p w) → CarriesMarks system (log ++ e ∷ []) p (goes.rolling).process
 goes_on_carries system log e p i bytes queued w valid legal unended is waits goes = record {
   marked = goes_on_marked system log e p i bytes queued w valid legal unended is waits goes;

@@ -15,7 +15,7 @@ use Rattle.bus_msg.specs.declared.entry.Post.{Post}
 use Rattle.bus_msg.specs.Places.{Places, same_pid}
 use Rattle.bus_msg.specs.PlacedAfter.{placed_after, what}
 use Rattle.cert_sched.specs.Appended.{entry_of}
-use Rattle.cert_sched.specs.Built.{BuiltMayFollow, UnlostMayFollow}
+use Rattle.cert_sched.specs.Built.{MayStand, UnlostMayFollow}
 use Rattle.cert_sched.specs.Losses.{is_from, is_page_entry, least_calls}
 use Rattle.cert_sched.specs.Parts.{rising}
 use Rattle.cert_sched.specs.Rests.{home_pids}
@@ -89,7 +89,7 @@ abbrev left : ClusterView → List Post → ClusterView
 left b rest = record b { queue = rest; tried = false }
 
 module _ (system : System) (valid : is_system system ≡ true) (log : List Entry) (b : ClusterView) (f : FollowsBuilt system log b) (tried : b.tried ≡ true) (own : AllOwn b.cursor b.here) (p : Pid) (process : Process) (there : held_at b p ≡ Some (Runs process)) (head : Post) (rest : List Post) (posts : b.queue ≡ head ∷ rest) (of : is_of_sync head.what ≡ true) (told : process_of head.what ≡ Some p)
-    (now : IsOpen BuiltMayFollow system log) (next : IsOpen BuiltMayFollow system (log ++ entry_of system log head ∷ [])) where
+    (now : IsOpen MayStand system log) (next : IsOpen MayStand system (log ++ entry_of system log head ∷ [])) where
   abbrev e : Entry
   e = entry_of system log head
 
@@ -169,7 +169,7 @@ module _ (system : System) (valid : is_system system ≡ true) (log : List Entry
 -- ---- the whole
 
 -- After the entry that the head of its batch became, a cluster follows the log with it: it has the rest of the batch to send, or nothing once that was the cut.
-pub follows_own_batch : (c : ClusterView) (log : List Entry) (e : Entry) (server : Option PagerState) → is_system c.system ≡ true → AllOwn c.cursor c.here → IsOpen BuiltMayFollow c.system log → IsOpen BuiltMayFollow c.system (log ++ e ∷ [])
+pub follows_own_batch : (c : ClusterView) (log : List Entry) (e : Entry) (server : Option PagerState) → is_system c.system ≡ true → AllOwn c.cursor c.here → IsOpen MayStand c.system log → IsOpen MayStand c.system (log ++ e ∷ [])
     → (s : StandsBetween FollowsBuilt c.system log e c) → Synchronises c.system log s.before → Serves (placement c.system log) e c.server server → FollowsBuilt c.system (log ++ e ∷ []) (with_server server (absorbed c e))
 follows_own_batch c log e server valid own now next s y serves = by_indices y.indices y.posts y.may
   where
@@ -191,7 +191,7 @@ follows_own_batch c log e server valid own now next s y serves = by_indices y.in
         subst (λ x. FollowsBuilt system (log ++ x ∷ []) (with_server server (absorbed c x))) whole
         (subst (λ v. FollowsBuilt system (log ++ entry_of system log head ∷ []) (with_server server (absorbed v (entry_of system log head)))) (sym same)
         (subst (λ v. FollowsBuilt system (log ++ entry_of system log head ∷ []) (with_server server v)) (sym (sync_taken (left b rest) (entry_of system log head) of))
-        (follows_head system valid log b s.followed s.tried (subst (λ (v : ClusterView). AllOwn v.cursor v.here) same own) y.pid y.process y.there head rest posts of told now (subst (λ x. IsOpen BuiltMayFollow system (log ++ x ∷ [])) (sym whole) next)
+        (follows_head system valid log b s.followed s.tried (subst (λ (v : ClusterView). AllOwn v.cursor v.here) same own) y.pid y.process y.there head rest posts of told now (subst (λ x. IsOpen MayStand system (log ++ x ∷ [])) (sym whole) next)
         server (subst (λ x. Serves (placement system log) x b.server server) (sym whole) (subst (λ (v : ClusterView). Serves (placement system log) e v.server server) same serves)) aside_all aside runs queued)))
       where
         whole : entry_of system log head ≡ e

@@ -17,7 +17,7 @@ use Rattle.bus_msg.specs.declared.entry.Entry.{Entry}
 use Rattle.bus_msg.specs.declared.placed.Placed.{Placed}
 use Rattle.bus_msg.specs.Places.{Places, is_at_home, same_cluster, same_pid, unended_at}
 use Rattle.bus_msg.specs.PlacedAfter.{what}
-use Rattle.cert_sched.specs.Built.{BuiltMayFollow, KeepsLimits, tells_or_closes}
+use Rattle.cert_sched.specs.Built.{MayStand, KeepsLimits, tells_or_closes}
 use Rattle.cert_sched.specs.Deeds.{is_end_of, letter_for, to_process}
 use Rattle.cert_sched.specs.Legal.{Stands}
 use Rattle.cert_sched.specs.Losses.{is_by_cluster}
@@ -141,7 +141,7 @@ not_later p n _ none = refl
 
 -- ---- the whole
 
-module _ (c : ClusterView) (log : List Entry) (e : Entry) (y : Synchronises c.system log c) (valid : is_system c.system ≡ true) (now : IsOpen BuiltMayFollow c.system log) (next : IsOpen BuiltMayFollow c.system (log ++ e ∷ []))
+module _ (c : ClusterView) (log : List Entry) (e : Entry) (y : Synchronises c.system log c) (valid : is_system c.system ≡ true) (now : IsOpen MayStand c.system log) (next : IsOpen MayStand c.system (log ++ e ∷ []))
     (f : FollowsBuilt c.system log c) (foreign : is_by_cluster c.number e ≡ false) where
   abbrev later : List Entry
   later = log ++ e ∷ []
@@ -176,11 +176,11 @@ module _ (c : ClusterView) (log : List Entry) (e : Entry) (y : Synchronises c.sy
       there : held_at new p ≡ Some (Runs r.now)
       there = at.1 ∙ ap Some r.is
 
-      by_home_of : (entries : List Entry) → IsOpen BuiltMayFollow c.system entries → HomeHere (placement c.system entries) p c.number → is_by_home (placement c.system entries) (Cluster c.number) (Some p) ≡ true
+      by_home_of : (entries : List Entry) → IsOpen MayStand c.system entries → HomeHere (placement c.system entries) p c.number → is_by_home (placement c.system entries) (Cluster c.number) (Some p) ≡ true
       by_home_of entries open_log home = home_by (placement c.system entries) c.number p (home_lives c.system entries p c.number valid open_log.0 open_log.1 home) home
 
       stands : Stands c.system log e
-      stands = (IsLegal-last BuiltMayFollow c.system log e next.0).stands
+      stands = (IsLegal-last MayStand c.system log e next.0).stands
 
       between : ComesBetween c.system log e c.number p
       between = others_between c.system log e c.number p valid (built_stands c.system log now.0) stands foreign (by_home_of log now home_now) next.1 (by_home_of later next home_then)

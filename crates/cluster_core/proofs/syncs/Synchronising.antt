@@ -20,7 +20,7 @@ use Rattle.bus_msg.specs.declared.placed.Placed.{Placed}
 use Rattle.bus_msg.specs.Places.{ClusterPlace, Places, same_pid, unended_at}
 use Rattle.bus_msg.specs.PlacedAfter.{after_sync, placed_after, what}
 use Rattle.channel_table.specs.Changes.{pids_differ}
-use Rattle.cert_sched.specs.Built.{BuiltMayFollow}
+use Rattle.cert_sched.specs.Built.{MayStand}
 use Rattle.cert_sched.specs.CertAfter.{count_in}
 use Rattle.cert_sched.specs.Deeds.{deeds_in, is_cut, letter_for, is_birth_of}
 use Rattle.cert_sched.specs.Kinds.{KindHolds, took_is}
@@ -73,7 +73,7 @@ sync_taken c e =
       steps = next_count c.steps;
     } ≡ record c { cursor = c.cursor + 1; places = placed_after c.places w; records = records_after w c.records; family = family_after w c.family; steps = next_count c.steps }) (λ pid at index bytes. refl) (λ pid small read took. refl) (what e)
 
-module _ (system : System) (valid : is_system system ≡ true) (log : List Entry) (e : Entry) (of : is_of_sync (what e) ≡ true) (now : IsOpen BuiltMayFollow system log) (next : IsOpen BuiltMayFollow system (log ++ e ∷ [])) where
+module _ (system : System) (valid : is_system system ≡ true) (log : List Entry) (e : Entry) (of : is_of_sync (what e) ≡ true) (now : IsOpen MayStand system log) (next : IsOpen MayStand system (log ++ e ∷ [])) where
   abbrev later : List Entry
   later = log ++ e ∷ []
 
@@ -81,7 +81,7 @@ module _ (system : System) (valid : is_system system ≡ true) (log : List Entry
   places = placement system log
 
   pub stands : Stands system log e
-  stands = (IsLegal-last BuiltMayFollow system log e next.0).stands
+  stands = (IsLegal-last MayStand system log e next.0).stands
 
   pub differ : pids_differ places.placed ≡ true
   differ = differ_built system log valid now.0

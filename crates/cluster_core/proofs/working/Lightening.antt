@@ -16,7 +16,7 @@ use Rattle.sys_calls.specs.Small.{weight_with_children}
 use Rattle.sys_calls.proofs.Bearing.{emits_lightens, silently_lightens}
 use Rattle.bus_msg.specs.declared.entry.Entry.{Entry}
 use Rattle.bus_msg.specs.Places.{is_at_home}
-use Rattle.cert_sched.specs.Built.{BuiltMayFollow}
+use Rattle.cert_sched.specs.Built.{MayStand}
 use Rattle.cert_sched.specs.Legal.{IsLegalBy}
 use Rattle.cert_sched.specs.Parts.{put_rising, rising}
 use Rattle.cert_sched.specs.Rests.{home_pids}
@@ -76,11 +76,11 @@ apart_unsorted (x ∷ xs) two =
     let parts = put_two x (rising xs) two in
     (sym (rising-any (λ m. eqb m x) xs) ∙ parts.0, apart_unsorted xs parts.1)
 
-homes_apart : (system : System) (log : List Entry) (k : ClusterNo) → is_system system ≡ true → IsLegalBy BuiltMayFollow system log → NoTwo (home_pids system log k)
+homes_apart : (system : System) (log : List Entry) (k : ClusterNo) → is_system system ≡ true → IsLegalBy MayStand system log → NoTwo (home_pids system log k)
 homes_apart system log k valid legal =
-    apart_fewer (is_at_home k) (placement system log).placed (two_apart system log (all_roll BuiltMayFollow (λ system log e may. may.stands) system log valid legal))
+    apart_fewer (is_at_home k) (placement system log).placed (two_apart system log (all_roll MayStand (λ system log e may. may.stands) system log valid legal))
 
-pub pids_apart : (c : ClusterView) (log : List Entry) → is_system c.system ≡ true → IsLegalBy BuiltMayFollow c.system log → FollowsBuilt c.system log c → NoTwo (pids_in c.here)
+pub pids_apart : (c : ClusterView) (log : List Entry) → is_system c.system ≡ true → IsLegalBy MayStand c.system log → FollowsBuilt c.system log c → NoTwo (pids_in c.here)
 pids_apart c log valid legal f = apart_unsorted (pids_in c.here) (subst NoTwo (sym (f.processes).each_once) (rising-apart (home_pids c.system log c.number) (homes_apart c.system log c.number valid legal)))
 
 pub held_apart : (c : ClusterView) → is_system c.system ≡ true → FollowsSome c → NoTwo (pids_in c.here)

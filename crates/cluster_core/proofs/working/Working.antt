@@ -26,7 +26,7 @@ use Rattle.cert_sched.specs.Rules.{has_its_pages, keeps_limits, is_by, is_living
 use Rattle.birth_notice.specs.Family.{first_unsynced}
 use Rattle.cert_sched.specs.Kinds.{ChildrenSynced, KindHolds}
 use Rattle.cert_sched.specs.Legal.{IsLegalBy, Stands}
-use Rattle.cert_sched.specs.Built.{is_unlost, BuiltMayFollow, KeepsWaits, UnlostMayFollow}
+use Rattle.cert_sched.specs.Built.{is_unlost, MayStand, KeepsWaits, UnlostMayFollow}
 use Rattle.cert_sched.specs.Losses.{least_steps, capped, is_from, is_page_is_entry}
 use Rattle.cert_sched.specs.Appended.{entry_of}
 use Rattle.cert_sched.proofs.StepLaws.{Tells, sent_applies}
@@ -309,7 +309,7 @@ marks_beside c log p now queue f mine others q h at = by_pid (same_pid q p) refl
         subst (λ (x : Held). MarkedIfThere CarriesMarks c.system (with_queue c.system log queue) q (unended_process x)) (sym (w.is.1 other)) (others q w.was other w.there (f.marks q w.was w.there))
 
 -- with a post that is queued where nothing was a process has the marks that it had
-pub marks_queued : (c : ClusterView) (log : List Entry) (post : Post) → is_system c.system ≡ true → c.queue ≡ [] → IsOpen BuiltMayFollow c.system log → FollowsBuilt c.system log c → is_lone post.what ≡ true → is_from c.number post.by ≡ true
+pub marks_queued : (c : ClusterView) (log : List Entry) (post : Post) → is_system c.system ≡ true → c.queue ≡ [] → IsOpen MayStand c.system log → FollowsBuilt c.system log c → is_lone post.what ≡ true → is_from c.number post.by ≡ true
     → UnlostMayFollow c.system log (entry_of c.system log post) → (q : Pid) (h : Held) → held_at c q ≡ Some h → IsHeldAs c.system log (post ∷ []) q h → MarkedIfThere CarriesMarks c.system (with_queue c.system log c.queue) q (unended_process h)
     → MarkedIfThere CarriesMarks c.system (with_queue c.system log (post ∷ [])) q (unended_process h)
 marks_queued c log post valid empty go f lone own may q h there held m =
@@ -318,7 +318,7 @@ marks_queued c log post valid empty go f lone own may q h there held m =
     (subst (λ ps. MarkedIfThere CarriesMarks c.system (with_queue c.system log ps) q (unended_process h)) empty m)
 
 -- a process of a cluster that follows a log, with its cluster
-module _ (c : ClusterView) (p : Pid) (was : Held) (empty : c.queue ≡ []) (there : held_at c p ≡ Some was) (valid : is_system c.system ≡ true) (log : List Entry) (now : IsOpen BuiltMayFollow c.system log) (f : FollowsBuilt c.system log c) where
+module _ (c : ClusterView) (p : Pid) (was : Held) (empty : c.queue ≡ []) (there : held_at c p ≡ Some was) (valid : is_system c.system ≡ true) (log : List Entry) (now : IsOpen MayStand c.system log) (f : FollowsBuilt c.system log c) where
   pub home_of_it : HomeHere (placement c.system log) p c.number
   home_of_it = home_here (placement c.system log) c.number (pids_in c.here) p (differ_built c.system log valid now.0) (f.processes).each_once (is_among c.here p was there)
 
@@ -483,7 +483,7 @@ module _ (c : ClusterView) (p : Pid) (made : ℕ) (was : Held) (sending : Sendin
   posted_own : is_from c.number post.by ≡ true
   posted_own = ap (λ (p : Post). is_from c.number p.by) post_is ∙ eq-eqb (c.number).0 (c.number).0 refl
 
-  module _ (valid : is_system c.system ≡ true) (has : (c.number).0 < (c.system).clusters) (log : List Entry) (go : IsOpen BuiltMayFollow c.system log) (f : FollowsBuilt c.system log c) where
+  module _ (valid : is_system c.system ≡ true) (has : (c.number).0 < (c.system).clusters) (log : List Entry) (go : IsOpen MayStand c.system log) (f : FollowsBuilt c.system log c) where
     emission_is : emission_at c.system log p at ≡ Some (e, state_of s.now)
     emission_is = ahead_sent c.system log p (state_of s.between) (state_of s.before) (state_of s.now) s.silent e (held_there c p (Runs s.between) empty runs_there valid log go f) (s.runs).silent s.sends
 

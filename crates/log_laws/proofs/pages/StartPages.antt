@@ -26,7 +26,7 @@ use Rattle.cert_sched.specs.Moved.{any_since_moved, waiting_fetches, moved_with_
 use Rattle.cert_sched.specs.Steps.{page_count}
 use Rattle.cert_sched.specs.Kinds.{PageIsHolds}
 use Rattle.cert_sched.specs.Rules.{holds_of, awaits_pages, has_its_pages}
-use Rattle.cert_sched.specs.Built.{BuiltMayFollow, KeepsWaits}
+use Rattle.cert_sched.specs.Built.{MayStand, KeepsWaits}
 use Rattle.cert_sched.specs.Legal.{IsLegalBy, IsLegalFrom, Stands}
 use Rattle.cert_sched.specs.Simulation.{IsUnended}
 use Rattle.cert_sched.proofs.LogLaws.{placement-snoc}
@@ -208,7 +208,7 @@ page_in_log system before after e p i bytes start valid legal is none started =
 abbrev pub IsWaitingRule : (System → List Entry → Entry → Type 0) → Type 0
 IsWaitingRule May = (system : System) (log : List Entry) (e : Entry) → May system log e → Stands system log e × KeepsWaits system log e
 
-pub built_waits : IsWaitingRule BuiltMayFollow
+pub built_waits : IsWaitingRule MayStand
 built_waits system log e may = (may.stands, may.pages)
 
 -- a cut waits for the pages of its process

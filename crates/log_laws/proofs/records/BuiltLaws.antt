@@ -13,7 +13,7 @@ use Rattle.bus_msg.specs.PlacedAfter.{what}
 use Rattle.cert_sched.specs.Schedule.{process_after}
 use Rattle.cert_sched.specs.Record.{backup_record}
 use Rattle.cert_sched.specs.Legal.{IsLegalBy, Stands}
-use Rattle.cert_sched.specs.Built.{BuiltMayFollow}
+use Rattle.cert_sched.specs.Built.{MayStand}
 use Rattle.cert_sched.specs.Simulation.{IsUnended}
 use Rattle.cert_sched.proofs.LogLaws.{IsLegal-last}
 use Rattle.cert_sched.proofs.SpentLaws.{few_steps_after}
@@ -39,7 +39,7 @@ built_count system log e at letter kept valid legal is unended kept_is =
         (out, omega (arith, below, few))
 
 -- each entry of a log of the entries that are built so far may be noted
-pub built_can_note : (system : System) (log : List Entry) (e : Entry) (k : ClusterNo) (recs : List BackRec) → is_system system ≡ true → IsLegalBy BuiltMayFollow system (log ++ e ∷ []) → length log < 2 ^ 64 - 1 → KeepsRecords system log k recs
+pub built_can_note : (system : System) (log : List Entry) (e : Entry) (k : ClusterNo) (recs : List BackRec) → is_system system ≡ true → IsLegalBy MayStand system (log ++ e ∷ []) → length log < 2 ^ 64 - 1 → KeepsRecords system log k recs
     → CanNote (what e) recs
 built_can_note system log e k recs valid legal room keeps =
     note_by system log e k recs valid (built_stands system (log ++ e ∷ []) legal) room keeps (λ at letter kept is unended kept_is. built_count system log e at letter kept valid (built_stands system (log ++ e ∷ []) legal) is unended kept_is)

@@ -3,7 +3,7 @@ use Rattle.std.proofs.Common.{List, [], ◌∷◌, ◌++◌}
 use Rattle.sys_text.specs.declared.system.System.{System}
 use Rattle.bus_msg.specs.declared.entry.Entry.{Entry}
 use Rattle.cert_sched.specs.Legal.{IsLegalBy, IsLegalFrom, Stands}
-use Rattle.cert_sched.specs.Built.{BuiltMayFollow}
+use Rattle.cert_sched.specs.Built.{MayStand}
 use Rattle.cert_sched.proofs.CameLaws.{IsStandingRule}
 
 stands_from : (May : System → List Entry → Entry → Type 0) → IsStandingRule May → (system : System) (log rest : List Entry) → IsLegalFrom May system log rest → IsLegalFrom Stands system log rest
@@ -16,8 +16,8 @@ unfolding IsLegalBy
 legal_stands May standing system log legal = stands_from May standing system [] log legal
 
 -- so it does in a log of the entries that are built so far
-pub built_stands : (system : System) (log : List Entry) → IsLegalBy BuiltMayFollow system log → IsLegalBy Stands system log
-built_stands = legal_stands BuiltMayFollow (λ system log e may. may.stands)
+pub built_stands : (system : System) (log : List Entry) → IsLegalBy MayStand system log → IsLegalBy Stands system log
+built_stands = legal_stands MayStand (λ system log e may. may.stands)
 
 pub itself : IsStandingRule Stands
 itself system log e stands = stands

@@ -16,7 +16,7 @@ ghost use Rattle.cert_sched.specs.Moved.{any_since_moved, moved_with_state, wait
 ghost use Rattle.cert_sched.specs.Steps.{page_count};
 ghost use Rattle.cert_sched.specs.Kinds.{PageIsHolds};
 ghost use Rattle.cert_sched.specs.Rules.{has_its_pages};
-ghost use Rattle.cert_sched.specs.Built.{BuiltMayFollow};
+ghost use Rattle.cert_sched.specs.Built.{MayStand};
 ghost use Rattle.cert_sched.specs.Legal.{IsLegalBy, Stands};
 ghost use Rattle.cert_sched.specs.Simulation.{IsUnended};
 ghost use Rattle.log_laws.specs.pages.Waited.{is_waited};
@@ -40,5 +40,5 @@ pub fn starts_stay()
     // so each page that came and was followed by no cut of the process is that of the start.
     ensures came { (system : System) (before after : List Entry) (e : Entry) (p : Pid) (i : ℕ) (bytes : List ℕ) (start : ProcState) → is_system system ≡ true → IsLegalBy Stands system (before ++ e ∷ after) → what e ≡ PageIs p i bytes → list_any (λ (f : Entry). is_cut p (what f)) after ≡ false → start_of system (before ++ e ∷ after) p ≡ Some start → bytes ≡ page_at start.memory i }
     // While it has not got its pages it was not cut since a crash moved it, in a log that keeps the waits for pages.
-    ensures uncut { (system : System) (log : List Entry) (p : Pid) → IsLegalBy BuiltMayFollow system log → has_its_pages system log p ≡ false → any_since_moved system log p (is_cut p) ≡ false }
+    ensures uncut { (system : System) (log : List Entry) (p : Pid) → IsLegalBy MayStand system log → has_its_pages system log p ≡ false → any_since_moved system log p (is_cut p) ≡ false }
 {}

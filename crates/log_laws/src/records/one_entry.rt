@@ -17,7 +17,7 @@ ghost use Rattle.cert_sched.specs.Schedule.{placement, process_after};
 ghost use Rattle.crash_notice.specs.Splitting.{stays};
 ghost use Rattle.cert_sched.specs.Steps.{steps_since};
 ghost use Rattle.cert_sched.specs.Legal.{IsLegal, IsLegalBy, Stands};
-ghost use Rattle.cert_sched.specs.Built.{BuiltMayFollow};
+ghost use Rattle.cert_sched.specs.Built.{MayStand};
 ghost use Rattle.cert_sched.specs.Record.{backup_record};
 ghost use Rattle.cert_sched.specs.Simulation.{IsUnended};
 ghost use Rattle.backup_records.specs.Records.{CanNote, record_after, record_in, record_of_child, records_after};
@@ -26,7 +26,7 @@ ghost use Rattle.log_laws.specs.records.Kept.{KeepsRecords, changes_in_place, is
 /// A law and no code: in a legal log each entry stands, and so it does in one of the entries that are built so far.
 pub fn legal_logs_stand()
     ensures legal { (system : System) (log : List Entry) → IsLegal system log → IsLegalBy Stands system log }
-    ensures built { (system : System) (log : List Entry) → IsLegalBy BuiltMayFollow system log → IsLegalBy Stands system log }
+    ensures built { (system : System) (log : List Entry) → IsLegalBy MayStand system log → IsLegalBy Stands system log }
 {}
 
 /// A law and no code: an entry that is no new backup for a process after it has run makes of its record, where it has
@@ -61,5 +61,5 @@ pub fn entries_can_be_noted()
     // So each entry of a legal log may be noted.
     ensures legal { (system : System) (log : List Entry) (e : Entry) (k : ClusterNo) (recs : List BackRec) → is_system system ≡ true → IsLegal system (log ++ e ∷ []) → length log < 2 ^ 64 - 1 → KeepsRecords system log k recs → CanNote (what e) recs }
     // And so may each of a log of the entries that are built so far.
-    ensures built { (system : System) (log : List Entry) (e : Entry) (k : ClusterNo) (recs : List BackRec) → is_system system ≡ true → IsLegalBy BuiltMayFollow system (log ++ e ∷ []) → length log < 2 ^ 64 - 1 → KeepsRecords system log k recs → CanNote (what e) recs }
+    ensures built { (system : System) (log : List Entry) (e : Entry) (k : ClusterNo) (recs : List BackRec) → is_system system ≡ true → IsLegalBy MayStand system (log ++ e ∷ []) → length log < 2 ^ 64 - 1 → KeepsRecords system log k recs → CanNote (what e) recs }
 {}

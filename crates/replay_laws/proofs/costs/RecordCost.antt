@@ -18,7 +18,7 @@ use Rattle.cert_sched.specs.Steps.{numbers_read}
 use Rattle.cert_sched.specs.Record.{backup_record}
 use Rattle.cert_sched.specs.Rolling.{refilled}
 use Rattle.cert_sched.specs.Legal.{IsLegalBy}
-use Rattle.cert_sched.specs.Built.{BuiltMayFollow}
+use Rattle.cert_sched.specs.Built.{MayStand}
 use Rattle.cert_sched.specs.Simulation.{IsUnended, RecordLeads}
 use Rattle.cert_sched.proofs.LimitLaws.{Ahead, built_record_ahead}
 use Rattle.cert_sched.proofs.OpenLaws.{unended_open}
@@ -33,14 +33,14 @@ record Found (system : System) (log : List Entry) (p : Pid) (kept : BackRec) : T
   pub leads : RecordLeads system log p kept now
   pub ahead : Ahead system kept leads.there leads.ahead
 
-found : (system : System) (log : List Entry) (p : Pid) (kept : BackRec) → is_system system ≡ true → IsLegalBy BuiltMayFollow system log → IsUnended system log p → backup_record system log p ≡ Some kept → Found system log p kept
-found system log p kept valid legal unended is = by_process (process_after system log p) refl (unended_there BuiltMayFollow built_stands system log p valid legal unended)
+found : (system : System) (log : List Entry) (p : Pid) (kept : BackRec) → is_system system ≡ true → IsLegalBy MayStand system log → IsUnended system log p → backup_record system log p ≡ Some kept → Found system log p kept
+found system log p kept valid legal unended is = by_process (process_after system log p) refl (unended_there MayStand built_stands system log p valid legal unended)
   where
     by_process : (o : Option ProcState) → process_after system log p ≡ o → is_some o ≡ true → Found system log p kept
     by_process None there some = absurd (true≢false (sym some))
     by_process (Some now) there some =
-        let goes_on = unended_open BuiltMayFollow built_stands system log p valid legal unended now there in
-        let leads = record_leads BuiltMayFollow built_stands system log p now kept valid legal there goes_on is in
+        let goes_on = unended_open MayStand built_stands system log p valid legal unended now there in
+        let leads = record_leads MayStand built_stands system log p now kept valid legal there goes_on is in
         record { now = now; leads = leads; ahead = built_record_ahead system log p now kept valid legal there goes_on leads is }
 
 module _ (system : System) (log : List Entry) (p : Pid) (start : ProcState) (kept : BackRec) (ram : Memory) (n : ℕ) (f : Found system log p kept) (begins : start_of system log p ≡ Some start) (bytes : ram.bytes ≡ start.memory)
@@ -67,12 +67,12 @@ module _ (system : System) (log : List Entry) (p : Pid) (start : ProcState) (kep
       subst (λ (s : ProcState). length (numbers_read kept.saved s.mail) ≤ system.syncreads) (first_is ((f.leads).there, since log p) there deeds led).0 (f.ahead).reads
 
 -- in a log of what is built what the record of a process counts runs out within the steps between two cuts
-pub cost_in_steps : (system : System) (log : List Entry) (p : Pid) (start : ProcState) (kept : BackRec) (ram : Memory) (n : ℕ) → is_system system ≡ true → IsLegalBy BuiltMayFollow system log → IsUnended system log p
+pub cost_in_steps : (system : System) (log : List Entry) (p : Pid) (start : ProcState) (kept : BackRec) (ram : Memory) (n : ℕ) → is_system system ≡ true → IsLegalBy MayStand system log → IsUnended system log p
     → start_of system log p ≡ Some start → backup_record system log p ≡ Some kept → ram.bytes ≡ start.memory → RunsOut (started start.small ram kept.saved kept.next) kept.counts kept.births n → n ≤ system.syncsteps
 cost_in_steps system log p start kept ram n valid legal unended begins is bytes runs = steps system log p start kept ram n (found system log p kept valid legal unended is) begins bytes runs
 
 -- and by then the process has read no more of its saved letters than between two cuts
-pub cost_in_reads : (system : System) (log : List Entry) (p : Pid) (start there : ProcState) (kept : BackRec) (ram : Memory) (n : ℕ) (deeds : List Deed) → is_system system ≡ true → IsLegalBy BuiltMayFollow system log
+pub cost_in_reads : (system : System) (log : List Entry) (p : Pid) (start there : ProcState) (kept : BackRec) (ram : Memory) (n : ℕ) (deeds : List Deed) → is_system system ≡ true → IsLegalBy MayStand system log
     → IsUnended system log p → start_of system log p ≡ Some start → backup_record system log p ≡ Some kept → ram.bytes ≡ start.memory → RunsOut (started start.small ram kept.saved kept.next) kept.counts kept.births n
     → replayed n (started start.small ram kept.saved kept.next) kept.births ≡ Some (there, deeds) → length (numbers_read kept.saved there.mail) ≤ system.syncreads
 cost_in_reads system log p start there kept ram n deeds valid legal unended begins is bytes runs made =

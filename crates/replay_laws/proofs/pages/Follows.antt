@@ -12,7 +12,7 @@ use Rattle.bus_msg.specs.Places.{same_pid}
 use Rattle.bus_msg.specs.PlacedAfter.{what}
 use Rattle.cert_sched.specs.Schedule.{process_after}
 use Rattle.cert_sched.specs.Account.{account_after, page_in, is_exit_of}
-use Rattle.cert_sched.specs.Built.{BuiltMayFollow}
+use Rattle.cert_sched.specs.Built.{MayStand}
 use Rattle.cert_sched.specs.Deeds.{deeds_in, is_cut}
 use Rattle.cert_sched.specs.Legal.{IsLegalBy, Stands}
 use Rattle.cert_sched.specs.Moved.{any_since_moved, is_fetch, is_page_is}
@@ -130,15 +130,15 @@ module _ (system : System) (log : List Entry) (e : Entry) (p : Pid) (queued : �
 -- ---- in a log of the entries that are built so far
 
 -- an entry that is no page of it, and does not cut it
-pub other_entry : (system : System) (log : List Entry) (e : Entry) (p : Pid) (queued : ℕ → Bool) (w : WaitingState) → is_system system ≡ true → IsLegalBy BuiltMayFollow system (log ++ e ∷ []) → IsUnended system log p → moves_next system log e p ≡ false
+pub other_entry : (system : System) (log : List Entry) (e : Entry) (p : Pid) (queued : ℕ → Bool) (w : WaitingState) → is_system system ≡ true → IsLegalBy MayStand system (log ++ e ∷ []) → IsUnended system log p → moves_next system log e p ≡ false
     → is_cut p (what e) ≡ false → deeds_in p (what e) ≡ [] → ((i : ℕ) → is_page_is p i (what e) ≡ false) → WaitsAs system log p (λ i. is_fetch p i (what e) || queued i) w → WaitsAs system (log ++ e ∷ []) p queued (record w { kept = record_after (what e) w.kept })
 other_entry system log e p queued w valid legal = other_so system log e p queued w valid (built_stands system (log ++ e ∷ []) legal)
 
 -- a page of it
-pub page_within : (system : System) (log : List Entry) (e : Entry) (p : Pid) (queued : ℕ → Bool) (w : WaitingState) → is_system system ≡ true → IsLegalBy BuiltMayFollow system (log ++ e ∷ []) → (i : ℕ) (bytes : List ℕ) → what e ≡ PageIs p i bytes
+pub page_within : (system : System) (log : List Entry) (e : Entry) (p : Pid) (queued : ℕ → Bool) (w : WaitingState) → is_system system ≡ true → IsLegalBy MayStand system (log ++ e ∷ []) → (i : ℕ) (bytes : List ℕ) → what e ≡ PageIs p i bytes
     → WaitsAs system log p queued w → i < length w.come
 page_within system log e p queued w valid legal = within_so system log e p queued w valid (built_stands system (log ++ e ∷ []) legal)
 
-pub page_entry : (system : System) (log : List Entry) (e : Entry) (p : Pid) (queued : ℕ → Bool) (w : WaitingState) → is_system system ≡ true → IsLegalBy BuiltMayFollow system (log ++ e ∷ []) → (i : ℕ) (bytes : List ℕ) → what e ≡ PageIs p i bytes
+pub page_entry : (system : System) (log : List Entry) (e : Entry) (p : Pid) (queued : ℕ → Bool) (w : WaitingState) → is_system system ≡ true → IsLegalBy MayStand system (log ++ e ∷ []) → (i : ℕ) (bytes : List ℕ) → what e ≡ PageIs p i bytes
     → WaitsAs system log p queued w → IsUnended system log p → WaitsAs system (log ++ e ∷ []) p queued (with_page i bytes w)
 page_entry system log e p queued w valid legal = page_so system log e p queued w valid (built_stands system (log ++ e ∷ []) legal)

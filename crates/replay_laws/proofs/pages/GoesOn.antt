@@ -7,7 +7,7 @@ use Rattle.roll_forward.specs.Rolling.{with_saved}
 use Rattle.page_waits.specs.Begun.{begun, BeginsFrom}
 use Rattle.bus_msg.specs.declared.entry.Entry.{Entry}
 use Rattle.cert_sched.specs.Record.{has_state}
-use Rattle.cert_sched.specs.Built.{BuiltMayFollow}
+use Rattle.cert_sched.specs.Built.{MayStand}
 use Rattle.cert_sched.specs.Legal.{IsLegalBy, Stands}
 use Rattle.cert_sched.specs.Simulation.{IsUnended}
 use Rattle.replay_laws.specs.rolling.Behind.{RollsBehind}
@@ -68,9 +68,9 @@ module _ (system : System) (log : List Entry) (p : Pid) (queued : ℕ → Bool) 
   }
 
 -- in a log of the entries that are built so far
-pub can_go_on : (system : System) (log : List Entry) (p : Pid) (queued : ℕ → Bool) (w : WaitingState) → is_system system ≡ true → IsLegalBy BuiltMayFollow system log → IsUnended system log p → WaitsAs system log p queued w → is_whole w ≡ true → CanGoOn w
+pub can_go_on : (system : System) (log : List Entry) (p : Pid) (queued : ℕ → Bool) (w : WaitingState) → is_system system ≡ true → IsLegalBy MayStand system log → IsUnended system log p → WaitsAs system log p queued w → is_whole w ≡ true → CanGoOn w
 can_go_on system log p queued w valid legal = can_go_on_so system log p queued w valid (built_stands system log legal)
 
-pub goes_on : (system : System) (log : List Entry) (p : Pid) (queued : ℕ → Bool) (w : WaitingState) → is_system system ≡ true → IsLegalBy BuiltMayFollow system log → IsUnended system log p → WaitsAs system log p queued w → is_whole w ≡ true
+pub goes_on : (system : System) (log : List Entry) (p : Pid) (queued : ℕ → Bool) (w : WaitingState) → is_system system ≡ true → IsLegalBy MayStand system log → IsUnended system log p → WaitsAs system log p queued w → is_whole w ≡ true
     → GoesOnAs system log p w
 goes_on system log p queued w valid legal = goes_on_so system log p queued w valid (built_stands system log legal)

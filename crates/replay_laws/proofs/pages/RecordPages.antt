@@ -12,7 +12,7 @@ use Rattle.cert_sched.specs.Parts.{upto_last}
 use Rattle.cert_sched.specs.Deeds.{starts, start_of}
 use Rattle.cert_sched.specs.Record.{backup_record, has_state}
 use Rattle.cert_sched.specs.Steps.{page_count}
-use Rattle.cert_sched.specs.Built.{BuiltMayFollow}
+use Rattle.cert_sched.specs.Built.{MayStand}
 use Rattle.cert_sched.specs.Legal.{IsLegalBy, Stands}
 use Rattle.cert_sched.specs.Simulation.{IsUnended}
 use Rattle.replay_laws.proofs.rolling.ByRule.{built_stands, itself}
@@ -44,7 +44,7 @@ has_pages_so system log p kept valid legal unended stated is =
     }
 
 -- in a log of the entries that are built so far
-pub has_pages : (system : System) (log : List Entry) (p : Pid) (kept : BackRec) → is_system system ≡ true → IsLegalBy BuiltMayFollow system log → IsUnended system log p → has_state system log p ≡ true → backup_record system log p ≡ Some kept
+pub has_pages : (system : System) (log : List Entry) (p : Pid) (kept : BackRec) → is_system system ≡ true → IsLegalBy MayStand system log → IsUnended system log p → has_state system log p ≡ true → backup_record system log p ≡ Some kept
     → HasPages system log p kept
 has_pages system log p kept valid legal = has_pages_so system log p kept valid (all_stand system log legal)
 
@@ -55,7 +55,7 @@ pub record StartsSo (system : System) (log : List Entry) (p : Pid) : Type 0 wher
   pub start : ProcState
   pub started : start_of system log p ≡ Some start
 
-pub starts_so : (system : System) (log : List Entry) (p : Pid) → is_system system ≡ true → IsLegalBy BuiltMayFollow system log → IsUnended system log p → StartsSo system log p
+pub starts_so : (system : System) (log : List Entry) (p : Pid) → is_system system ≡ true → IsLegalBy MayStand system log → IsUnended system log p → StartsSo system log p
 starts_so system log p valid legal unended =
-    let there = led_there BuiltMayFollow built_stands system log p valid legal unended in
+    let there = led_there MayStand built_stands system log p valid legal unended in
     record { start = (there.led).start; started = (there.led).started }

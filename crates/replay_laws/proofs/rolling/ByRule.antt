@@ -23,7 +23,7 @@ use Rattle.cert_sched.specs.Steps.{silent_upto}
 use Rattle.cert_sched.specs.Record.{backup_record}
 use Rattle.cert_sched.specs.Rules.{is_over}
 use Rattle.cert_sched.specs.Legal.{IsLegalBy, Stands}
-use Rattle.cert_sched.specs.Built.{BuiltMayFollow}
+use Rattle.cert_sched.specs.Built.{MayStand}
 use Rattle.cert_sched.specs.Simulation.{IsUnended}
 use Rattle.cert_sched.specs.Rolling.{RollsAs}
 use Rattle.cert_sched.proofs.SpentLaws.{few_steps_after}
@@ -44,7 +44,7 @@ use Rattle.replay_laws.proofs.rolling.CaughtUp.{standing_caught_up, caught_up_af
 pub itself : IsStandingRule Stands
 itself system log e stands = stands
 
-pub built_stands : IsStandingRule BuiltMayFollow
+pub built_stands : IsStandingRule MayStand
 built_stands system log e may = may.stands
 
 pub begins_behind : (system : System) (log : List Entry) (p : Pid) (start : ProcState) (kept : BackRec) (small : SmallState) (ram : Memory) → is_system system ≡ true → IsLegalBy Stands system log → IsUnended system log p → start_of system log p ≡ Some start
@@ -164,10 +164,10 @@ pub standing_from : (system : System) (log : List Entry) (p : Pid) (ahead : ℕ)
 standing_from = caught_up_from Stands itself
 
 -- in a log of the entries that are built so far
-pub built_caught_up : (system : System) (log : List Entry) (p : Pid) (s : ProcState) (counts : Counts) (births : List Pid) → is_system system ≡ true → IsLegalBy BuiltMayFollow system log → is_over system log ≡ false → IsUnended system log p
+pub built_caught_up : (system : System) (log : List Entry) (p : Pid) (s : ProcState) (counts : Counts) (births : List Pid) → is_system system ≡ true → IsLegalBy MayStand system log → is_over system log ≡ false → IsUnended system log p
     → RollsBehind system log p s counts births → nothing_left counts births ≡ true → process_after system log p ≡ Some s
-built_caught_up = standing_caught_up BuiltMayFollow built_stands
+built_caught_up = standing_caught_up MayStand built_stands
 
-pub built_silent : (system : System) (log : List Entry) (p : Pid) (s : ProcState) (counts : Counts) (births : List Pid) → is_system system ≡ true → IsLegalBy BuiltMayFollow system log → is_over system log ≡ false → IsUnended system log p
+pub built_silent : (system : System) (log : List Entry) (p : Pid) (s : ProcState) (counts : Counts) (births : List Pid) → is_system system ≡ true → IsLegalBy MayStand system log → is_over system log ≡ false → IsUnended system log p
     → RollsBehind system log p s counts births → nothing_left counts births ≡ true → silent_upto system log p (s.small).steps ≡ Some s
 built_silent system log p s counts births valid legal goes_on unended rolls none = silent_here system log p s (built_caught_up system log p s counts births valid legal goes_on unended rolls none)

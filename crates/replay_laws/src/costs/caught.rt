@@ -12,16 +12,16 @@ ghost use Rattle.roll_forward.specs.Advancing.{going, rolled_on};
 ghost use Rattle.cert_sched.specs.Schedule.{process_after};
 ghost use Rattle.cert_sched.specs.Rules.{is_over, keeps_limits};
 ghost use Rattle.cert_sched.specs.Legal.{IsLegalBy};
-ghost use Rattle.cert_sched.specs.Built.{BuiltMayFollow};
+ghost use Rattle.cert_sched.specs.Built.{MayStand};
 ghost use Rattle.cert_sched.specs.Simulation.{IsUnended};
 ghost use Rattle.replay_laws.specs.rolling.Behind.{RollsBehind};
 
 /// A law and no code: in a log of what is built that is not over, each process that has not ended is within its limits
 /// where it is in the kernel without failures.
 pub fn caught_up_keep_limits()
-    ensures there { (system : System) (log : List Entry) (p : Pid) (now : ProcState) → is_system system ≡ true → IsLegalBy BuiltMayFollow system log → is_over system log ≡ false → IsUnended system log p → process_after system log p ≡ Some now → keeps_limits system log p now ≡ true }
+    ensures there { (system : System) (log : List Entry) (p : Pid) (now : ProcState) → is_system system ≡ true → IsLegalBy MayStand system log → is_over system log ≡ false → IsUnended system log p → process_after system log p ≡ Some now → keeps_limits system log p now ≡ true }
     // So is one that rolls forward, is not beyond where it was and has nothing left to withhold,
-    ensures caught { (system : System) (log : List Entry) (p : Pid) (s : ProcState) (counts : Counts) (births : List Pid) → is_system system ≡ true → IsLegalBy BuiltMayFollow system log → is_over system log ≡ false → IsUnended system log p → RollsBehind system log p s counts births → nothing_left counts births ≡ true → keeps_limits system log p s ≡ true }
+    ensures caught { (system : System) (log : List Entry) (p : Pid) (s : ProcState) (counts : Counts) (births : List Pid) → is_system system ≡ true → IsLegalBy MayStand system log → is_over system log ≡ false → IsUnended system log p → RollsBehind system log p s counts births → nothing_left counts births ≡ true → keeps_limits system log p s ≡ true }
     // as it is after all the steps that were ahead.
-    ensures after { (system : System) (log : List Entry) (p : Pid) (process q : Process) (counts left : Counts) (births unborn : List Pid) (n : ℕ) → is_system system ≡ true → IsLegalBy BuiltMayFollow system log → is_over system log ≡ false → IsUnended system log p → RollsBehind system log p (state_of process) counts births → RunsOut (state_of process) counts births n → rolled_on n (going process counts births) ≡ Some (going q left unborn) → keeps_limits system log p (state_of q) ≡ true }
+    ensures after { (system : System) (log : List Entry) (p : Pid) (process q : Process) (counts left : Counts) (births unborn : List Pid) (n : ℕ) → is_system system ≡ true → IsLegalBy MayStand system log → is_over system log ≡ false → IsUnended system log p → RollsBehind system log p (state_of process) counts births → RunsOut (state_of process) counts births n → rolled_on n (going process counts births) ≡ Some (going q left unborn) → keeps_limits system log p (state_of q) ≡ true }
 {}

@@ -1,10 +1,10 @@
 use Rattle.log_laws.proofs.pages.StartPages.{built_waits}
-use Rattle.cert_sched.specs.Built.{BuiltMayFollow}
+use Rattle.cert_sched.specs.Built.{MayStand}
 use Rattle.checkpoint_laws.proofs.marks.BegunMarks.{begun_marked, begun_sent}
 use Rattle.checkpoint_laws.proofs.marks.begun.rolls_begin_marked.Goals as goal
 
 pub returns-clause-marked : goal.returns-clause-marked
-returns-clause-marked c = begun_marked BuiltMayFollow built_waits
+returns-clause-marked c = begun_marked MayStand built_waits
 
 pub returns-clause-sent : goal.returns-clause-sent
-returns-clause-sent c = begun_sent BuiltMayFollow built_waits
+returns-clause-sent c = begun_sent MayStand built_waits

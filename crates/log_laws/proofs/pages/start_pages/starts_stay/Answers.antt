@@ -1,4 +1,4 @@
-use Rattle.cert_sched.specs.Built.{BuiltMayFollow}
+use Rattle.cert_sched.specs.Built.{MayStand}
 use Rattle.log_laws.proofs.pages.StartPages.{start_stays, page_in_log, built_waits, waits_uncut}
 use Rattle.log_laws.proofs.pages.start_pages.starts_stay.Goals as goal
 
@@ -9,4 +9,4 @@ pub returns-clause-came : goal.returns-clause-came
 returns-clause-came c = page_in_log
 
 pub returns-clause-uncut : goal.returns-clause-uncut
-returns-clause-uncut c = waits_uncut BuiltMayFollow built_waits
+returns-clause-uncut c = waits_uncut MayStand built_waits

@@ -1,5 +1,5 @@
 use Rattle.cert_sched.specs.Legal.{MayFollow}
-use Rattle.cert_sched.specs.Built.{BuiltMayFollow}
+use Rattle.cert_sched.specs.Built.{MayStand}
 use Rattle.log_laws.proofs.records.Standing.{legal_stands}
 use Rattle.log_laws.proofs.records.one_entry.legal_logs_stand.Goals as goal
 
@@ -7,4 +7,4 @@ pub returns-clause-legal : goal.returns-clause-legal
 returns-clause-legal c = legal_stands MayFollow (λ system log e may. may.stands)
 
 pub returns-clause-built : goal.returns-clause-built
-returns-clause-built c = legal_stands BuiltMayFollow (λ system log e may. may.stands)
+returns-clause-built c = legal_stands MayStand (λ system log e may. may.stands)
