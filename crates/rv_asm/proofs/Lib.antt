@@ -6,8 +6,6 @@ pub mod Signed
 pub mod QuotedTexts
 pub mod Reading
 pub mod WordLines
-pub mod HexDigits
-pub mod WordFields
 pub mod Refusing
 pub mod PartedTables
 pub mod NumberedNames

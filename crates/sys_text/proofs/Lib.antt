@@ -27,4 +27,3 @@ mod Taking
 mod Words
 mod WordFields
 mod WordLines
-mod HexDigits

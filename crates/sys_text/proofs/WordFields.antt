@@ -1,21 +1,35 @@
--- Eight fields of words, one behind the other.
-use Rattle.std.proofs.Common.{◌≡◌, ℕ, ◌≤◌, ◌<◌, List, [], ◌∷◌, length, get_or, refl, arith}
+-- The digits of a word one by one are those of its definition.
+use Rattle.std.proofs.Common.{◌≡◌, ℕ, ◌/◌, ◌%◌, ◌^◌, List, [], ◌∷◌, ◌++◌, refl, ap, ◌∙◌, arith}
 use Rattle.std.specs.List.{flat_map}
+use Rattle.text_parts.specs.Words.{digits_of, spaced}
 use Rattle.sys_text.specs.Text.{word_text}
 
--- a space and a word
-abbrev pub word_field : ℕ → List ℕ
-word_field w = 32 ∷ word_text w
+one_down : (n : ℕ) → n / 2 ^ 4 ≡ n / 16
+one_down n = omega arith
 
--- the fields of eight words are those of the words one after the other
-pub eight_fields : (ws : List ℕ) (a b c d e f g h : List ℕ) → 8 ≤ length ws → length ws < 9 → a ≡ word_field (get_or ws 0 0) → b ≡ word_field (get_or ws 1 0) → c ≡ word_field (get_or ws 2 0) → d ≡ word_field (get_or ws 3 0) → e ≡ word_field (get_or ws 4 0) → f ≡ word_field (get_or ws 5 0) → g ≡ word_field (get_or ws 6 0) → h ≡ word_field (get_or ws 7 0) → flat_map (λ x. x) (a ∷ b ∷ c ∷ d ∷ e ∷ f ∷ g ∷ h ∷ []) ≡ flat_map word_field ws
-eight_fields [] a b c d e f g h low high ea eb ec ed ee ef eg eh = absurd (omega (arith, low, high))
-eight_fields (w0 ∷ []) a b c d e f g h low high ea eb ec ed ee ef eg eh = absurd (omega (arith, low, high))
-eight_fields (w0 ∷ w1 ∷ []) a b c d e f g h low high ea eb ec ed ee ef eg eh = absurd (omega (arith, low, high))
-eight_fields (w0 ∷ w1 ∷ w2 ∷ []) a b c d e f g h low high ea eb ec ed ee ef eg eh = absurd (omega (arith, low, high))
-eight_fields (w0 ∷ w1 ∷ w2 ∷ w3 ∷ []) a b c d e f g h low high ea eb ec ed ee ef eg eh = absurd (omega (arith, low, high))
-eight_fields (w0 ∷ w1 ∷ w2 ∷ w3 ∷ w4 ∷ []) a b c d e f g h low high ea eb ec ed ee ef eg eh = absurd (omega (arith, low, high))
-eight_fields (w0 ∷ w1 ∷ w2 ∷ w3 ∷ w4 ∷ w5 ∷ []) a b c d e f g h low high ea eb ec ed ee ef eg eh = absurd (omega (arith, low, high))
-eight_fields (w0 ∷ w1 ∷ w2 ∷ w3 ∷ w4 ∷ w5 ∷ w6 ∷ []) a b c d e f g h low high ea eb ec ed ee ef eg eh = absurd (omega (arith, low, high))
-eight_fields (w0 ∷ w1 ∷ w2 ∷ w3 ∷ w4 ∷ w5 ∷ w6 ∷ w7 ∷ []) a b c d e f g h low high ea eb ec ed ee ef eg eh = rw (ea, eb, ec, ed, ee, ef, eg, eh) refl
-eight_fields (w0 ∷ w1 ∷ w2 ∷ w3 ∷ w4 ∷ w5 ∷ w6 ∷ w7 ∷ w8 ∷ more) a b c d e f g h low high ea eb ec ed ee ef eg eh = absurd (omega (arith, low, high))
+two_down : (n : ℕ) → n / 2 ^ 8 ≡ n / 16 / 16
+two_down n = omega arith
+
+three_down : (n : ℕ) → n / 2 ^ 12 ≡ n / 16 / 16 / 16
+three_down n = omega arith
+
+four_down : (n : ℕ) → n / 2 ^ 16 ≡ n / 16 / 16 / 16 / 16
+four_down n = omega arith
+
+five_down : (n : ℕ) → n / 2 ^ 20 ≡ n / 16 / 16 / 16 / 16 / 16
+five_down n = omega arith
+
+six_down : (n : ℕ) → n / 2 ^ 24 ≡ n / 16 / 16 / 16 / 16 / 16 / 16
+six_down n = omega arith
+
+seven_down : (n : ℕ) → n / 2 ^ 28 ≡ n / 16 / 16 / 16 / 16 / 16 / 16 / 16
+seven_down n = omega arith
+
+digits_are : (w : ℕ) → digits_of w ≡ word_text w
+unfolding word_text
+digits_are w = rw (one_down w, two_down w, three_down w, four_down w, five_down w, six_down w, seven_down w) refl
+
+-- words after spaces
+pub fields_are : (ws : List ℕ) → flat_map spaced ws ≡ flat_map (λ w. 32 ∷ word_text w) ws
+fields_are [] = refl
+fields_are (w ∷ ws) = ap (λ ds. 32 ∷ ds ++ flat_map spaced ws) (digits_are w) ∙ ap (λ rest. (32 ∷ word_text w) ++ rest) (fields_are ws)

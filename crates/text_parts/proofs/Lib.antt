@@ -5,3 +5,5 @@ pub mod Parting
 pub mod NameTables
 pub mod HexTable
 pub mod EightDigits
+mod HexDigits
+mod WordFields

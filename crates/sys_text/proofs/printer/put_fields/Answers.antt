@@ -1,8 +1,6 @@
-use Rattle.std.proofs.Common.{◌∙◌}
-use Rattle.sys_text.proofs.WordFields.{eight_fields}
+use Rattle.std.proofs.Common.{ap, ◌∙◌, ◌++◌}
+use Rattle.sys_text.proofs.WordFields.{fields_are}
 use Rattle.sys_text.proofs.printer.put_fields.Goals as goal
 
-pub returns-in-len8 : goal.returns-in-len8
-returns-in-len8 c =
-    let same = c.as_flattened.ensures.value ∙ eight_fields c.args.words.now _ _ _ _ _ _ _ _ c.in-len8.len_at_least c.in-len8.len_below c.word_field.ensures c.word_field-in-len8.ensures c.word_field-in-len8-2.ensures c.word_field-in-len8-3.ensures c.word_field-in-len8-4.ensures c.word_field-in-len8-5.ensures c.word_field-in-len8-6.ensures c.word_field-in-len8-7.ensures in
-    rw (← same) c.extend.ensures.ok
+pub returns : goal.returns
+returns c = c.push_words.ensures ∙ ap (λ fields. c.args.text.now ++ fields) (fields_are c.args.words.now)

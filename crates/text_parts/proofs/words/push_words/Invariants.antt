@@ -1,7 +1,7 @@
 use Rattle.std.proofs.Common.{◌≡◌, ◌++◌, take}
 use Rattle.std.specs.List.{flat_map}
-use Rattle.rv_asm.specs.Printing.{spaced}
-use Rattle.rv_asm.proofs.printing.push_fields.Given as goal
+use Rattle.text_parts.specs.Words.{spaced}
+use Rattle.text_parts.proofs.words.push_words.Given as goal
 
 abbrev pub invariant-loop-word : goal.invariant-loop-word
 invariant-loop-word l = l.text ≡ l.fn.text ++ flat_map spaced (take l.word-index l.words)

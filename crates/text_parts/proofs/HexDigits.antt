@@ -2,11 +2,11 @@
 use Rattle.std.proofs.Common.{◌≡◌, ℕ, ◌+◌, ◌*◌, ◌<◌, ◌^◌, ◌/◌, ◌%◌, Bool, true, false, cond, ltb, List, [], ◌∷◌, get_or, map, refl, ap, ◌∙◌, arith}
 use Rattle.std.specs.List.{range_with_len}
 use Rattle.std.proofs.lemmas.List.FromFn.{get_or-map-range_with_len}
-use Rattle.sys_text.specs.Text.{hex_digit, word_text}
+use Rattle.text_parts.specs.Words.{digit_of, spaced}
 
 -- the two digits of a byte as one number
 abbrev pub pair : ℕ → ℕ
-pair b = hex_digit (b / 16) + 256 * hex_digit (b % 16)
+pair b = digit_of (b / 16) + 256 * digit_of (b % 16)
 
 -- the table in the code
 abbrev pub digits_table : List ℕ
@@ -20,7 +20,7 @@ pub pair_of : (b : ℕ) → b < 256 → get_or digits_table b 0 ≡ pair b
 pair_of b within = ap (λ (l : List ℕ). get_or l b 0) table_is_rule ∙ get_or-map-range_with_len pair 0 256 b b 0 within (omega arith)
 
 -- a digit is a byte
-hex_small : (d : ℕ) → d < 16 → hex_digit d < 256
+hex_small : (d : ℕ) → d < 16 → digit_of d < 256
 hex_small d within = by_size (ltb d 10)
   where
     by_size : (b : Bool) → cond b (48 + d) (87 + d) < 256
@@ -28,43 +28,45 @@ hex_small d within = by_size (ltb d 10)
     by_size false = omega (arith, within)
 
 -- the two digits are got back from their number
-pub upper_of : (b : ℕ) → b < 256 → pair b % 256 ≡ hex_digit (b / 16)
-upper_of b within = parts (hex_digit (b / 16)) (hex_digit (b % 16)) (hex_small (b / 16) (omega (arith, within)))
+pub upper_of : (b : ℕ) → b < 256 → pair b % 256 ≡ digit_of (b / 16)
+upper_of b within = parts (digit_of (b / 16)) (digit_of (b % 16)) (hex_small (b / 16) (omega (arith, within)))
   where
     parts : (h l : ℕ) → h < 256 → (h + 256 * l) % 256 ≡ h
     parts h l small = omega (arith, small)
 
-pub lower_of : (b : ℕ) → b < 256 → pair b / 256 ≡ hex_digit (b % 16)
-lower_of b within = parts (hex_digit (b / 16)) (hex_digit (b % 16)) (hex_small (b / 16) (omega (arith, within)))
+pub lower_of : (b : ℕ) → b < 256 → pair b / 256 ≡ digit_of (b % 16)
+lower_of b within = parts (digit_of (b / 16)) (digit_of (b % 16)) (hex_small (b / 16) (omega (arith, within)))
   where
     parts : (h l : ℕ) → h < 256 → (h + 256 * l) / 256 ≡ l
     parts h l small = omega (arith, small)
 
 -- ---- the digits of a word
 
-high_again : (n : ℕ) → (n % 256) / 16 ≡ n / 16 % 16
-high_again n = omega arith
+top_digit : (w : ℕ) → w < 2 ^ 32 → w / 16777216 / 16 ≡ w / 2 ^ 28 % 16
+top_digit w within = omega arith
 
-low_again : (n : ℕ) → (n % 256) % 16 ≡ n % 16
-low_again n = omega arith
+third_digit : (w : ℕ) → (w / 65536 % 256) / 16 ≡ w / 2 ^ 20 % 16
+third_digit w = omega arith
 
-two_down : (n : ℕ) → n / 256 ≡ n / 16 / 16
-two_down n = omega arith
+fourth_digit : (w : ℕ) → (w / 65536 % 256) % 16 ≡ w / 2 ^ 16 % 16
+fourth_digit w = omega arith
 
-four_down : (n : ℕ) → n / 65536 ≡ n / 16 / 16 / 16 / 16
-four_down n = omega arith
+fifth_digit : (w : ℕ) → (w / 256 % 256) / 16 ≡ w / 2 ^ 12 % 16
+fifth_digit w = omega arith
 
-six_down : (n : ℕ) → n / 16777216 ≡ n / 16 / 16 / 16 / 16 / 16 / 16
-six_down n = omega arith
+sixth_digit : (w : ℕ) → (w / 256 % 256) % 16 ≡ w / 2 ^ 8 % 16
+sixth_digit w = omega arith
 
-top_digit : (n : ℕ) → n < 2 ^ 32 → n / 16777216 / 16 ≡ n / 16777216 / 16 % 16
-top_digit n within = omega arith
+seventh_digit : (w : ℕ) → (w % 256) / 16 ≡ w / 2 ^ 4 % 16
+seventh_digit w = omega arith
 
-by_digits : (w : ℕ) → w < 2 ^ 32 → 32 ∷ hex_digit (w / 16777216 / 16) ∷ hex_digit (w / 16777216 % 16) ∷ hex_digit ((w / 65536 % 256) / 16) ∷ hex_digit ((w / 65536 % 256) % 16) ∷ hex_digit ((w / 256 % 256) / 16) ∷ hex_digit ((w / 256 % 256) % 16) ∷ hex_digit ((w % 256) / 16) ∷ hex_digit ((w % 256) % 16) ∷ [] ≡ 32 ∷ word_text w
-unfolding word_text
-by_digits w within = rw (top_digit w within, high_again (w / 65536), low_again (w / 65536), high_again (w / 256), low_again (w / 256), high_again w, low_again w, six_down w, four_down w, two_down w) refl
+last_digit : (w : ℕ) → (w % 256) % 16 ≡ w % 16
+last_digit w = omega arith
+
+by_digits : (w : ℕ) → w < 2 ^ 32 → 32 ∷ digit_of (w / 16777216 / 16) ∷ digit_of (w / 16777216 % 16) ∷ digit_of ((w / 65536 % 256) / 16) ∷ digit_of ((w / 65536 % 256) % 16) ∷ digit_of ((w / 256 % 256) / 16) ∷ digit_of ((w / 256 % 256) % 16) ∷ digit_of ((w % 256) / 16) ∷ digit_of ((w % 256) % 16) ∷ [] ≡ spaced w
+by_digits w within = rw (top_digit w within, third_digit w, fourth_digit w, fifth_digit w, sixth_digit w, seventh_digit w, last_digit w) refl
 
 -- the bytes of a word as the code takes them off the table
-pub by_bytes : (w : ℕ) → w < 2 ^ 32 → 32 ∷ pair (w / 16777216) % 256 ∷ pair (w / 16777216) / 256 ∷ pair (w / 65536 % 256) % 256 ∷ pair (w / 65536 % 256) / 256 ∷ pair (w / 256 % 256) % 256 ∷ pair (w / 256 % 256) / 256 ∷ pair (w % 256) % 256 ∷ pair (w % 256) / 256 ∷ [] ≡ 32 ∷ word_text w
+pub by_bytes : (w : ℕ) → w < 2 ^ 32 → 32 ∷ pair (w / 16777216) % 256 ∷ pair (w / 16777216) / 256 ∷ pair (w / 65536 % 256) % 256 ∷ pair (w / 65536 % 256) / 256 ∷ pair (w / 256 % 256) % 256 ∷ pair (w / 256 % 256) / 256 ∷ pair (w % 256) % 256 ∷ pair (w % 256) / 256 ∷ [] ≡ spaced w
 by_bytes w within =
     rw (upper_of (w / 16777216) (omega (arith, within)), lower_of (w / 16777216) (omega (arith, within)), upper_of (w / 65536 % 256) (omega arith), lower_of (w / 65536 % 256) (omega arith), upper_of (w / 256 % 256) (omega arith), lower_of (w / 256 % 256) (omega arith), upper_of (w % 256) (omega arith), lower_of (w % 256) (omega arith)) (by_digits w within)

@@ -1,6 +1,6 @@
 use Rattle.std.proofs.Common.{◌∙◌}
-use Rattle.rv_asm.proofs.WordFields.{eight_fields}
-use Rattle.rv_asm.proofs.printing.push_fields.Goals as goal
+use Rattle.text_parts.proofs.WordFields.{eight_fields}
+use Rattle.text_parts.proofs.words.push_words.Goals as goal
 
 pub returns-in-len8 : goal.returns-in-len8
 returns-in-len8 c =

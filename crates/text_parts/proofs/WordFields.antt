@@ -1,7 +1,7 @@
 -- Eight fields of words, one behind the other.
 use Rattle.std.proofs.Common.{◌≡◌, ℕ, ◌≤◌, ◌<◌, List, [], ◌∷◌, length, get_or, refl, arith}
 use Rattle.std.specs.List.{flat_map}
-use Rattle.rv_asm.specs.Printing.{spaced}
+use Rattle.text_parts.specs.Words.{spaced}
 
 -- the fields of eight words are those of the words one after the other
 pub eight_fields : (ws : List ℕ) (a b c d e f g h : List ℕ) → 8 ≤ length ws → length ws < 9 → a ≡ spaced (get_or ws 0 0) → b ≡ spaced (get_or ws 1 0) → c ≡ spaced (get_or ws 2 0) → d ≡ spaced (get_or ws 3 0) → e ≡ spaced (get_or ws 4 0) → f ≡ spaced (get_or ws 5 0) → g ≡ spaced (get_or ws 6 0) → h ≡ spaced (get_or ws 7 0) → flat_map (λ x. x) (a ∷ b ∷ c ∷ d ∷ e ∷ f ∷ g ∷ h ∷ []) ≡ flat_map spaced ws

@@ -1,6 +1,0 @@
-use Rattle.std.proofs.Common.{arith}
-use Rattle.sys_text.proofs.HexDigits.{by_bytes}
-use Rattle.sys_text.proofs.printer.word_field.Goals as goal
-
-pub returns : goal.returns
-returns c = rw (c.digits-a.ensures, c.digits-b.ensures, c.digits-c.ensures, c.digits-d.ensures) (by_bytes c.args.word (omega arith))
