@@ -34,6 +34,7 @@ use Rattle.cert_sched.proofs.ChildLaws.{member_either, no_birth_of, one_passes, 
 use Rattle.log_laws.specs.pages.Next.{moves_next}
 use Rattle.backup_laws.proofs.Since.{awaited_in, awaited_is, awaited-moved, awaited-on, full_mode, is_full_at, mode_at, was_moved-snoc}
 use Rattle.backup_laws.proofs.Modes.{mode_stays, moved_is}
+use Rattle.checkpoint_laws.proofs.marks.BegunMarks.{none_legal}
 
 -- ---- a parent and its child
 
@@ -181,10 +182,6 @@ module _ (system : System) (log : List Entry) (e : Entry) (stands : Stands syste
 
   all_after : (b : Pair) → Member b (births_of (log ++ e ∷ [])) → is_unsynced after b.1 ≡ true → (mode_at after b.0 ≡ mode_at after b.1) × WaitsWith system (log ++ e ∷ []) b
   all_after b m h = by_kind (what e) refl b (member_either b (births_of log) (born (what e)) (subst (Member b) (births_more system log e stands before.all) m)) h (next.together b m h)
-
-none_legal : (system : System) → IsLegalBy Stands system []
-unfolding IsLegalBy
-none_legal system = tt
 
 all_wait : (system : System) (log : List Entry) → is_system system ≡ true → IsLegalBy Stands system log → AllWait system log
 all_wait system log valid legal =

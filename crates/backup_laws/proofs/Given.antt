@@ -38,6 +38,7 @@ use Rattle.log_laws.specs.pages.Next.{moves_next}
 use Rattle.log_laws.proofs.pages.OneEntry.{list_any-last}
 use Rattle.backup_laws.proofs.Since.{awaited_in, awaited_is, awaited-on, is_full_at, was_moved-snoc}
 use Rattle.backup_laws.proofs.Modes.{backup_mode, loss_mode, moved_is, sync_mode}
+use Rattle.checkpoint_laws.proofs.marks.BegunMarks.{none_legal}
 
 -- ---- what the wait says
 
@@ -207,10 +208,6 @@ module _ (system : System) (log : List Entry) (e : Entry) (stands : Stands syste
       let name : is_named recs s ≡ false = ap (λ x. list_any (λ (r : BackRec). same_pid r.pid x) recs) (unended_pid here p s there) ∙ sym (ap (names p) is) ∙ unnamed in
       ap (λ b. (cond b (record s { backup = Some to; synced = s.synced || fresh }) s).backup) name ∙ had)
   by_kind w is found = by_same w is refl refl found
-
-none_legal : (system : System) → IsLegalBy Stands system []
-unfolding IsLegalBy
-none_legal system = tt
 
 none_moved : (system : System) (p : Pid) → was_moved system [] p ≡ false
 unfolding told

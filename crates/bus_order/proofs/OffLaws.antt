@@ -1,5 +1,5 @@
 -- A cluster of the system lives exactly where no crash of it stands that no return follows.
-use Rattle.std.proofs.Common.{◌≡◌, ℕ, zero, suc, ◌+◌, ◌<◌, length, take, refl, sym, ◌∙◌, ap, subst, arith, List, [], ◌∷◌, ◌++◌, map, Bool, true, false, cond, not, ◌||◌, eqb, eqb-true, eq-eqb, Option, Some, None, is_none, Bor, true≢false}
+use Rattle.std.proofs.Common.{◌≡◌, ℕ, zero, suc, ◌+◌, ◌<◌, length, take, refl, sym, ◌∙◌, ap, subst, arith, List, [], ◌∷◌, ◌++◌, map, Bool, true, false, cond, not, eqb, eqb-true, eq-eqb, Option, Some, None, is_none, Bor, true≢false}
 use Rattle.std.specs.Prelude.{slice_get}
 use Rattle.std.specs.List.{list_any}
 use Rattle.std.specs.Option.{option_copied, option_map_or}
@@ -27,14 +27,9 @@ use Rattle.cert_sched.proofs.HomesLaws.{lives_within, built_clusters-length}
 use Rattle.bus_order.specs.Script.{off_at, place_of_loss, turns}
 use Rattle.bus_order.proofs.LogParts.{take_one}
 use Rattle.cert_sched.proofs.BirthClusters.{birth_keeps}
+use Rattle.cert_sched.proofs.ListLaws.{or_last}
 
 -- ---- one more entry
-
-or_last : (a b : Bool) → (a || (b || false)) ≡ cond b true a
-or_last true true = refl
-or_last true false = refl
-or_last false true = refl
-or_last false false = refl
 
 any-snoc : {X : Type 0} (t : X → Bool) (xs : List X) (x : X) → list_any t (xs ++ x ∷ []) ≡ cond (t x) true (list_any t xs)
 any-snoc t xs x = list_any-append t xs (x ∷ []) ∙ or_last (list_any t xs) (t x)

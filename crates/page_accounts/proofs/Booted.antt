@@ -42,20 +42,20 @@ HoldsMemories es state = (p : Pid) → account state p ≡ memory_of es p
 at_key_is : (n m : ℕ) → at_key n m ≡ eqb m n
 at_key_is n m = grind (arith, nat_tests)
 
-later_key : (P : ℕ → Type 0) (es : List (ℕ × ProcState)) (e : ℕ × ProcState) (rest : List (ℕ × ProcState)) → AllByRecursion P (map (λ (d : ℕ × ProcState). d.0) (es ++ e ∷ rest)) → P e.0
+pub later_key : (P : ℕ → Type 0) (es : List (ℕ × ProcState)) (e : ℕ × ProcState) (rest : List (ℕ × ProcState)) → AllByRecursion P (map (λ (d : ℕ × ProcState). d.0) (es ++ e ∷ rest)) → P e.0
 later_key P [] e rest all = all.0
 later_key P (d ∷ es) e rest all = later_key P es e rest all.1
 
 not_key : (m n : ℕ) → nat_cmp m n ≡ Less → eqb m n ≡ false
 not_key m n less = grind (arith, nat_tests)
 
-key_new : (es : List (ℕ × ProcState)) (e : ℕ × ProcState) (rest : List (ℕ × ProcState)) → IsStrictlySortedBy nat_cmp (map (λ (d : ℕ × ProcState). d.0) (es ++ e ∷ rest)) → lookup (at_key e.0) es ≡ None
+pub key_new : (es : List (ℕ × ProcState)) (e : ℕ × ProcState) (rest : List (ℕ × ProcState)) → IsStrictlySortedBy nat_cmp (map (λ (d : ℕ × ProcState). d.0) (es ++ e ∷ rest)) → lookup (at_key e.0) es ≡ None
 unfolding IsStrictlySortedBy
 key_new [] e rest ordered = refl
 key_new (d ∷ es) e rest ordered =
     ap (λ b. cond b (Some d.1) (lookup (at_key e.0) es)) (at_key_is e.0 d.0 ∙ not_key d.0 e.0 (later_key (λ n. nat_cmp d.0 n ≡ Less) es e rest ordered.0)) ∙ key_new es e rest ordered.1
 
-lookup_last : (n : ℕ) (es : List (ℕ × ProcState)) (e : ℕ × ProcState) → lookup (at_key n) es ≡ None → lookup (at_key n) (es ++ e ∷ []) ≡ cond (at_key n e.0) (Some e.1) None
+pub lookup_last : (n : ℕ) (es : List (ℕ × ProcState)) (e : ℕ × ProcState) → lookup (at_key n) es ≡ None → lookup (at_key n) (es ++ e ∷ []) ≡ cond (at_key n e.0) (Some e.1) None
 lookup_last n [] e none = refl
 lookup_last n (d ∷ es) e none = by_test (at_key n d.0) none (lookup_last n es e)
   where
@@ -64,7 +64,7 @@ lookup_last n (d ∷ es) e none = by_test (at_key n d.0) none (lookup_last n es 
     by_test true none more = cc
     by_test false none more = more none
 
-lookup_before : (n : ℕ) (es : List (ℕ × ProcState)) (e : ℕ × ProcState) → at_key n e.0 ≡ false → lookup (at_key n) (es ++ e ∷ []) ≡ lookup (at_key n) es
+pub lookup_before : (n : ℕ) (es : List (ℕ × ProcState)) (e : ℕ × ProcState) → at_key n e.0 ≡ false → lookup (at_key n) (es ++ e ∷ []) ≡ lookup (at_key n) es
 lookup_before n [] e other = ap (λ b. cond b (Some e.1) None) other
 lookup_before n (d ∷ es) e other = ap (λ o. cond (at_key n d.0) (Some d.1) o) (lookup_before n es e other)
 

@@ -32,8 +32,7 @@ use Rattle.plain_kernel.proofs.Delivery.{there_small, undone}
 use Rattle.plain_kernel.proofs.Forking.{fork_makes}
 use Rattle.plain_kernel.proofs.Roots.{insert_put}
 use Rattle.plain_kernel.proofs.NextChild.{next_child-within}
-use Rattle.plain_kernel.proofs.Takers.{none_changed, none_empty, takes_there}
-use Rattle.plain_kernel.proofs.Turns.{no_steps}
+use Rattle.plain_kernel.proofs.Takers.{none_changed, none_empty, takes_there, no_steps}
 
 -- ---- a process that forks next
 

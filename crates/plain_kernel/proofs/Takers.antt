@@ -149,7 +149,7 @@ no_take es ts pid none = rw (lookup_state pid es) (by_process (lookup (at_key pi
     by_process None e = refl
     by_process (Some p) e = ap (λ b. cond b (Some (with_process (kernel_of es ts) (pid_of pid) (taken (state_of p)))) None) e
 
-no_steps : (p : Pid) (k : Kernel) → steps 0 p k ≡ Some k
+pub no_steps : (p : Pid) (k : Kernel) → steps 0 p k ≡ Some k
 unfolding steps
 no_steps p k = refl
 

@@ -25,7 +25,7 @@ use Rattle.plain_kernel.specs.Still.{can_act, lowest, lowest_taker, next_child, 
 use Rattle.plain_kernel.specs.Maps.{at_key, pid_of, processes_of, kernel_of, total_load, Changes, RunsAt, Advances, lowest_of, IsTurn, NoneTakes, NoneTakesBut, RunsSteps, TookAt, Turns}
 use Rattle.plain_kernel.proofs.Entries.{tied, later_no_key, later_above, lookup_state, ordered_after, put_state, written_same, found_after, put_after, load_after}
 use Rattle.plain_kernel.proofs.First.{first_states, found_above, found_at, none_put}
-use Rattle.plain_kernel.proofs.Takers.{no_taker, none_ran, only_taker, take_load, take_made_at, takes_there}
+use Rattle.plain_kernel.proofs.Takers.{no_taker, none_ran, only_taker, take_load, take_made_at, takes_there, no_steps}
 use Rattle.plain_kernel.proofs.Laws.{steps_joined, steps_more, steps_stuck, one_silent, silent_steps, last_silent, no_silent, default_joined, default_one, default_none, default_over, default_steps, default_forks, default_takes}
 
 abbrev keys : {X : Type 0} → List (ℕ × X) → List ℕ
@@ -241,10 +241,6 @@ stood n p from qs rs ts us made same same_ttys = made ∙ ap (λ es. Some (kerne
 
 pub stuck_there : (p : Pid) (qs rs : List (ℕ × Process)) (ts us : List (ℕ × List ℕ)) → one_step p (kernel_of qs ts) ≡ None → rs ≡ qs → us ≡ ts → one_step p (kernel_of rs us) ≡ None
 stuck_there p qs rs ts us none same same_ttys = ap (λ es. one_step p (kernel_of es us)) same ∙ ap (λ t. one_step p (kernel_of qs t)) same_ttys ∙ none
-
-pub no_steps : (p : Pid) (k : Kernel) → steps 0 p k ≡ Some k
-unfolding steps
-no_steps p k = refl
 
 -- a process that was stuck is taken out of those that may have a step
 pub turns_stuck : (ps qs rs : List (ℕ × Process)) (ts us : List (ℕ × List ℕ)) (ready left : List ℕ) (pid n : ℕ) → (1 ≤ n → IsTurn (Some pid) ps) → NoneTakes ps → (r : RunsAt ps qs pid n) → StaysUntaken n (state_of r.was) → rs ≡ qs → us ≡ ts → length left < length ready → Turns ps rs ts us ready left

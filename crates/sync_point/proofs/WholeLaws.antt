@@ -18,12 +18,12 @@ use Rattle.sync_point.proofs.PageLaws.{numbered, find-numbered, come_now, sent_k
 
 -- ---- the whole memory stands by rising number
 
-below_range : (page : ℕ → List ℕ) (x a n : ℕ) → x < a → below_all nat_cmp x (numbered page (range_with_len a n)) ≡ true
+pub below_range : (page : ℕ → List ℕ) (x a n : ℕ) → x < a → below_all nat_cmp x (numbered page (range_with_len a n)) ≡ true
 below_range page x a zero below = refl
 below_range page x a (suc n) below =
     and_from _ _ (ap (λ b. is_lt (cond b Less (cond (eqb x a) Equal Greater))) (lt-ltb x a below)) (below_range page x (a + 1) n (omega arith))
 
-range_sorted : (page : ℕ → List ℕ) (a n : ℕ) → is_sorted nat_cmp (numbered page (range_with_len a n)) ≡ true
+pub range_sorted : (page : ℕ → List ℕ) (a n : ℕ) → is_sorted nat_cmp (numbered page (range_with_len a n)) ≡ true
 range_sorted page a zero = refl
 range_sorted page a (suc n) = and_from _ _ (below_range page a (a + 1) n (omega arith)) (range_sorted page (a + 1) n)
 

@@ -39,7 +39,7 @@ use Rattle.checkpoint_laws.proofs.marks.AwaitedPages.{lacks_kept, lacks_sent}
 use Rattle.checkpoint_laws.proofs.marks.BootMarks.{no_mark, none_read}
 use Rattle.checkpoint_laws.proofs.marks.SentPages.{sent_on}
 
-none_legal : (system : System) → IsLegalBy Stands system []
+pub none_legal : (system : System) → IsLegalBy Stands system []
 unfolding IsLegalBy
 none_legal system = tt
 

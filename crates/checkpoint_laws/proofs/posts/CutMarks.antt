@@ -1,5 +1,5 @@
 -- The marks of a process that was just synchronised.
-use Rattle.std.proofs.Common.{◌≡◌, ℕ, zero, suc, ◌≤◌, refl, sym, ◌∙◌, ap, subst, arith, List, [], ◌∷◌, ◌++◌, length, map, Bool, true, false, cond, not, eqb, slice_get, Option, true≢false}
+use Rattle.std.proofs.Common.{◌≡◌, ℕ, ◌≤◌, refl, sym, ◌∙◌, ap, subst, arith, List, [], ◌∷◌, ◌++◌, length, map, Bool, true, false, cond, not, eqb, slice_get, Option, true≢false}
 use Rattle.std.specs.Prelude.{filter, replicate, nat_lt}
 use Rattle.std.specs.List.{list_any}
 use Rattle.std.specs.Option.{option_map_or}
@@ -22,6 +22,7 @@ use Rattle.log_laws.proofs.pages.SizesStay.{process_sized}
 use Rattle.checkpoint_laws.specs.posts.Cut.{CutsAt}
 use Rattle.checkpoint_laws.specs.posts.Marked.{IsMarked, arrived_below}
 use Rattle.checkpoint_laws.proofs.posts.CutEntry.{cut_process, cut_start, cut_saved, cut_account}
+use Rattle.checkpoint_laws.proofs.marks.BootMarks.{no_mark}
 
 -- ---- the letters read
 
@@ -55,11 +56,6 @@ none_of_mail next mail =
     none_left (numbers_read (arrived_below next mail) mail) (omega (arith, few, none))
 
 -- ---- the marks
-
-no_mark : (n i : ℕ) → option_map_or (λ (b : Bool). b) (slice_get (replicate n false) i) false ≡ false
-no_mark zero i = refl
-no_mark (suc n) zero = refl
-no_mark (suc n) (suc i) = no_mark n i
 
 -- where none of so many marks is set, no page is marked
 unmarked : (marks : List Bool) (n i : ℕ) → marks ≡ replicate n false → option_map_or (λ (b : Bool). b) (slice_get marks i) false ≡ false

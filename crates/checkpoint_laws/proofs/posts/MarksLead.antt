@@ -35,7 +35,7 @@ use Rattle.checkpoint_laws.proofs.posts.SavedNumbers.{saved_arrived}
 
 -- ---- as many numbers in rising order
 
-put_length : (n : ℕ) (xs : List ℕ) → length (put_rising n xs) ≡ suc (length xs)
+pub put_length : (n : ℕ) (xs : List ℕ) → length (put_rising n xs) ≡ suc (length xs)
 put_length n [] = refl
 put_length n (x ∷ xs) = by_test (ltb n x) (put_length n xs)
   where
@@ -43,7 +43,7 @@ put_length n (x ∷ xs) = by_test (ltb n x) (put_length n xs)
     by_test true more = refl
     by_test false more = ap suc more
 
-rising_length : (xs : List ℕ) → length (rising xs) ≡ length xs
+pub rising_length : (xs : List ℕ) → length (rising xs) ≡ length xs
 rising_length [] = refl
 rising_length (x ∷ xs) = put_length x (rising xs) ∙ ap suc (rising_length xs)
 

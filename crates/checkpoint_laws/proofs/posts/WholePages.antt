@@ -1,16 +1,14 @@
 -- The pages of a memory, by rising number: each is there as it is, and none behind them.
-use Rattle.std.proofs.Common.{◌≡◌, ℕ, zero, suc, ◌+◌, ◌*◌, ◌/◌, ◌<◌, ◌≤◌, refl, ◌∙◌, ap, arith, List, ◌∷◌, length, drop, drop-drop, true, cond, eqb, Some, None}
-use Rattle.std.proofs.lemmas.Bool.{lt-ltb, and_from}
+use Rattle.std.proofs.Common.{◌≡◌, ℕ, zero, suc, ◌+◌, ◌*◌, ◌/◌, ◌<◌, ◌≤◌, refl, ◌∙◌, ap, arith, List, ◌∷◌, length, drop, drop-drop, true, cond, Some, None}
 use Rattle.std.specs.FinMap.{is_sorted}
-use Rattle.std.specs.FinMap.Entries.{below_all}
 use Rattle.std.specs.List.{range_with_len}
-use Rattle.std.specs.Ordering.{is_lt, nat_cmp}
-use Rattle.std.specs.declared.cmp.Ordering.TheVariants.{Less, Equal, Greater}
+use Rattle.std.specs.Ordering.{nat_cmp}
 use Rattle.t32_base.specs.Account.{page_in}
 use Rattle.rv_mem.specs.Memory.{page_at}
 use Rattle.cert_sched.specs.Account.{all_pages, pages_from}
 use Rattle.sync_point.proofs.WhichMarked.{in_range, not_in_range}
 use Rattle.sync_point.proofs.PageLaws.{numbered, find-numbered}
+use Rattle.sync_point.proofs.WholeLaws.{range_sorted}
 
 -- the pages from i on of a memory are those of so many numbers
 numbered_from : (bytes : List ℕ) (i n : ℕ) → pages_from i n (drop (256 * i) bytes) ≡ numbered (page_at bytes) (range_with_len i n)
@@ -36,16 +34,6 @@ pub no_page_behind : (bytes : List ℕ) (n i : ℕ) → length bytes ≡ 256 * n
 no_page_behind bytes n i size behind =
     ap (λ pages. page_in pages i) (all_numbered bytes n size) ∙ find-numbered (page_at bytes) i (range_with_len 0 n)
     ∙ ap (λ b. cond b (Some (page_at bytes i)) None) (not_in_range 0 n i (omega (arith, behind)))
-
--- their numbers rise
-below_range : (page : ℕ → List ℕ) (x a n : ℕ) → x < a → below_all nat_cmp x (numbered page (range_with_len a n)) ≡ true
-below_range page x a zero below = refl
-below_range page x a (suc n) below =
-    and_from _ _ (ap (λ b. is_lt (cond b Less (cond (eqb x a) Equal Greater))) (lt-ltb x a below)) (below_range page x (a + 1) n (omega arith))
-
-range_sorted : (page : ℕ → List ℕ) (a n : ℕ) → is_sorted nat_cmp (numbered page (range_with_len a n)) ≡ true
-range_sorted page a zero = refl
-range_sorted page a (suc n) = and_from _ _ (below_range page a (a + 1) n (omega arith)) (range_sorted page (a + 1) n)
 
 pub pages_rise : (bytes : List ℕ) (n : ℕ) → length bytes ≡ 256 * n → is_sorted nat_cmp (all_pages bytes) ≡ true
 pages_rise bytes n size = ap (is_sorted nat_cmp) (all_numbered bytes n size) ∙ range_sorted (page_at bytes) 0 n

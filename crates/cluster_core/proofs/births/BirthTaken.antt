@@ -72,7 +72,7 @@ follows_beside_birth c log e b valid now later f other spared server beside same
 -- ---- the birth itself
 
 -- a process that is among them, by its pid
-any_pids : (p : Pid) (here : List (Pid × Held)) → list_any (λ (e : Pid × Held). same_pid e.0 p) here ≡ list_any (λ n. eqb n p.0) (pids_in here)
+pub any_pids : (p : Pid) (here : List (Pid × Held)) → list_any (λ (e : Pid × Held). same_pid e.0 p) here ≡ list_any (λ n. eqb n p.0) (pids_in here)
 any_pids p [] = refl
 any_pids p (e ∷ here) = ap (λ b. eqb (e.0).0 p.0 || b) (any_pids p here)
 

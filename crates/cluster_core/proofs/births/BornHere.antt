@@ -1,13 +1,12 @@
 -- What is here once a child is put beside its parent.
-use Rattle.std.proofs.Common.{◌≡◌, ◌⊎◌, ℕ, refl, sym, ◌∙◌, ap, subst, arith, List, [], ◌∷◌, Bool, true, false, cond, ◌||◌, ltb, eqb-true, eq-eqb, Some, true≢false, inl, inr}
+use Rattle.std.proofs.Common.{◌≡◌, ◌⊎◌, ℕ, refl, sym, ◌∙◌, ap, subst, arith, List, [], ◌∷◌, Bool, true, false, cond, ◌||◌, eqb-true, eq-eqb, Some, true≢false, inl, inr}
 use Rattle.std.specs.Prelude.{find, option_map}
 use Rattle.std.specs.List.{list_any}
 use Rattle.std.specs.Option.{option_map_or}
 use Rattle.t32_base.specs.declared.process.Pid.{Pid}
 use Rattle.proc_state.specs.declared.process.Process.{Process}
 use Rattle.bus_msg.specs.Places.{same_pid}
-use Rattle.cert_sched.specs.Parts.{put_rising, rising}
-use Rattle.cert_sched.proofs.RisingLaws.{put_rising-swap}
+use Rattle.cert_sched.specs.Parts.{rising}
 use Rattle.cluster_core.specs.View.{Held, Runs, held_of}
 use Rattle.cluster_core.specs.Residents.{pids_in, with_changed, with_more}
 use Rattle.cluster_core.specs.Parts.{AllOwn, IsOwn}
@@ -15,39 +14,9 @@ use Rattle.cluster_core.specs.Bearing.{forked, newborn, with_born, with_fork}
 use Rattle.cluster_core.proofs.here.Here.{found_changed, pid_same, pids_changed}
 use Rattle.cluster_core.proofs.here.Owning.{own_at, own_changed}
 use Rattle.cluster_core.proofs.losses.OwningWaits.{own_more}
+use Rattle.cluster_core.proofs.losses.RecoveredHere.{held_more, pids_more}
 
 -- ---- one more
-
--- what is found is the one more, or was there
-held_more : (q : Pid) (x : Held) (here : List (Pid × Held)) (p : Pid) (h : Held) → held_of (with_more q x here) p ≡ Some h → ((same_pid q p ≡ true) × (h ≡ x)) ⊎ (held_of here p ≡ Some h)
-held_more q x here p h = in_list here
-  where
-    first : (rest : List (Pid × Held)) (b : Bool) → same_pid q p ≡ b → option_map (λ (e : Pid × Held). e.1) (cond b (Some (q, x)) (find (λ (e : Pid × Held). same_pid e.0 p) rest)) ≡ Some h → ((same_pid q p ≡ true) × (h ≡ x)) ⊎ (held_of rest p ≡ Some h)
-    first rest true is at = let same : h ≡ x = cc in inl (is, same)
-    first rest false is at = inr at
-
-    in_list : (here : List (Pid × Held)) → held_of (with_more q x here) p ≡ Some h → ((same_pid q p ≡ true) × (h ≡ x)) ⊎ (held_of here p ≡ Some h)
-    in_list [] at = first [] (same_pid q p) refl at
-    in_list (e ∷ here) at = by_order (ltb q.0 (e.0).0) at (in_list here)
-      where
-        by_pid : (b : Bool) → option_map (λ (e : Pid × Held). e.1) (cond b (Some e) (find (λ (e : Pid × Held). same_pid e.0 p) (with_more q x here))) ≡ Some h
-            → (held_of (with_more q x here) p ≡ Some h → ((same_pid q p ≡ true) × (h ≡ x)) ⊎ (held_of here p ≡ Some h))
-            → ((same_pid q p ≡ true) × (h ≡ x)) ⊎ (option_map (λ (e : Pid × Held). e.1) (cond b (Some e) (find (λ (e : Pid × Held). same_pid e.0 p) here)) ≡ Some h)
-        by_pid true at more = inr at
-        by_pid false at more = more at
-
-        by_order : (b : Bool) → held_of (cond b ((q, x) ∷ e ∷ here) (e ∷ with_more q x here)) p ≡ Some h → (held_of (with_more q x here) p ≡ Some h → ((same_pid q p ≡ true) × (h ≡ x)) ⊎ (held_of here p ≡ Some h))
-            → ((same_pid q p ≡ true) × (h ≡ x)) ⊎ (held_of (e ∷ here) p ≡ Some h)
-        by_order true at more = first (e ∷ here) (same_pid q p) refl at
-        by_order false at more = by_pid (same_pid e.0 p) at more
-
-pids_more : (q : Pid) (x : Held) (here : List (Pid × Held)) → rising (pids_in (with_more q x here)) ≡ put_rising q.0 (rising (pids_in here))
-pids_more q x [] = refl
-pids_more q x (e ∷ here) = by_order (ltb q.0 (e.0).0) (pids_more q x here)
-  where
-    by_order : (b : Bool) → rising (pids_in (with_more q x here)) ≡ put_rising q.0 (rising (pids_in here)) → rising (pids_in (cond b ((q, x) ∷ e ∷ here) (e ∷ with_more q x here))) ≡ put_rising q.0 (rising (pids_in (e ∷ here)))
-    by_order true more = refl
-    by_order false more = ap (put_rising (e.0).0) more ∙ put_rising-swap (e.0).0 q.0 (rising (pids_in here))
 
 -- one that is found is among those here
 found_among : (here : List (Pid × Held)) (p : Pid) (h : Held) → held_of here p ≡ Some h → list_any (λ (e : Pid × Held). same_pid e.0 p) here ≡ true

@@ -5,7 +5,6 @@ use Rattle.std.specs.FinMap as finmap
 use Rattle.std.specs.Map.{lookup}
 use Rattle.std.specs.Option.{option_map_or}
 use Rattle.std.specs.Ordering.{nat_cmp}
-use Rattle.std.specs.List.{AllByRecursion}
 use Rattle.std.specs.List.Sorted.{IsStrictlySortedBy}
 use Rattle.std.specs.declared.cmp.Ordering.TheVariants.{Less}
 use Rattle.std.proofs.lemmas.Bool.Decides.{nat_tests}
@@ -30,14 +29,11 @@ use Rattle.cluster_core.specs.Booting.{AreFirstRecords}
 use Rattle.cluster_core.proofs.boot.Booted.{boot_has}
 use Rattle.cluster_core.proofs.here.Here.{pid_same}
 use Rattle.cluster_core.proofs.here.Slots.{at_key_is}
+use Rattle.page_accounts.proofs.Booted.{key_new, lookup_last, lookup_before}
 
 -- the entries of a map that were seen
 abbrev pub seen : List (Bor ℕ × Bor ProcState) → List (ℕ × ProcState)
 seen es = map (λ (e : Bor ℕ × Bor ProcState). ((e.0).now, (e.1).now)) es
-
-pub seen_last : (es : List (Bor ℕ × Bor ProcState)) (e : Bor ℕ × Bor ProcState) → seen (es ++ e ∷ []) ≡ seen es ++ ((e.0).now, (e.1).now) ∷ []
-seen_last [] e = refl
-seen_last (d ∷ es) e = ap (λ ds. ((d.0).now, (d.1).now) ∷ ds) (seen_last es e)
 
 -- ---- one record more
 
@@ -63,31 +59,8 @@ record_with r (s ∷ rest) p = by_tests (ltb (r.pid).0 (s.pid).0) (same_pid s.pi
 
 -- ---- one process more of a map that rises
 
-later_key : (P : ℕ → Type 0) (es : List (ℕ × ProcState)) (e : ℕ × ProcState) (rest : List (ℕ × ProcState)) → AllByRecursion P (map (λ (d : ℕ × ProcState). d.0) (es ++ e ∷ rest)) → P e.0
-later_key P [] e rest all = all.0
-later_key P (d ∷ es) e rest all = later_key P es e rest all.1
-
 not_key : (m n : ℕ) → nat_cmp m n ≡ Less → eqb m n ≡ false
 not_key m n less = grind (arith, nat_tests)
-
-key_new : (es : List (ℕ × ProcState)) (e : ℕ × ProcState) (rest : List (ℕ × ProcState)) → IsStrictlySortedBy nat_cmp (map (λ (d : ℕ × ProcState). d.0) (es ++ e ∷ rest)) → lookup (at_key e.0) es ≡ None
-unfolding IsStrictlySortedBy
-key_new [] e rest ordered = refl
-key_new (d ∷ es) e rest ordered =
-    ap (λ b. cond b (Some d.1) (lookup (at_key e.0) es)) (at_key_is e.0 d.0 ∙ not_key d.0 e.0 (later_key (λ n. nat_cmp d.0 n ≡ Less) es e rest ordered.0)) ∙ key_new es e rest ordered.1
-
-lookup_last : (n : ℕ) (es : List (ℕ × ProcState)) (e : ℕ × ProcState) → lookup (at_key n) es ≡ None → lookup (at_key n) (es ++ e ∷ []) ≡ cond (at_key n e.0) (Some e.1) None
-lookup_last n [] e none = refl
-lookup_last n (d ∷ es) e none = by_test (at_key n d.0) none (lookup_last n es e)
-  where
-    by_test : (b : Bool) → cond b (Some d.1) (lookup (at_key n) es) ≡ None → (lookup (at_key n) es ≡ None → lookup (at_key n) (es ++ e ∷ []) ≡ cond (at_key n e.0) (Some e.1) None)
-        → cond b (Some d.1) (lookup (at_key n) (es ++ e ∷ [])) ≡ cond (at_key n e.0) (Some e.1) None
-    by_test true none more = cc
-    by_test false none more = more none
-
-lookup_before : (n : ℕ) (es : List (ℕ × ProcState)) (e : ℕ × ProcState) → at_key n e.0 ≡ false → lookup (at_key n) (es ++ e ∷ []) ≡ lookup (at_key n) es
-lookup_before n [] e other = ap (λ b. cond b (Some e.1) None) other
-lookup_before n (d ∷ es) e other = ap (λ o. cond (at_key n d.0) (Some d.1) o) (lookup_before n es e other)
 
 module _ (places : Places) (k : ClusterNo) (es : List (ℕ × ProcState)) (e : ℕ × ProcState) (rest : List (ℕ × ProcState)) (recs : List BackRec) (ordered : IsStrictlySortedBy nat_cmp (map (λ (d : ℕ × ProcState). d.0) (es ++ e ∷ rest)))
     (are : AreFirstRecords places k es recs) where

@@ -1,5 +1,5 @@
 -- A process forks where it is kept, and the others stay.
-use Rattle.std.proofs.Common.{◌≡◌, ℕ, refl, sym, ◌∙◌, ap, subst, List, [], ◌∷◌, true, false, eqb, ◌||◌, Option, Some, None, is_some, true≢false}
+use Rattle.std.proofs.Common.{◌≡◌, ℕ, refl, sym, ◌∙◌, ap, subst, List, [], true, false, eqb, Option, Some, None, is_some, true≢false}
 use Rattle.std.specs.Prelude.{Result, Ok, Err, OnErr, IfOk}
 use Rattle.std.specs.List.{AllByRecursion, list_any}
 use Rattle.std.specs.Map.{lookup}
@@ -18,6 +18,7 @@ use Rattle.cluster_core.specs.Bearing.{ForksAt, ForksFrom, HasForked, forked, ne
 use Rattle.cluster_core.proofs.here.Here.{pids_changed}
 use Rattle.cluster_core.proofs.here.Kept.{written_back}
 use Rattle.cluster_core.proofs.here.Slots.{nobody_held, one_key, process_there, written}
+use Rattle.cluster_core.proofs.births.BirthTaken.{any_pids}
 
 -- one that forks lacks no page that it did not lack before
 fork_lacks : (child : Pid) (was now : Held) (born : Option Process) → HasForked child was born now → is_some (page_lacked now) ≡ true → is_some (page_lacked was) ≡ true
@@ -78,10 +79,6 @@ borne p child old born new f = by_found (held_of old p) refl f
     by_found None there f = let none : Some born ≡ None = f.0 in cc
     by_found (Some (Runs process)) there f = record { process = process; there = there; born_is = let one : Some born ≡ Some (newborn process child) = f.0 in cc; new_is = f.1 }
     by_found (Some _) there f = let none : Some born ≡ None = f.0 in cc
-
-any_pids : (p : Pid) (here : List (Pid × Held)) → list_any (λ (e : Pid × Held). same_pid e.0 p) here ≡ list_any (λ n. eqb n p.0) (pids_in here)
-any_pids p [] = refl
-any_pids p (e ∷ here) = ap (λ b. eqb (e.0).0 p.0 || b) (any_pids p here)
 
 -- the child is still not here
 pub still_absent : (p child : Pid) (old : List (Pid × Held)) (born : Process) (new : List (Pid × Held)) → Borne p child old born new → ((h : Held) → held_of old p ≡ Some h → list_any (λ (e : Pid × Held). same_pid e.0 child) old ≡ false) → list_any (λ (e : Pid × Held). same_pid e.0 child) new ≡ false

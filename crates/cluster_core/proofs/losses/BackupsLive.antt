@@ -154,7 +154,7 @@ record Both (system : System) (log : List Entry) : Type 0 where
   pub legal : IsLegalBy MayStand system log
   pub live : BackupsLive (placement system log)
 
-none_legal : (system : System) → IsLegalBy MayStand system []
+pub none_legal : (system : System) → IsLegalBy MayStand system []
 unfolding IsLegalBy
 none_legal system = tt
 

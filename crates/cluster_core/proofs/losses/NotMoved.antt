@@ -42,6 +42,7 @@ use Rattle.cert_sched.proofs.BirthPlaces.{born_beside}
 use Rattle.cluster_core.proofs.absorbing.ByKind.{OneOf, by_kind, by_page, by_sync, kind_is}
 use Rattle.cluster_core.proofs.losses.Homes.{HomeHere, differ_built}
 use Rattle.cluster_core.proofs.syncs.SyncedHomes.{backup_kept, synced_found}
+use Rattle.cluster_core.proofs.losses.BackupsLive.{none_legal}
 
 -- ---- one process
 
@@ -197,10 +198,6 @@ module _ (system : System) (valid : is_system system ≡ true) (log : List Entry
         (λ at letter is. by_other (Mail at letter) is refl) (λ parent at child end is. by_birth parent at child end is) (λ r at end is. by_exit r at end is) (λ r index is. by_other (Fetch r index) is refl) (λ r index bytes is. by_other (PageIs r index bytes) is refl)
         (λ lost cause is. by_loss lost cause is) (λ r at index bytes is. by_other (Page r at index bytes) is refl) (λ r small read is. by_cut r small read is) (λ rests is. by_other (Done rests) is refl) (λ is. by_other Stop is refl)
         (what e) may.built refl (sym (ap (λ places. unended_at places p) (placement-snoc system log e)) ∙ found)
-
-none_legal : (system : System) → IsLegalBy MayStand system []
-unfolding IsLegalBy
-none_legal system = tt
 
 none_moved : (system : System) → NoBackups system []
 unfolding told

@@ -16,7 +16,7 @@ use Rattle.cluster_core.specs.Recovered.{with_all_waiting, with_waiting}
 -- ---- one more
 
 -- what is found is the one more, or was there
-held_more : (q : Pid) (x : Held) (here : List (Pid × Held)) (p : Pid) (h : Held) → held_of (with_more q x here) p ≡ Some h → ((same_pid q p ≡ true) × (h ≡ x)) ⊎ (held_of here p ≡ Some h)
+pub held_more : (q : Pid) (x : Held) (here : List (Pid × Held)) (p : Pid) (h : Held) → held_of (with_more q x here) p ≡ Some h → ((same_pid q p ≡ true) × (h ≡ x)) ⊎ (held_of here p ≡ Some h)
 held_more q x here p h = in_list here
   where
     first : (rest : List (Pid × Held)) (b : Bool) → same_pid q p ≡ b → option_map (λ (e : Pid × Held). e.1) (cond b (Some (q, x)) (find (λ (e : Pid × Held). same_pid e.0 p) rest)) ≡ Some h → ((same_pid q p ≡ true) × (h ≡ x)) ⊎ (held_of rest p ≡ Some h)
@@ -38,7 +38,7 @@ held_more q x here p h = in_list here
         by_order true at more = first (e ∷ here) (same_pid q p) refl at
         by_order false at more = by_pid (same_pid e.0 p) at more
 
-pids_more : (q : Pid) (x : Held) (here : List (Pid × Held)) → rising (pids_in (with_more q x here)) ≡ put_rising q.0 (rising (pids_in here))
+pub pids_more : (q : Pid) (x : Held) (here : List (Pid × Held)) → rising (pids_in (with_more q x here)) ≡ put_rising q.0 (rising (pids_in here))
 pids_more q x [] = refl
 pids_more q x (e ∷ here) = by_order (ltb q.0 (e.0).0) (pids_more q x here)
   where

@@ -80,7 +80,7 @@ leaves_marks system log e p leaves no_exit = record { no_cut = leaves.0; no_birt
 
 -- ---- one more entry
 
-not_later : (p : Pid) (n : ℕ) (w : What) → is_some_page p w ≡ false → is_later_page p n w ≡ false
+pub not_later : (p : Pid) (n : ℕ) (w : What) → is_some_page p w ≡ false → is_later_page p n w ≡ false
 not_later p n (Page pid at index bytes) none = ap (λ b. b && nat_lt n at) none
 not_later p n _ none = refl
 

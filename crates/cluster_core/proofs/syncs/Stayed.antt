@@ -1,6 +1,6 @@
 -- A process that synchronises while an entry of another cluster is taken in: it is still here, with letters more at most, and the rest of its batch is still under way.
-use Rattle.std.proofs.Common.{◌≡◌, ℕ, refl, sym, ◌∙◌, ap, subst, List, [], ◌∷◌, ◌++◌, Bool, true, false, cond, not, ◌&&◌, ◌||◌, eqb, Option, Some, None, true≢false}
-use Rattle.std.specs.Prelude.{find, map, nat_lt, option_map, replicate}
+use Rattle.std.proofs.Common.{◌≡◌, ℕ, refl, sym, ◌∙◌, ap, subst, List, [], ◌∷◌, ◌++◌, Bool, true, false, cond, eqb, Option, Some}
+use Rattle.std.specs.Prelude.{map, option_map, replicate}
 use Rattle.std.specs.List.{list_any}
 use Rattle.t32_base.specs.declared.process.Pid.{Pid}
 use Rattle.t32_base.specs.declared.process.ClusterNo.{ClusterNo}
@@ -15,7 +15,7 @@ use Rattle.bus_msg.specs.declared.entry.What.TheVariants.{Page, Sync}
 use Rattle.bus_msg.specs.declared.entry.By.TheVariants.{Cluster}
 use Rattle.bus_msg.specs.declared.entry.Entry.{Entry}
 use Rattle.bus_msg.specs.declared.placed.Placed.{Placed}
-use Rattle.bus_msg.specs.Places.{Places, is_at_home, same_cluster, same_pid, unended_at}
+use Rattle.bus_msg.specs.Places.{same_pid}
 use Rattle.bus_msg.specs.PlacedAfter.{what}
 use Rattle.cert_sched.specs.Built.{MayStand, KeepsLimits, tells_or_closes}
 use Rattle.cert_sched.specs.Deeds.{is_end_of, letter_for, to_process}
@@ -27,8 +27,7 @@ use Rattle.cert_sched.specs.Rules.{home_at, is_by_home}
 use Rattle.cert_sched.specs.Schedule.{placement}
 use Rattle.cert_sched.proofs.LogLaws.{IsLegal-last}
 use Rattle.cert_sched.proofs.RisingLaws.{rising-any}
-use Rattle.checkpoint_laws.specs.marks.Beside.{is_some_page}
-use Rattle.checkpoint_laws.specs.marks.Sent.{SentUpto, is_later_page}
+use Rattle.checkpoint_laws.specs.marks.Sent.{SentUpto}
 use Rattle.checkpoint_laws.proofs.marks.SentPages.{sent_on}
 use Rattle.checkpoint_laws.specs.batches.Between.{ComesBetween}
 use Rattle.checkpoint_laws.specs.batches.Underway.{BatchMay, posts_left, with_letters}
@@ -44,11 +43,13 @@ use Rattle.cluster_core.proofs.syncs.Batching.{all_but, sent_there, unqueued, wi
 use Rattle.cluster_core.proofs.here.Beside.{FollowsBeside}
 use Rattle.cluster_core.proofs.absorbing.ByKind.{by_kind, by_page, is_of_page}
 use Rattle.cluster_core.proofs.here.Here.{arrival_at, is_among}
-use Rattle.cluster_core.proofs.losses.Homes.{HomeHere, differ_built, home_here, home_lives, home_more, pids_home}
+use Rattle.cluster_core.proofs.losses.Homes.{HomeHere, differ_built, home_here, home_lives}
 use Rattle.cluster_core.proofs.paging.Paged.{page_at}
 use Rattle.cluster_core.proofs.working.Working.{home_by}
 use Rattle.t32_base.specs.declared.letter.To.{To}
 use Rattle.t32_base.specs.declared.letter.To.TheVariants.{Proc, Tty}
+use Rattle.cluster_core.proofs.losses.HeldAtHome.{home_listed, held_there, home_found}
+use Rattle.cluster_core.proofs.syncs.Marking.{not_later}
 
 -- ---- what stays of a process
 
@@ -90,54 +91,6 @@ same_posts k p s t read took indices small memory =
     λ i. map (λ (n : ℕ). record { by = Cluster k; what = Page p (small i).steps n (page_bytes (memory i) n) }) indices ++ record { by = Cluster k; what = Sync p (small i) read took } ∷ []
 
 -- ---- who is at home is here
-
--- where the one that is found under a pid is at home, its pid is one of those at home
-home_listed : (k : ClusterNo) (qs : List Placed) (p : Pid) (q : Placed) → find (λ (q : Placed). same_pid q.pid p && not q.ended) qs ≡ Some q → same_cluster q.home k ≡ true → list_any (λ n. eqb n p.0) (pids_home k qs) ≡ true
-home_listed k [] p q found home = cc
-home_listed k (r ∷ qs) p q found home = ap (list_any (λ n. eqb n p.0)) (home_more k r qs) ∙ by_tests (same_pid r.pid p) (not r.ended) refl refl found (λ more. home_listed k qs p q more home)
-  where
-    later : (b : Bool) → list_any (λ n. eqb n p.0) (pids_home k qs) ≡ true → list_any (λ n. eqb n p.0) (cond b ((r.pid).0 ∷ pids_home k qs) (pids_home k qs)) ≡ true
-    later true more = either (eqb (r.pid).0 p.0)
-      where
-        either : (b : Bool) → (b || list_any (λ n. eqb n p.0) (pids_home k qs)) ≡ true
-        either true = refl
-        either false = more
-    later false more = more
-
-    by_tests : (b c : Bool) → same_pid r.pid p ≡ b → not r.ended ≡ c → cond (b && c) (Some r) (find (λ (q : Placed). same_pid q.pid p && not q.ended) qs) ≡ Some q
-        → (find (λ (q : Placed). same_pid q.pid p && not q.ended) qs ≡ Some q → list_any (λ n. eqb n p.0) (pids_home k qs) ≡ true)
-        → list_any (λ n. eqb n p.0) (cond (is_at_home k r) ((r.pid).0 ∷ pids_home k qs) (pids_home k qs)) ≡ true
-    by_tests true true own runs is more =
-        let same : r ≡ q = cc in
-        let at : is_at_home k r ≡ true = (λ i. (ap (λ (x : Placed). same_cluster x.home k) same ∙ home) i && runs i) in
-        ap (λ b. list_any (λ n. eqb n p.0) (cond b ((r.pid).0 ∷ pids_home k qs) (pids_home k qs))) at ∙ ap (λ b. b || list_any (λ n. eqb n p.0) (pids_home k qs)) own
-    by_tests true false own runs is more = later (is_at_home k r) (more is)
-    by_tests false c own runs is more = later (is_at_home k r) (more is)
-
--- who is among them is held
-held_there : (here : List (Pid × Held)) (p : Pid) → list_any (λ n. eqb n p.0) (pids_in here) ≡ true → (h : Held) × (held_of here p ≡ Some h)
-held_there [] p is = absurd (true≢false (sym is))
-held_there (e ∷ here) p is = by_test (same_pid e.0 p) is (held_there here p)
-  where
-    by_test : (b : Bool) → (b || list_any (λ n. eqb n p.0) (pids_in here)) ≡ true → (list_any (λ n. eqb n p.0) (pids_in here) ≡ true → (h : Held) × (held_of here p ≡ Some h))
-        → (h : Held) × (option_map (λ (e : Pid × Held). e.1) (cond b (Some e) (find (λ (e : Pid × Held). same_pid e.0 p) here)) ≡ Some h)
-    by_test true is more = (e.1, refl)
-    by_test false is more = more is
-
--- who is at home there is found
-home_found : (places : Places) (p : Pid) (k j : ClusterNo) → home_at places p ≡ Some j → same_cluster j k ≡ true → HomeHere places p k
-home_found places p k j at same = by_found (unended_at places p) refl at
-  where
-    by_found : (o : Option Placed) → unended_at places p ≡ o → option_map (λ (q : Placed). q.home) o ≡ Some j → HomeHere places p k
-    by_found None found is = cc
-    by_found (Some q) found is =
-        let home : q.home ≡ j = cc in
-        record { placed = q; found = found; home = ap (λ h. same_cluster h k) home ∙ same }
-
--- no page of the process is no page of a later step
-not_later : (p : Pid) (n : ℕ) (w : What) → is_some_page p w ≡ false → is_later_page p n w ≡ false
-not_later p n (Page pid at index bytes) none = ap (λ b. b && nat_lt n at) none
-not_later p n _ none = refl
 
 -- ---- the whole
 

@@ -1,11 +1,10 @@
 -- A step leaves the number of pages and the size of the memory.
-use Rattle.std.proofs.Common.{◌≡◌, ℕ, ◌≤◌, refl, ◌∙◌, arith, List, length, length-take, Bool, true, false, cond, not, ◌||◌, eqb, ltb, Option, Some, None, is_none}
-use Rattle.std.specs.List.{list_any}
+use Rattle.std.proofs.Common.{◌≡◌, ℕ, refl, ◌∙◌, List, length, Bool, true, false, cond, not, eqb, ltb, Option, Some, None, is_none}
 use Rattle.t32_base.specs.declared.process.End.{End}
 use Rattle.t32_base.specs.declared.process.Status.{Status}
 use Rattle.t32_base.specs.declared.process.Status.TheVariants.{Live, Closing, Ended}
 use Rattle.t32_base.specs.declared.letter.Body.{Body}
-use Rattle.t32_base.specs.declared.letter.Body.TheVariants.{Said, EndOf, Signal}
+use Rattle.t32_base.specs.declared.letter.Body.TheVariants.{Said}
 use Rattle.t32_base.specs.declared.letter.Arrived.{Arrived}
 use Rattle.t32_base.specs.declared.letter.To.{To}
 use Rattle.t32_base.specs.declared.letter.To.TheVariants.{Proc, Tty}
@@ -13,7 +12,7 @@ use Rattle.rv_mem.specs.Memory.{is_inside, bytes_at, with_bytes}
 use Rattle.rv_mem.proofs.PageLaws.{less_inside}
 use Rattle.t32_base.specs.Registers.{Registers}
 use Rattle.rv_cpu.specs.Exec.{Executed, Steps, Calls, Traps, exec, reg}
-use Rattle.proc_state.specs.Ends.{free_end, is_open_at, is_unfinished, is_unfinished_at, leads_at}
+use Rattle.proc_state.specs.Ends.{free_end, leads_at}
 use Rattle.proc_state.specs.State.{ProcState, with_small}
 use Rattle.sys_calls.specs.Small.{spent, lowest_linked}
 use Rattle.sys_calls.specs.declared.steps.Emission.TheVariants.{Mail}
@@ -24,6 +23,7 @@ use Rattle.sys_calls.specs.declared.reading.Wanted.{Wanted}
 use Rattle.sys_calls.specs.declared.reading.Wanted.TheVariants.{On, AnyLinked}
 use Rattle.sys_calls.specs.Next.{next_step, step_by, live_step, after_exec, closing_step}
 use Rattle.log_laws.proofs.pages.InsnSizes.{SizeAfter, exec_size, put_size}
+use Rattle.sys_calls.proofs.Clean.{length-said, room_of_read, room_of_read_any}
 
 -- as many pages, and as many bytes of memory
 pub record SameSize (s t : ProcState) : Type 0 where
@@ -40,35 +40,11 @@ Keeps s Over = Unit {0}
 
 -- ---- what a read may write
 
-length-said : (room : ℕ) (body : Body) → length (said_within room body) ≤ room
-length-said room (Said bytes) = omega (arith, length-take room bytes)
-length-said room EndOf = omega arith
-length-said room (Signal g) = omega arith
-
 -- a read that passed its checks has its room in memory
 abbrev HasRoom : List ℕ → Reading → Type 0
 HasRoom memory (Refused error) = Unit {0}
 HasRoom memory AtEnd = Unit {0}
 HasRoom memory (Wants wanted ptr room) = is_inside memory ptr room ≡ true
-
-room_of_read : (s : ProcState) → HasRoom s.memory (read_checked s)
-room_of_read s = by_tests ((eqb (arg s 0) 0) || not (is_open_at (s.small).ends (arg s 0))) (is_inside s.memory (arg s 1) (room (arg s 2))) refl (is_unfinished_at (s.small).ends (arg s 0))
-  where
-    by_tests : (a b : Bool) → is_inside s.memory (arg s 1) (room (arg s 2)) ≡ b → (c : Bool)
-        → HasRoom s.memory (cond a (Refused 9) (cond (not b) (Refused 14) (cond c (Wants (On (arg s 0)) (arg s 1) (room (arg s 2))) AtEnd)))
-    by_tests true b is c = tt
-    by_tests false true is true = is
-    by_tests false true is false = tt
-    by_tests false false is c = tt
-
-room_of_read_any : (s : ProcState) → HasRoom s.memory (read_any_checked s)
-room_of_read_any s = by_tests (is_inside s.memory (arg s 0) (room (arg s 1))) refl (list_any is_unfinished (s.small).ends)
-  where
-    by_tests : (b : Bool) → is_inside s.memory (arg s 0) (room (arg s 1)) ≡ b → (c : Bool)
-        → HasRoom s.memory (cond (not b) (Refused 14) (cond (not c) (Refused 9) (Wants AnyLinked (arg s 0) (room (arg s 1)))))
-    by_tests true is true = is
-    by_tests true is false = tt
-    by_tests false is c = tt
 
 -- ---- a step
 

@@ -27,6 +27,7 @@ use Rattle.cert_sched.proofs.CameLaws.{same_of}
 use Rattle.cert_sched.proofs.BornLaws.{there_not_born}
 use Rattle.replay_laws.proofs.rolling.StartedThere.{there_stays}
 use Rattle.replay_laws.proofs.rolling.UnendedBefore.{before_unended}
+use Rattle.checkpoint_laws.proofs.marks.BegunMarks.{none_legal}
 
 abbrev pub has_exited : List Entry → Pid → Bool
 has_exited log p = list_any (λ (e : Entry). is_exit_of p (what e)) log
@@ -86,10 +87,6 @@ born_unexited system log e p legal stands birth = by_test (has_exited log p) ref
 birth_no_exit : (p : Pid) (w : What) → is_birth_of p w ≡ true → is_exit_of p w ≡ false
 birth_no_exit p (Exit q at end) birth = absurd (true≢false (sym birth))
 birth_no_exit p w birth = refl
-
-none_legal : (system : System) → IsLegalBy Stands system []
-unfolding IsLegalBy
-none_legal system = tt
 
 pub unended_not_exited : (system : System) (log : List Entry) (p : Pid) → IsLegalBy Stands system log → IsUnended system log p → has_exited log p ≡ false
 unended_not_exited system log p legal =

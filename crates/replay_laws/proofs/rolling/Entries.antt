@@ -38,6 +38,7 @@ use Rattle.cert_sched.proofs.ThereLaws.{unended_there}
 use Rattle.replay_laws.proofs.rolling.Bearing.{born_without_letters}
 use Rattle.replay_laws.proofs.rolling.Replaying.{rolling_of, rolls_as}
 use Rattle.replay_laws.proofs.rolling.StartedThere.{started_not_born}
+use Rattle.cert_sched.proofs.LiveLaws.{none_legal}
 
 -- ---- the letters that came to a process
 
@@ -86,10 +87,6 @@ module _ (system : System) (log : List Entry) (e : Entry) (p : Pid) where
       let more : length (letters_to p (after_last (starts p) (log ++ e ∷ []))) ≡ length (letters_to p (after_last (starts p) log)) + length (letter_for p (what e)) =
       ap length (letters_more quiet) ∙ length-append (letters_to p (after_last (starts p) log)) (letter_for p (what e)) in
       omega (arith, before, count, more)
-
-none_legal : (May : System → List Entry → Entry → Type 0) (system : System) → IsLegalBy May system []
-unfolding IsLegalBy
-none_legal May system = tt
 
 -- a cut is no exit
 cut_no_exit : (p : Pid) (w : What) → is_cut p w ≡ true → is_exit_of p w ≡ false

@@ -7,8 +7,9 @@ use Rattle.plain_kernel.specs.Maps.{pid_of}
 use Rattle.backup_records.specs.Records.{with_record}
 use Rattle.log_laws.specs.records.Kept.{record_at_boot}
 use Rattle.cluster_core.specs.Booting.{AreFirstRecords}
-use Rattle.cluster_core.proofs.boot.FirstRecords.{more_recorded, none_recorded, seen, seen_last}
+use Rattle.cluster_core.proofs.boot.FirstRecords.{more_recorded, none_recorded, seen}
 use Rattle.cluster_core.proofs.booting.first_records.Goals as goal
+use Rattle.page_accounts.proofs.Booted.{seen_last}
 
 pub loop-pid-preserved-in-Continue-1 : goal.loop-pid-preserved-in-Continue-1
 loop-pid-preserved-in-Continue-1 c =

@@ -1,8 +1,9 @@
 use Rattle.std.proofs.Common.{arith, ap}
 use Rattle.plain_kernel.specs.Maps.{total_load}
 use Rattle.plain_kernel.proofs.Entries.{still_there, there_after}
-use Rattle.plain_kernel.proofs.Turns.{less, more_ran, more_made, no_steps, stood, stuck_there}
+use Rattle.plain_kernel.proofs.Turns.{less, more_ran, more_made, stood, stuck_there}
 use Rattle.plain_kernel.proofs.running.run_steps.Goals as goal
+use Rattle.plain_kernel.proofs.Takers.{no_steps}
 
 pub steps-init : goal.steps-init
 steps-init c = record { within = omega arith; made = no_steps _ _; there = c.requires.there; lighter = omega arith }
