@@ -7,6 +7,7 @@ use Rattle.rv_asm.specs.declared.line.Quoting.{Quoting}
 use Rattle.rv_asm.specs.declared.line.Quoting.TheVariants.{Outside, Inside, Escaped}
 use Rattle.rv_asm.specs.declared.refusal.Rule.{Rule}
 use Rattle.rv_asm.specs.declared.refusal.Rule.TheVariants.{BadForm}
+use Rattle.rv_asm.specs.Steps.{◌>>=◌}
 
 -- where the byte after b stands
 abbrev pub after : Quoting → ℕ → Quoting

@@ -6,6 +6,7 @@ use Rattle.std.specs.Prelude.{unsigned_abs}
 use Rattle.text_parts.specs.Numbers.{numeral_of}
 use Rattle.rv_asm.specs.declared.refusal.Rule.{Rule}
 use Rattle.rv_asm.specs.declared.refusal.Rule.TheVariants.{BadForm, NumberRange}
+use Rattle.rv_asm.specs.Steps.{◌>>=◌}
 
 -- 1 to 8 hexadecimal digits
 abbrev pub hex_of : List ℕ → Option ℕ

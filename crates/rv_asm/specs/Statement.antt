@@ -9,6 +9,7 @@ use Rattle.rv_asm.specs.declared.refusal.Rule.TheVariants.{UnknownWord, BadForm}
 use Rattle.rv_asm.specs.declared.form.Form.{Form}
 use Rattle.rv_asm.specs.declared.form.Form.TheVariants as forms
 use Rattle.rv_asm.specs.declared.form.BranchInsn.{BranchInsn}
+use Rattle.rv_asm.specs.Steps.{◌>>=◌}
 use Rattle.rv_asm.specs.Registers.{register_of}
 use Rattle.rv_asm.specs.Forms.{form_of}
 use Rattle.rv_asm.specs.Line.{word_of, operands_of, is_label, split_operands, no_operand, just_one, just_two, just_three, based}
