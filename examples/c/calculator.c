@@ -1,5 +1,5 @@
-/* A calculator. Each letter is a line: an expression of numbers, variables a to z, + - * / % and ( ), or `a = ` and one, which is kept in the
-   variable. It writes the line and its value to its terminal, and answers with the value, or with why there is none. Values have
+/* A calculator. Each letter is a line: an expression of numbers, variables a to z, + - * / % and ( ), or `a = ` and one, which is kept in
+   the variable. It writes the line and its value to its terminal, and answers with the value, or with why there is none. Values have
    32 bits; a division drops the fraction, and the rest has the sign of what is divided. */
 #include "t32.h"
 #include "line.h"

@@ -1,5 +1,5 @@
-/* Counts the words of a text in the store. A child goes through the text and hands over one word after another; this process, its parent, asks
-   the store. Two of these run, in the clusters 1 and 2, each with a text of its own; what they count together, the store has. */
+/* Counts the words of a text in the store. A child goes through the text and hands over one word after another; this process, its parent,
+   asks the store. Two of these run, in the clusters 1 and 2, each with a text of its own; what they count together, the store has. */
 #include "t32.h"
 #include "line.h"
 

@@ -1,5 +1,5 @@
-/* Stands in for two keyboards: it gives each calculator its lines, the next one when it has answered the last. At the end it writes how many
-   lines there were, and how many of them had a value. */
+/* Stands in for two keyboards: it gives each calculator its lines, the next one when it has answered the last. At the end it writes how
+   many lines there were, and how many of them had a value. */
 #include "t32.h"
 #include "line.h"
 

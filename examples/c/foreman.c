@@ -1,5 +1,5 @@
-/* Sends signals to a worker. A signal is a letter too: what one process sends to another comes in order, so each signal is taken before a letter
-   that was sent after it is read. */
+/* Sends signals to a worker. A signal is a letter too, and what one process sends to another comes in order: each signal is taken before a
+   letter that was sent after it is read. */
 #include "t32.h"
 #include "line.h"
 #include "decimal.h"

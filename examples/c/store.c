@@ -5,8 +5,8 @@
      add KEY NUMBER   the value, which is the sum; a key that is not there counts as 0
      drop KEY         the value that it had
 
-   or by `none` where the key is not there, `full` where no room is left for it, and `what` where the letter is no request. Keys and values are
-   words of 11 bytes at most. Once no client is left, it writes all keys with their values, by rising key, and ends with how many there are. */
+   or by `none` where the key is not there, `full` where no room is left for it, and `what` where the letter is no request. Keys and values
+   are words of 11 bytes at most. Once no client is left, it writes all keys with their values, by rising key, and ends with how many. */
 #include "t32.h"
 #include "mem.h"
 #include "line.h"

@@ -25,8 +25,8 @@ int read(int end, void *bytes, unsigned size);
 /* The same of the letter that came first at any end, which is put into *end, unless the answer is negative. */
 int read_any(void *bytes, unsigned size, int *end);
 
-/* Makes a child with the same memory, which begins where this returns: the child's pid, and 0 in the child. In both *end leads to the other.
-   The child has no other end but that and its terminal. */
+/* Makes a child with the same memory, which begins where this returns: the child's pid, and 0 in the child. In both *end leads to the
+   other. The child has no other end but that and its terminal. */
 int fork(int *end);
 
 int getpid(void);
