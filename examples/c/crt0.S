@@ -39,12 +39,14 @@ exit:   li      a7, 1
         CALL2   read_any, 4, a2
         CALL2   fork, 5, a0
 
-# signal(f): f(number) is called for each signal that is taken, and what was interrupted goes on after it.
+# signal(f): f(number) is called for each signal that is taken, and what was interrupted goes on after it. The address that the call gets is
+# `taken`, which calls f and then sigreturn: f itself would return to whatever ra holds. The registers of what was interrupted are the
+# kernel's to keep. By signal(0) f stays noted, since a signal may still be taken before the call is made.
         .section .text.signal, "ax"
         .globl  signal
-signal: la      t0, function
+signal: beqz    a0, 1f
+        la      t0, function
         sw      a0, 0(t0)
-        beqz    a0, 1f
         la      a0, taken
 1:      li      a7, 7
         ecall

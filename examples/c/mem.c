@@ -1,5 +1,8 @@
-/* What the compiler may call by itself. */
-#include <stddef.h>
+/* What the compiler may call by itself, for copies of a struct for example, and a program too. */
+#include "mem.h"
+
+/* Without this, from -O2 on, a compiler may find the loop of memcpy to be a memcpy, and make it a call of itself. */
+#pragma GCC optimize ("no-tree-loop-distribute-patterns")
 
 void *memcpy(void *to, const void *from, size_t size)
 {

@@ -1,6 +1,7 @@
-/* One segment from the first byte of memory: code, constants, data, and what begins as zero. Its first instruction is _start. */
+/* One segment from the first byte of memory: code, constants, data, and what begins as zero. Its first instruction is _start. A process may
+   write all of its memory, whatever the flags of the segment say; with those of writing too, the linker would warn. */
 ENTRY(_start)
-PHDRS { image PT_LOAD FLAGS(7); }
+PHDRS { image PT_LOAD FLAGS(5); }
 SECTIONS
 {
   . = 0x10000;
