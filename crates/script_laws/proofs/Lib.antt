@@ -5,5 +5,6 @@ pub mod CoveredLosses
 pub mod LosingAtStep
 pub mod LosingAtCall
 pub mod PassedWords
+pub mod OffSince
 pub mod OffLosses
 pub mod LookedOn
