@@ -8,3 +8,6 @@ pub mod PassedWords
 pub mod OffSince
 pub mod OffLosses
 pub mod LookedOn
+pub mod WordLosses
+pub mod SpreadLosses
+pub mod ServersLeft
