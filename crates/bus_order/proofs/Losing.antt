@@ -7,11 +7,11 @@ use Rattle.std.proofs.lemmas.Bool.{and_parts}
 use Rattle.proc_state.specs.Mail.{without_first}
 use Rattle.t32_base.specs.declared.process.ClusterNo.{ClusterNo}
 use Rattle.sys_text.specs.declared.system.System.{System}
-use Rattle.bus_msg.specs.declared.entry.What.TheVariants.{Crash}
+use Rattle.bus_msg.specs.declared.entry.What.TheVariants.{Crash, Return}
 use Rattle.bus_msg.specs.declared.entry.Cause.{Cause}
 use Rattle.bus_msg.specs.declared.entry.Cause.TheVariants.{Place, Step, Disk}
 use Rattle.bus_msg.specs.declared.entry.Entry.{Entry}
-use Rattle.bus_msg.specs.Places.{Places, same_cluster, lives_in}
+use Rattle.bus_msg.specs.Places.{Places, same_cluster, lives_in, is_lost_in}
 use Rattle.cert_sched.specs.declared.script.ScriptWord.{ScriptWord}
 use Rattle.cert_sched.specs.declared.script.ScriptWord.TheVariants.{CrashAt, CrashStep, DiskAt, ReturnAt}
 use Rattle.cert_sched.specs.CertAfter.{CertView}
@@ -57,15 +57,19 @@ loss_more b k cause left legal may = record {
 -- ---- by a word for a place
 
 -- what it gives is a crash of a cluster that lives
-given_lives : (places : Places) (w : ScriptWord) (k : ClusterNo) → given_by places w ≡ Some (Crash k Place) → is_built_word w ≡ true → lives_in places k ≡ true
-given_lives places (CrashAt j place) k given built = by_test (lives_in places j) refl given
+given_lives : (places : Places) (w : ScriptWord) (k : ClusterNo) → given_by places w ≡ Some (Crash k Place) → lives_in places k ≡ true
+given_lives places (CrashAt j place) k given = by_test (lives_in places j) refl given
   where
     by_test : (b : Bool) → lives_in places j ≡ b → cond b (Some (Crash j Place)) None ≡ Some (Crash k Place) → lives_in places k ≡ true
     by_test true is e = let same : j ≡ k = cc in ap (lives_in places) (sym same) ∙ is
     by_test false is e = cc
-given_lives places (CrashStep j step) k given built = cc
-given_lives places (DiskAt j call) k given built = cc
-given_lives places (ReturnAt j place) k given built = absurd (true≢false (sym built))
+given_lives places (CrashStep j step) k given = cc
+given_lives places (DiskAt j call) k given = cc
+given_lives places (ReturnAt j place) k given = by_test (is_lost_in places j) given
+  where
+    by_test : (b : Bool) → cond b (Some (Return j)) None ≡ Some (Crash k Place) → lives_in places k ≡ true
+    by_test true e = cc
+    by_test false e = cc
 
 pub no_place_loss : (j k : ClusterNo) (cause : Cause) → is_loss_for j cause (Crash k Place) ≡ false
 no_place_loss j k Place = refl
@@ -77,7 +81,7 @@ pub given_loses : (b : BusView) (w : ScriptWord) (k : ClusterNo) → KeepsScript
     → given_by (placement b.system b.log) w ≡ Some (Crash k Place) → MayLose b k Place (without_reached b.log b.left)
 given_loses b w k keeps built goes_on first given = record {
   goes_on = goes_on;
-  lives = given_lives (placement b.system b.log) w k given (all-found (is_reached (length b.log)) is_built_word b.left w built first).1;
+  lives = given_lives (placement b.system b.log) w k given;
   words = all-without (is_reached (length b.log)) is_built_word b.left built;
   looked =
       subst (Looked b.system b.script (b.log ++ crash_entry b.system b.log k Place ∷ [])) (without-filter (is_reached (length b.log)) is_bus_word (reached_bus (length b.log)) b.left)

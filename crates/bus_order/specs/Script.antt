@@ -13,6 +13,8 @@ use Rattle.bus_msg.specs.PlacedAfter.{what}
 use Rattle.cert_sched.specs.declared.script.ScriptWord.{ScriptWord}
 use Rattle.cert_sched.specs.declared.script.ScriptWord.TheVariants.{CrashAt, CrashStep, DiskAt, ReturnAt}
 use Rattle.cert_sched.specs.Parts.{last_that}
+use Rattle.bus_order.specs.declared.script.Turn.{Turn}
+use Rattle.bus_order.specs.declared.script.Turn.TheVariants.{Lost, Back}
 use Rattle.cert_sched.specs.Losses.{is_crash_of, is_step_crash, is_disk_crash, is_step_word, is_disk_word}
 
 -- ---- the words
@@ -56,9 +58,20 @@ is_uncalled k calls (CrashStep j step) = true
 is_uncalled k calls (DiskAt j call) = not (same_cluster j k) || nat_le calls call
 is_uncalled k calls (ReturnAt j place) = true
 
+-- what a word does to a cluster
+abbrev pub told_by : Turn → What
+told_by (Lost k) = Crash k Place
+told_by (Back k) = Return k
+
 -- ---- off
 
--- an entry that tells of the loss or the return of this cluster
+-- an entry that tells of the loss or the return of a cluster
+abbrev pub is_turn : What → Bool
+is_turn (Crash k cause) = true
+is_turn (Return k) = true
+is_turn _ = false
+
+-- of this cluster
 abbrev pub turns : ClusterNo → What → Bool
 turns k (Crash j cause) = same_cluster j k
 turns k (Return j) = same_cluster j k

@@ -1,12 +1,10 @@
 //! The words of a script that are left.
-ghost use Rattle.std.specs.Prelude.{◌≡◌, None, find, length, position, true, IfNone, IfSome};
+ghost use Rattle.std.specs.Prelude.{◌≡◌, None, find, length, position, IfNone, IfSome};
 ghost use Rattle.std.specs.Option.{option_map};
-ghost use Rattle.bus_msg.specs.declared.entry.What.TheVariants.{Crash as ACrash};
-ghost use Rattle.bus_msg.specs.declared.entry.Cause.TheVariants.{Place as AtPlace};
-ghost use Rattle.cert_sched.specs.Built.{is_built_word};
+ghost use Rattle.bus_msg.specs.Places.{is_lost_in};
 ghost use Rattle.cert_sched.specs.Looked.{given_by, is_reached};
 ghost use Rattle.cert_sched.specs.Losses.{is_disk_word, is_step_word};
-ghost use Rattle.bus_order.specs.Script.{IsFirst, has_unused, is_word_for};
+ghost use Rattle.bus_order.specs.Script.{IsFirst, has_unused, is_word_for, told_by};
 
 use bus_msg::entry::Cause;
 use cert_sched::script::ScriptWord;
@@ -38,15 +36,29 @@ pub fn has_unused(words: &[ScriptWord], k: ClusterNo, cause: Cause) -> bool
     words.iter().any(|word| is_word_for(*word, k, cause))
 }
 
-/// The cluster that is lost when this word is looked at. Takes no memory.
-pub fn lost_by(places: &Placement, word: ScriptWord) -> Option<ClusterNo>
-    requires { is_built_word word ≡ true }
-    ensures { given_by places.now word ≡ option_map (λ k. ACrash k AtPlace) result }
+/// What a word does to a cluster when it is looked at.
+#[derive(Clone, Copy)]
+pub enum Turn {
+    Lost(ClusterNo),
+    Back(ClusterNo),
+}
+
+/// What this word does when it is looked at: None where it has no effect. Takes no memory.
+pub fn turn_by(places: &Placement, word: ScriptWord) -> Option<Turn>
+    ensures { given_by places.now word ≡ option_map told_by result }
 {
     match word {
-        ScriptWord::CrashAt { k, .. } => { if places.living(k) { Some(k) } else { None } }
-        _ => None,
+        ScriptWord::CrashAt { k, .. } => { if places.living(k) { Some(Turn::Lost(k)) } else { None } }
+        ScriptWord::ReturnAt { k, .. } => { if is_lost(places, k) { Some(Turn::Back(k)) } else { None } }
+        ScriptWord::CrashStep { .. } | ScriptWord::DiskAt { .. } => None,
     }
+}
+
+// Whether a cluster of the system does not live.
+fn is_lost(places: &Placement, k: ClusterNo) -> bool
+    ensures { result ≡ is_lost_in places.now k }
+{
+    k.0 < places.clusters() && !places.living(k)
 }
 
 // Where the first word stands whose place was reached.

@@ -39,14 +39,17 @@ use Rattle.cert_sched.proofs.DoneLaws.{AllRest, built_apart}
 -- ---- the clusters
 
 -- the number of clusters stays
-pub built_clusters-length : (system : System) (log : List Entry) → IsLegalBy MayStand system log → length (placement system log).clusters ≡ system.clusters
+pub clusters-length : (May : System → List Entry → Entry → Type 0) (system : System) (log : List Entry) → IsLegalBy May system log → length (placement system log).clusters ≡ system.clusters
 unfolding placement
-built_clusters-length system log legal =
-    legal_induction MayStand system (λ log. length (placement system log).clusters ≡ system.clusters)
+clusters-length May system log legal =
+    legal_induction May system (λ log. length (placement system log).clusters ≡ system.clusters)
     (length-map-range_with_len (boot_cluster (map placed_root (roots_of system))) 0 system.clusters)
     (λ log e same may.
     ap (λ (p : Places). length p.clusters) (placement-snoc system log e)
     ∙ clusters_stay (what e) (placement system log) ∙ same) log legal
+
+pub built_clusters-length : (system : System) (log : List Entry) → IsLegalBy MayStand system log → length (placement system log).clusters ≡ system.clusters
+built_clusters-length = clusters-length MayStand
 
 -- a cluster that lives is one of them
 pub lives_within : (places : Places) (k : ClusterNo) → lives_in places k ≡ true → k.0 < length places.clusters

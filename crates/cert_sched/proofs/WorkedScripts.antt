@@ -6,7 +6,7 @@ use Rattle.bus_msg.specs.declared.entry.What.TheVariants.{Crash, Return}
 use Rattle.bus_msg.specs.declared.entry.Cause.TheVariants.{Place, Step, Disk}
 use Rattle.bus_msg.specs.declared.entry.By.TheVariants.{Bus}
 use Rattle.bus_msg.specs.declared.entry.Entry.{Entry}
-use Rattle.bus_msg.specs.Places.{Places, lives_in}
+use Rattle.bus_msg.specs.Places.{Places, lives_in, is_lost_in}
 use Rattle.bus_msg.specs.PlacedAfter.{what}
 use Rattle.cert_sched.specs.declared.script.ScriptWord.{ScriptWord}
 use Rattle.cert_sched.specs.declared.script.ScriptWord.TheVariants.{CrashAt, CrashStep, DiskAt, ReturnAt}
@@ -87,9 +87,9 @@ no_word_gives_a_letter places (CrashAt k place) is = by_test (lives_in places k)
     by_test false is = cc
 no_word_gives_a_letter places (CrashStep k step) is = cc
 no_word_gives_a_letter places (DiskAt k call) is = cc
-no_word_gives_a_letter places (ReturnAt k place) is = by_test (lives_in places k) is
+no_word_gives_a_letter places (ReturnAt k place) is = by_test (is_lost_in places k) is
   where
-    by_test : (b : Bool) → cond b None (Some (Return k)) ≡ Some (what later_0) → ⊥
+    by_test : (b : Bool) → cond b (Some (Return k)) None ≡ Some (what later_0) → ⊥
     by_test true is = cc
     by_test false is = cc
 
@@ -104,6 +104,15 @@ word_passed_over (none_reached {log = l} {left = s} h e words passed) is =
     true≢false ((λ i. list_any (is_reached (length (sym one.before_is i))) (sym (still_left h one.before_is) i)) ∙ passed)
 
 -- ---- a return that comes first in the script and last in the log
+
+-- a cluster that lives does not return, nor one that the system lacks
+no_return_of_the_living : given_by (placement two_system []) (ReturnAt (cluster 0) 0) ≡ None
+unfolding placement
+no_return_of_the_living = refl
+
+no_return_from_outside : given_by (placement two_system []) (ReturnAt (cluster 9) 0) ≡ None
+unfolding placement
+no_return_from_outside = refl
 
 -- before the first entry none was looked at
 all_left : {log : List Entry} {left : List ScriptWord} → Looked two_system back_then_lost log left → log ≡ [] → left ≡ back_then_lost

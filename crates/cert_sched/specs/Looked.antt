@@ -7,7 +7,7 @@ use Rattle.bus_msg.specs.declared.entry.What.{What}
 use Rattle.bus_msg.specs.declared.entry.What.TheVariants.{Crash, Return, Stop}
 use Rattle.bus_msg.specs.declared.entry.Cause.TheVariants.{Place, Step, Disk}
 use Rattle.bus_msg.specs.declared.entry.Entry.{Entry}
-use Rattle.bus_msg.specs.Places.{Places, lives_in}
+use Rattle.bus_msg.specs.Places.{Places, lives_in, is_lost_in}
 use Rattle.bus_msg.specs.PlacedAfter.{what}
 use Rattle.cert_sched.specs.declared.script.ScriptWord.{ScriptWord}
 use Rattle.cert_sched.specs.declared.script.ScriptWord.TheVariants.{CrashAt, CrashStep, DiskAt, ReturnAt}
@@ -27,12 +27,12 @@ is_reached length (CrashStep k step) = false
 is_reached length (DiskAt k call) = false
 is_reached length (ReturnAt k place) = nat_le place length
 
--- what it gives: the crash of a cluster that lives, or the return of one that is lost; otherwise it has no effect
+-- what it gives: the crash of a cluster that lives, or the return of one that was lost and does not live; otherwise it has no effect
 abbrev pub given_by : Places → ScriptWord → Option What
 given_by places (CrashAt k place) = if lives_in places k then Some (Crash k Place) else None
 given_by places (CrashStep k step) = None
 given_by places (DiskAt k call) = None
-given_by places (ReturnAt k place) = if lives_in places k then None else Some (Return k)
+given_by places (ReturnAt k place) = if is_lost_in places k then Some (Return k) else None
 
 -- an entry that a word for a place gave
 abbrev pub is_given : What → Bool

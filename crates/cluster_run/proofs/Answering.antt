@@ -109,9 +109,9 @@ may_be_told b c m k n sound along told k_is n_is =
           let enough = less (least_steps b.log b.log c.number) c.steps c.tried ((follows.steps).counted (seen_lives b c along seen)) in
           record {
             rests = subst (λ s. IsRestOf s b.log c.number m.rests) same (told.rests told.empty b.log (subst (λ s. IsLegalBy MayStand s b.log) (sym same) sound.legal, ap (λ s. is_over s b.log) same ∙ goes_on) follows);
-            counted = subst (λ s. capped (least_steps b.log b.log c.number) ≤ s) (sym told.steps) enough;
+            counted = λ kept. subst (λ s. capped (least_steps b.log b.log c.number) ≤ s) (sym told.steps) enough;
             passed = ap (λ n. list_all (is_unpassed c.number b.log n) b.script) told.steps ∙ along.passed;
-            called = λ serves.
+            called = λ kept serves.
                 let calls = (follows.accounts).calls (seen_lives b c along seen) (ap (λ s. is_server s c.number) same ∙ serves) in
                 let shown = subst (λ ps. capped (least_calls c.system b.log (with_queue c.system b.log ps) c.number) ≤ disk_calls c) told.empty calls in
                 subst (λ s. capped (least_calls s b.log b.log c.number) ≤ m.calls) same (subst (λ n. capped (least_calls c.system b.log b.log c.number) ≤ n) (sym told.calls) shown);

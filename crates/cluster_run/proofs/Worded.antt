@@ -11,7 +11,7 @@ use Rattle.bus_msg.specs.declared.entry.Cause.TheVariants.{Place}
 use Rattle.bus_msg.specs.declared.entry.What.{What}
 use Rattle.bus_msg.specs.declared.entry.What.TheVariants.{Crash, Return}
 use Rattle.bus_msg.specs.declared.entry.Entry.{Entry}
-use Rattle.bus_msg.specs.Places.{Places, lives_in}
+use Rattle.bus_msg.specs.Places.{Places, lives_in, is_lost_in}
 use Rattle.cert_sched.specs.declared.script.ScriptWord.{ScriptWord}
 use Rattle.cert_sched.specs.declared.script.ScriptWord.TheVariants.{CrashAt, CrashStep, DiskAt, ReturnAt}
 use Rattle.cert_sched.specs.Appended.{entry_of}
@@ -64,11 +64,11 @@ no_author places (CrashAt k place) w is = by_test (lives_in places k) is
     by_test false is = cc
 no_author places (CrashStep k step) w is = cc
 no_author places (DiskAt k call) w is = cc
-no_author places (ReturnAt k place) w is = by_test (lives_in places k) is
+no_author places (ReturnAt k place) w is = by_test (is_lost_in places k) is
   where
-    by_test : (b : Bool) → cond b None (Some (Return k)) ≡ Some w → author Bus w ≡ None
-    by_test true is = cc
-    by_test false is = let same : Return k ≡ w = cc in ap (author Bus) (sym same)
+    by_test : (b : Bool) → cond b (Some (Return k)) None ≡ Some w → author Bus w ≡ None
+    by_test true is = let same : Return k ≡ w = cc in ap (author Bus) (sym same)
+    by_test false is = cc
 
 given_worded : (b : BusView) (o : Option What) → ((w : What) → o ≡ Some w → author Bus w ≡ None) → Worded b (with_given b o)
 given_worded b None none = worded_none b

@@ -6,7 +6,7 @@ use Rattle.bus_msg.specs.declared.entry.By.TheVariants.{Bus}
 use Rattle.bus_msg.specs.declared.entry.Cause.TheVariants.{Place}
 use Rattle.bus_msg.specs.declared.entry.What.{What}
 use Rattle.bus_msg.specs.declared.entry.What.TheVariants.{Crash, Return}
-use Rattle.bus_msg.specs.Places.{Places, lives_in}
+use Rattle.bus_msg.specs.Places.{Places, lives_in, is_lost_in}
 use Rattle.proc_state.specs.Mail.{without_first}
 use Rattle.cert_sched.specs.declared.script.ScriptWord.{ScriptWord}
 use Rattle.cert_sched.specs.declared.script.ScriptWord.TheVariants.{CrashAt, CrashStep, DiskAt, ReturnAt}
@@ -69,11 +69,11 @@ gives_open places (CrashAt k place) w is = by_test (lives_in places k) is
     by_test false is = cc
 gives_open places (CrashStep k step) w is = cc
 gives_open places (DiskAt k call) w is = cc
-gives_open places (ReturnAt k place) w is = by_test (lives_in places k) is
+gives_open places (ReturnAt k place) w is = by_test (is_lost_in places k) is
   where
-    by_test : (b : Bool) → cond b None (Some (Return k)) ≡ Some w → closes w ≡ false
-    by_test true is = cc
-    by_test false is = let same : Return k ≡ w = cc in ap closes (sym same)
+    by_test : (b : Bool) → cond b (Some (Return k)) None ≡ Some w → closes w ≡ false
+    by_test true is = let same : Return k ≡ w = cc in ap closes (sym same)
+    by_test false is = cc
 
 given_open : (b : BusView) (o : Option What) → ((w : What) → o ≡ Some w → closes w ≡ false) → is_closed b.log ≡ false → is_closed (with_given b o).log ≡ false
 given_open b None none is = is

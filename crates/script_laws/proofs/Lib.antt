@@ -5,5 +5,9 @@ pub mod CoveredLosses
 pub mod LosingAtStep
 pub mod LosingAtCall
 pub mod PassedWords
+pub mod OffSince
 pub mod OffLosses
 pub mod LookedOn
+pub mod WordLosses
+pub mod SpreadLosses
+pub mod ServersLeft

@@ -31,7 +31,7 @@ use Rattle.script_laws.specs.Added.{AddsLosses, is_bus_loss, is_its_word}
 -- ---- lists
 
 -- where one passes that is found, one passes
-found_any : {X : Type 0} (t u : X → Bool) (xs : List X) (x : X) → find t xs ≡ Some x → u x ≡ true → list_any u xs ≡ true
+pub found_any : {X : Type 0} (t u : X → Bool) (xs : List X) (x : X) → find t xs ≡ Some x → u x ≡ true → list_any u xs ≡ true
 found_any t u [] x found is = cc
 found_any t u (y ∷ xs) x found is = by_test (t y) found (found_any t u xs x)
   where
@@ -44,7 +44,7 @@ found_any t u (y ∷ xs) x found is = by_test (t y) found (found_any t u xs x)
     by_test false e more = or_right (u y) (list_any u xs) (more e is)
 
 -- what passes without one of them passes with it
-any-within : {X : Type 0} (t u : X → Bool) (xs : List X) → list_any u (without_first t xs) ≡ true → list_any u xs ≡ true
+pub any-within : {X : Type 0} (t u : X → Bool) (xs : List X) → list_any u (without_first t xs) ≡ true → list_any u xs ≡ true
 any-within t u [] some = some
 any-within t u (x ∷ xs) some = by_test (t x) (u x) some (any-within t u xs)
   where

@@ -2,44 +2,30 @@
 use Rattle.std.proofs.Common.{◌≡◌, ℕ, zero, suc, ◌+◌, ◌<◌, ◌≤◌, refl, sym, ◌∙◌, ap, subst, arith, List, [], ◌∷◌, ◌++◌, length, take, drop, slice_get, Bool, true, false, cond, not, ◌||◌, ◌⊎◌, inl, inr, eqb-true, Option, Some, None, unwrap_or, is_some, true≢false}
 use Rattle.std.specs.List.{list_any}
 use Rattle.std.proofs.Math.Seq.{take-append_seam}
-use Rattle.std.proofs.lemmas.Bool.{and_parts}
 use Rattle.std.proofs.lemmas.Option.{slice_get_within}
 use Rattle.std.proofs.lemmas.List.{take-append-le, take-append-drop, drop-append-le}
 use Rattle.std.proofs.lemmas.List.Folds.{list_any-append}
 use Rattle.t32_base.specs.declared.process.ClusterNo.{ClusterNo}
 use Rattle.sys_text.specs.declared.system.System.{System}
 use Rattle.bus_msg.specs.declared.entry.What.{What}
-use Rattle.bus_msg.specs.declared.entry.What.TheVariants.{PageIs, Crash, Return, Rebackup, Done, Stop}
-use Rattle.bus_msg.specs.declared.entry.By.{By}
-use Rattle.bus_msg.specs.declared.entry.By.TheVariants.{Cluster, Bus}
+use Rattle.bus_msg.specs.declared.entry.What.TheVariants.{Crash, Return}
 use Rattle.bus_msg.specs.declared.entry.Entry.{Entry}
-use Rattle.bus_msg.specs.Places.{Places, lives_in, never_lost}
+use Rattle.bus_msg.specs.Places.{lives_in}
 use Rattle.bus_msg.specs.PlacedAfter.{what}
 use Rattle.cert_sched.specs.Schedule.{placement}
-use Rattle.cert_sched.specs.Rules.{is_by_right}
 use Rattle.cert_sched.specs.Kinds.{KindHolds}
-use Rattle.cert_sched.specs.Losses.{is_by_cluster, is_crash_of, is_from, was_lost_in}
-use Rattle.cert_sched.specs.Legal.{IsLegalBy}
+use Rattle.cert_sched.specs.Losses.{is_by_cluster, is_crash_of, was_lost_in}
+use Rattle.cert_sched.specs.Legal.{IsLegalBy, IsLegalFrom, Stands}
 use Rattle.cert_sched.specs.Built.{MayStand, is_built}
 use Rattle.cert_sched.proofs.LogLaws.{IsLegal-snoc}
 use Rattle.cert_sched.proofs.Induction.{legal_induction}
-use Rattle.cert_sched.proofs.ServerLaws.{first_server, servers_live}
 use Rattle.bus_order.specs.Script.{off_at, place_of_loss, turns}
 use Rattle.bus_order.proofs.Keeping.{none_legal}
-use Rattle.bus_order.proofs.LogParts.{take_one}
 use Rattle.bus_order.proofs.OffLaws.{living_not_off, not_off_lives, off_at-snoc}
-use Rattle.script_laws.specs.Off.{IsItsLoss}
+use Rattle.script_laws.specs.Off.{IsItsLoss, comes_back, has_returned_in}
+use Rattle.script_laws.proofs.OffSince.{off_silent, off_where_lost, or_one, silent_since, slice_get_before, slice_get_end}
 
 -- ---- lists
-
-slice_get_before : {X : Type 0} (xs ys : List X) (i : ℕ) (x : X) → slice_get xs i ≡ Some x → slice_get (xs ++ ys) i ≡ Some x
-slice_get_before [] ys i x is = cc
-slice_get_before (y ∷ xs) ys zero x is = is
-slice_get_before (y ∷ xs) ys (suc i) x is = slice_get_before xs ys i x is
-
-slice_get_end : {X : Type 0} (xs : List X) (x : X) → slice_get (xs ++ x ∷ []) (length xs) ≡ Some x
-slice_get_end [] x = refl
-slice_get_end (y ∷ xs) x = slice_get_end xs x
 
 nothing_in : {X : Type 0} (xs : List X) → length xs ≤ 0 → xs ≡ []
 nothing_in [] short = refl
@@ -50,12 +36,18 @@ none_past xs zero short = nothing_in xs short
 none_past [] (suc n) short = refl
 none_past (x ∷ xs) (suc n) short = none_past xs n (omega (arith, short))
 
--- ---- one more entry
+-- ---- the entries of the kinds that are built
 
-or_one : (a b : Bool) → (a || (b || false)) ≡ (a || b)
-or_one true b = refl
-or_one false true = refl
-or_one false false = refl
+stands_from : (system : System) (log rest : List Entry) → IsLegalFrom MayStand system log rest → IsLegalFrom Stands system log rest
+stands_from system log [] legal = tt
+stands_from system log (e ∷ rest) legal = ((legal.0).stands, stands_from system (log ++ e ∷ []) rest legal.1)
+
+-- each of them stands
+pub built_stands : (system : System) (log : List Entry) → IsLegalBy MayStand system log → IsLegalBy Stands system log
+unfolding IsLegalBy
+built_stands system log legal = stands_from system [] log legal
+
+-- ---- one more entry
 
 lost-snoc : (log : List Entry) (e : Entry) (k : ClusterNo) → was_lost_in (log ++ e ∷ []) k ≡ (was_lost_in log k || is_crash_of k (what e))
 lost-snoc log e k = list_any-append (λ (e : Entry). is_crash_of k (what e)) log (e ∷ []) ∙ or_one (was_lost_in log k) (is_crash_of k (what e))
@@ -75,21 +67,20 @@ off_after log e k built =
     by_test true = refl
     by_test false = refl
 
+-- no entry of the kinds that are built brings a cluster back
+pub none_back : (system : System) (log : List Entry) (k : ClusterNo) → IsLegalBy MayStand system log → has_returned_in log k ≡ false
+none_back system log k legal =
+    legal_induction MayStand system (λ log. has_returned_in log k ≡ false) refl
+    (λ log e before may. list_any-append (λ (e : Entry). comes_back k (what e)) log (e ∷ []) ∙ or_one (has_returned_in log k) (comes_back k (what e)) ∙ (λ i. before i || stays_away (what e) may.built i)) log legal
+  where
+    stays_away : (w : What) → is_built w ≡ true → comes_back k w ≡ false
+    stays_away (Return j) built = absurd (true≢false (sym built))
+    stays_away _ built = refl
+
 -- ---- off exactly where it was lost
 
 pub lost_off : (system : System) (log : List Entry) (k : ClusterNo) → IsLegalBy MayStand system log → was_lost_in log k ≡ is_some (off_at log k)
-lost_off system log k legal =
-    legal_induction MayStand system (λ log. was_lost_in log k ≡ is_some (off_at log k)) refl
-    (λ log e before may.
-    lost-snoc log e k ∙ ap (λ b. b || is_crash_of k (what e)) before
-    ∙ by_test e.place (off_at log k) (is_crash_of k (what e))
-    ∙ sym (ap is_some (off_after log e k may.built))) log legal
-  where
-    by_test : (place : ℕ) (o : Option ℕ) (b : Bool) → (is_some o || b) ≡ is_some (cond b (Some place) o)
-    by_test place (Some n) true = refl
-    by_test place (Some n) false = refl
-    by_test place None true = refl
-    by_test place None false = refl
+lost_off system log k legal = sym (off_where_lost log k (none_back system log k legal))
 
 pub not_off_not_lost : (system : System) (log : List Entry) (k : ClusterNo) → IsLegalBy MayStand system log → off_at log k ≡ None → was_lost_in log k ≡ false
 not_off_not_lost system log k legal none = lost_off system log k legal ∙ ap is_some none
@@ -171,29 +162,9 @@ off_is_its_loss system log k at legal =
 
 -- ---- what a cluster sends
 
--- only a cluster that lives sends
-sends_living : (places : Places) (k : ClusterNo) → (never_lost places k ≡ true → lives_in places k ≡ true) → (w : What) → is_built w ≡ true → is_by_right places (Cluster k) w ≡ true → lives_in places k ≡ true
-sends_living places k serves (PageIs pid index bytes) built right = serves (first_server places k right)
-sends_living places k serves (Crash j cause) built right = absurd (true≢false (sym right))
-sends_living places k serves (Return j) built right = absurd (true≢false (sym built))
-sends_living places k serves (Rebackup to fresh recs) built right = absurd (true≢false (sym built))
-sends_living places k serves (Done rests) built right = absurd (true≢false (sym right))
-sends_living places k serves Stop built right = absurd (true≢false (sym right))
-sends_living places k serves _ built right = (and_parts (lives_in places k) _ right).0
-
-sender_lives : (places : Places) → ((k : ClusterNo) → never_lost places k ≡ true → lives_in places k ≡ true) → (by : By) (k : ClusterNo) (w : What) → is_built w ≡ true → is_by_right places by w ≡ true → is_from k by ≡ true → lives_in places k ≡ true
-sender_lives places serve (Cluster j) k w built right from = subst (λ c. lives_in places c ≡ true) (λ i. record { 0 = eqb-true j.0 k.0 from i }) (sends_living places j (serve j) w built right)
-sender_lives places serve Bus k w built right from = absurd (true≢false (sym from))
-
--- so one that was lost sends no further entry
+-- one that was lost sends no further entry
 lost_sends_not : (system : System) (log : List Entry) (e : Entry) (k : ClusterNo) → IsLegalBy MayStand system log → MayStand system log e → was_lost_in log k ≡ true → is_by_cluster k e ≡ false
-lost_sends_not system log e k legal may lost = by_test (is_by_cluster k e) refl
-  where
-    by_test : (b : Bool) → is_by_cluster k e ≡ b → is_by_cluster k e ≡ false
-    by_test true from =
-        let lives = sender_lives (placement system log) (λ k. servers_live system log k legal) (e.post).by k (what e) may.built (may.stands).by_right from in
-        absurd (true≢false (sym lost ∙ not_off_not_lost system log k legal (living_not_off system log k legal lives)))
-    by_test false other = other
+lost_sends_not system log e k legal may lost = off_silent system log e k (built_stands system log legal) may.stands (sym (lost_off system log k legal) ∙ lost)
 
 taken_lost : (log : List Entry) (n : ℕ) (k : ClusterNo) → was_lost_in (take n log) k ≡ true → was_lost_in log k ≡ true
 taken_lost log n k lost =
@@ -242,9 +213,4 @@ silent_once_lost system log k n legal =
 
 -- nor after the place since which it is off
 pub silent_once_off : (system : System) (log : List Entry) (k : ClusterNo) (at : ℕ) → IsLegalBy MayStand system log → off_at log k ≡ Some at → list_any (is_by_cluster k) (drop (at + 1) log) ≡ false
-silent_once_off system log k at legal off =
-    let loss = off_is_its_loss system log k at legal off in
-    let next : at + 1 ≡ suc at = omega arith in
-    silent_once_lost system log k (at + 1) legal
-    (ap (λ n. was_lost_in (take n log) k) next ∙ ap (λ l. was_lost_in l k) (take_one log at loss.entry loss.there)
-    ∙ lost-snoc (take at log) loss.entry k ∙ ap (λ b. b || is_crash_of k (what loss.entry)) loss.none_before ∙ loss.loses)
+silent_once_off system log k at legal off = silent_since system log k at (built_stands system log legal) off

@@ -1,3 +1,4 @@
 pub mod Crashes
 pub mod Off
 pub mod Added
+pub mod Servers
