@@ -1,16 +1,14 @@
 -- The return of a cluster that was lost may stand next, by a word for a place that was reached.
-use Rattle.std.proofs.Common.{◌≡◌, ℕ, zero, suc, ◌+◌, ◌<◌, refl, sym, ◌∙◌, ap, subst, arith, List, [], ◌∷◌, ◌++◌, length, Bool, cond, not, ◌&&◌, true, false, ltb, Option, Some, None, is_some, true≢false}
+use Rattle.std.proofs.Common.{◌≡◌, ℕ, zero, suc, ◌+◌, ◌<◌, refl, sym, ◌∙◌, ap, subst, arith, List, [], ◌∷◌, ◌++◌, length, Bool, cond, not, true, false, ltb, Option, Some, None, is_some, true≢false}
 use Rattle.std.specs.Prelude.{remove, slice_get}
 use Rattle.std.specs.List.{list_all}
 use Rattle.std.specs.Option.{option_map_or}
-use Rattle.std.proofs.lemmas.Option.{slice_get_past, slice_get_within}
+use Rattle.std.proofs.lemmas.Option.{slice_get_within}
 use Rattle.std.proofs.lemmas.Bool.Decides.{nat_tests}
 use Rattle.t32_base.specs.declared.process.ClusterNo.{ClusterNo}
 use Rattle.sys_text.specs.declared.system.System.{System}
-use Rattle.bus_msg.specs.declared.entry.What.{What}
 use Rattle.bus_msg.specs.declared.entry.What.TheVariants.{Crash, Return}
-use Rattle.bus_msg.specs.declared.entry.Cause.{Cause}
-use Rattle.bus_msg.specs.declared.entry.Cause.TheVariants.{Place, Step, Disk}
+use Rattle.bus_msg.specs.declared.entry.Cause.TheVariants.{Place}
 use Rattle.bus_msg.specs.declared.entry.Entry.{Entry}
 use Rattle.bus_msg.specs.Places.{ClusterPlace, Places, lives_in, is_lost_in}
 use Rattle.cert_sched.specs.declared.script.ScriptWord.{ScriptWord}

@@ -12,14 +12,10 @@ use Rattle.bus_msg.specs.declared.entry.What.TheVariants.{Birth, Crash, Return}
 use Rattle.bus_msg.specs.declared.entry.Entry.{Entry}
 use Rattle.bus_msg.specs.declared.placed.Placed.{Placed}
 use Rattle.bus_msg.specs.Places.{ClusterPlace, Places, boot_cluster, lives_in, never_lost, placed_at, servers_in}
-use Rattle.bus_msg.specs.PlacedAfter.{what, placed_after, changed_at, lost_cluster, raised_serial, returned_cluster, with_birth}
+use Rattle.bus_msg.specs.PlacedAfter.{what, placed_after, placement_after, changed_at, lost_cluster, raised_serial, returned_cluster, with_birth}
 use Rattle.cert_sched.specs.Parts.{first_of}
 use Rattle.cert_sched.specs.Schedule.{placement, placed_root}
 use Rattle.cert_sched.specs.Rules.{is_by}
-use Rattle.cert_sched.specs.Legal.{IsLegalBy}
-use Rattle.cert_sched.specs.Built.{MayStand}
-use Rattle.cert_sched.proofs.LogLaws.{placement-snoc}
-use Rattle.cert_sched.proofs.Induction.{legal_induction}
 use Rattle.cert_sched.proofs.FreshLaws.{kept_elsewhere, put_here}
 
 -- a cluster that was never lost lives
@@ -55,19 +51,22 @@ served_more places (Crash k cause) all = changed lost_cluster (λ c h. refl) pla
 served_more places (Return k) all = changed returned_cluster (λ c h. or_true c.was_lost) places.clusters k.0 all
 served_more places _ all = all
 
+served_after : (log : List Entry) (places : Places) → Served places.clusters → Served (placement_after places log).clusters
+served_after [] places all = all
+served_after (e ∷ log) places all = served_after log (placed_after places (what e)) (served_more places (what e) all)
+
 served_at_boot : (placed : List Placed) (numbers : List ℕ) → Served (map (boot_cluster placed) numbers)
 served_at_boot placed [] n = refl
 served_at_boot placed (m ∷ numbers) zero = refl
 served_at_boot placed (m ∷ numbers) (suc n) = served_at_boot placed numbers n
 
--- in a log, also one with returns, a cluster that was never lost lives
-pub servers_live_by : (May : System → List Entry → Entry → Type 0) (system : System) (log : List Entry) (k : ClusterNo) → IsLegalBy May system log → never_lost (placement system log) k ≡ true → lives_in (placement system log) k ≡ true
+-- in any log, a cluster that was never lost lives
+pub servers_live : (system : System) (log : List Entry) (k : ClusterNo) → never_lost (placement system log) k ≡ true → lives_in (placement system log) k ≡ true
 unfolding placement
-servers_live_by May system log k legal = lives (slice_get (placement system log).clusters k.0) (all k.0)
+servers_live system log k = lives (slice_get (placement system log).clusters k.0) (all k.0)
   where
     all : Served (placement system log).clusters
-    all = legal_induction May system (λ log. Served (placement system log).clusters) (served_at_boot (map placed_root (roots_of system)) _)
-        (λ log e before may. subst (λ (p : Places). Served p.clusters) (sym (placement-snoc system log e)) (served_more (placement system log) (what e) before)) log legal
+    all = served_after log (placement system []) (served_at_boot (map placed_root (roots_of system)) _)
 
     lives : (o : Option ClusterPlace) → serves o ≡ true → option_map_or (λ (c : ClusterPlace). not c.was_lost) o false ≡ true → option_map_or (λ (c : ClusterPlace). c.lives) o false ≡ true
     lives None h never = never
@@ -76,9 +75,6 @@ servers_live_by May system log k legal = lives (slice_get (placement system log)
         by_lost : (b : Bool) → c.was_lost ≡ b → c.lives ≡ true
         by_lost true is = absurd (true≢false (sym never ∙ ap not is))
         by_lost false is = sym (ap (λ b. b || c.lives) is) ∙ h
-
-pub servers_live : (system : System) (log : List Entry) (k : ClusterNo) → IsLegalBy MayStand system log → never_lost (placement system log) k ≡ true → lives_in (placement system log) k ≡ true
-servers_live = servers_live_by MayStand
 
 -- the first page server was never lost
 pub first_server : (places : Places) (k : ClusterNo) → is_by (Cluster k) (first_of (servers_in places)) ≡ true → never_lost places k ≡ true

@@ -1,5 +1,5 @@
 -- A cluster is off from its loss on: it is lost once at most, lives exactly where it was not lost, and sends nothing afterwards.
-use Rattle.std.proofs.Common.{◌≡◌, ℕ, zero, suc, ◌+◌, ◌<◌, ◌≤◌, refl, sym, ◌∙◌, ap, subst, arith, List, [], ◌∷◌, ◌++◌, length, take, drop, slice_get, Bool, true, false, cond, not, ◌||◌, ◌⊎◌, inl, inr, eqb-true, Option, Some, None, unwrap_or, is_some, true≢false}
+use Rattle.std.proofs.Common.{◌≡◌, ℕ, zero, suc, ◌+◌, ◌<◌, ◌≤◌, refl, sym, ◌∙◌, ap, subst, arith, List, [], ◌∷◌, ◌++◌, length, take, drop, Bool, true, false, cond, not, ◌||◌, ◌⊎◌, inl, inr, eqb-true, Option, Some, None, unwrap_or, is_some, true≢false}
 use Rattle.std.specs.List.{list_any}
 use Rattle.std.proofs.Math.Seq.{take-append_seam}
 use Rattle.std.proofs.lemmas.Option.{slice_get_within}

@@ -22,7 +22,7 @@ use Rattle.cert_sched.specs.Legal.{IsLegalBy, Stands}
 use Rattle.cert_sched.proofs.HomesLaws.{lives_within, clusters-length}
 use Rattle.cert_sched.proofs.LogLaws.{IsLegal-snoc}
 use Rattle.cert_sched.proofs.Induction.{legal_induction}
-use Rattle.cert_sched.proofs.ServerLaws.{first_server, servers_live_by}
+use Rattle.cert_sched.proofs.ServerLaws.{first_server, servers_live}
 use Rattle.bus_order.specs.Script.{off_at, place_of_loss, turns}
 use Rattle.bus_order.proofs.OffLaws.{lives_where_not_off, off_at-snoc}
 use Rattle.script_laws.specs.Off.{IsOffSince, comes_back, has_returned_in}
@@ -83,7 +83,7 @@ lives_unless_off = lives_where_not_off Stands (λ system log e stands. stands)
 
 -- so one that sends an entry is not off
 pub sender_on : (system : System) (log : List Entry) (e : Entry) (k : ClusterNo) → IsLegalBy Stands system log → Stands system log e → is_by_cluster k e ≡ true → off_at log k ≡ None
-sender_on system log e k legal stands from = lives_on system log k legal (sender_lives (placement system log) (λ k. servers_live_by Stands system log k legal) (e.post).by k (what e) stands.by_right from)
+sender_on system log e k legal stands from = lives_on system log k legal (sender_lives (placement system log) (λ k. servers_live system log k) (e.post).by k (what e) stands.by_right from)
 
 -- and one that is off sends none
 off_sends_not : (system : System) (log : List Entry) (e : Entry) (k : ClusterNo) (at : ℕ) → IsLegalBy Stands system log → Stands system log e → off_at log k ≡ Some at → is_by_cluster k e ≡ false

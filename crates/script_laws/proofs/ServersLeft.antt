@@ -1,5 +1,5 @@
 -- While a log goes on a page server is left, also behind many losses and returns: the first of them is a cluster of the system, and it lives.
-use Rattle.std.proofs.Common.{◌≡◌, ℕ, ◌<◌, refl, sym, ◌∙◌, ap, subst, arith, List, [], ◌∷◌, length, Bool, true, false, cond, not, ◌&&◌, ◌||◌, eqb, eqb-true, eq-eqb, Option, Some, None, true≢false}
+use Rattle.std.proofs.Common.{◌≡◌, ◌<◌, refl, sym, ◌∙◌, ap, subst, arith, List, [], ◌∷◌, length, Bool, true, false, cond, not, ◌&&◌, ◌||◌, eqb, eqb-true, eq-eqb, Option, Some, None, true≢false}
 use Rattle.std.specs.Prelude.{filter, slice_get, slice_set}
 use Rattle.std.specs.Option.{option_map_or}
 use Rattle.std.specs.List.{list_all, list_any}
@@ -27,7 +27,7 @@ use Rattle.cert_sched.proofs.FreshLaws.{kept_elsewhere, put_here}
 use Rattle.cert_sched.proofs.HomesLaws.{clusters-length}
 use Rattle.cert_sched.proofs.Induction.{is_over-snoc, legal_induction}
 use Rattle.cert_sched.proofs.LogLaws.{placement-snoc}
-use Rattle.cert_sched.proofs.ServerLaws.{first_server, servers_live_by}
+use Rattle.cert_sched.proofs.ServerLaws.{first_server, servers_live}
 use Rattle.bus_order.proofs.Keeping.{none_legal}
 use Rattle.script_laws.specs.Servers.{HasServer}
 use Rattle.script_laws.proofs.CoveredLosses.{crashless_covered}
@@ -159,6 +159,6 @@ server_left system log valid legal goes =
       server = k;
       first = first;
       within = omega (arith, there_within (placement system log) k never, clusters-length Stands system log legal);
-      lives = servers_live_by Stands system log k legal never;
+      lives = servers_live system log k never;
     })
     (log_served system log valid legal goes)

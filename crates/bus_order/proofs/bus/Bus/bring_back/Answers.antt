@@ -1,4 +1,4 @@
-use Rattle.std.proofs.Common.{◌≡◌, subst, sym, ap, ◌∙◌, arith, length, refl, Bool, ◌++◌, ◌∷◌, []}
+use Rattle.std.proofs.Common.{◌≡◌, subst, sym, ap, ◌∙◌, arith, length, ◌++◌, ◌∷◌, []}
 use Rattle.std.specs.Prelude.{remove}
 use Rattle.std.specs.Arc.{arc_value}
 use Rattle.std.specs.Vec.{with_items}
