@@ -1,5 +1,5 @@
 -- What a line says, by its first field and the fields after it: the rules 3 and 4.
-use Rattle.std.specs.Prelude.{ℕ, Bool, List, [], ◌∷◌, Option, Some, None, Result, Ok, Err, is_some, option_map, if◌then◌else◌}
+use Rattle.std.specs.Prelude.{ℕ, Bool, List, [], ◌∷◌, Option, Some, None, Result, Ok, Err, is_some, if◌then◌else◌}
 use Rattle.std.specs.List.{list_all, filter_map}
 use Rattle.text_parts.specs.Numbers.{number_of, word_of}
 use Rattle.t32_base.specs.declared.process.Mode.{Mode}
@@ -75,7 +75,9 @@ name_and_pages fields = Err FieldCount
 -- what three fields stand for, if all do
 abbrev pub all_of : {X Y Z : Type 0} → Option X → Option Y → Option Z → Option (X × Y × Z)
 all_of None second third = None
-all_of (Some x) second third = option_map (λ pair. (x, pair.0, pair.1)) (both_of second third)
+all_of (Some x) None third = None
+all_of (Some x) (Some y) None = None
+all_of (Some x) (Some y) (Some z) = Some (x, y, z)
 
 -- the address of the first instruction, where a text does not say it
 abbrev pub default_entry : ℕ
