@@ -1,12 +1,12 @@
 -- The words of a memory, without the zeros at their end.
-use Rattle.std.proofs.Common.{◌≡◌, ℕ, zero, suc, ◌+◌, ◌*◌, ◌<◌, ◌≤◌, Bool, true, false, eqb, List, [], ◌∷◌, ◌++◌, length, drop, get_or, refl, sym, ap, ◌∙◌, arith, append_assoc}
+use Rattle.std.proofs.Common.{◌≡◌, ℕ, zero, suc, ◌+◌, ◌-◌, ◌*◌, ◌<◌, ◌≤◌, Bool, true, false, eqb, List, [], ◌∷◌, ◌++◌, length, drop, get_or, refl, sym, ap, ◌∙◌, arith, append_assoc}
 use Rattle.std.specs.Prelude.{slice_index, slice_get, take, Some}
 use Rattle.std.proofs.lemmas.Bool.{eqb-true}
 use Rattle.std.proofs.lemmas.List.FromFn.{length-map-range_with_len}
 use Rattle.byteorder.specs.Endian.{little_number}
 use Rattle.rv_elf.specs.File.{headers}
 use Rattle.rv_elf.specs.Loaded.{byte_at, loaded}
-use Rattle.sys_text.specs.Files.{words_of_bytes, before_trimmed, trimmed}
+use Rattle.sys_text.specs.Files.{file_of, words_loaded, words_of_bytes, before_trimmed, trimmed}
 
 -- ---- how many
 
@@ -32,8 +32,12 @@ length-trimmed (word ∷ words) = omega (arith, length-before_trimmed word (trim
 pub length-loaded : (file : List ℕ) (pages : ℕ) → length (loaded file pages) ≡ 256 * pages
 length-loaded file pages = length-map-range_with_len (λ k. byte_at file (headers file) (0x10000 + k)) 0 (256 * pages)
 
-pub loaded_fits : (file : List ℕ) (pages : ℕ) → 4 * length (trimmed (words_of_bytes (loaded file pages))) ≤ 256 * pages
+loaded_fits : (file : List ℕ) (pages : ℕ) → 4 * length (trimmed (words_of_bytes (loaded file pages))) ≤ 256 * pages
 loaded_fits file pages = omega (arith, length-trimmed (words_of_bytes (loaded file pages)), length-words_of_bytes (loaded file pages), length-loaded file pages)
+
+pub words_fit : (size : ℕ) (words : List ℕ) (pages : ℕ) → 4 * length (words_loaded size words pages) ≤ 256 * pages
+unfolding words_loaded
+words_fit size words pages = loaded_fits (file_of size words) pages
 
 -- ---- each word by its place
 
@@ -55,17 +59,31 @@ words_by_place (word ∷ words) (a ∷ b ∷ c ∷ d ∷ rest) size each =
 -- ---- the last word
 
 -- a zero at the end is dropped
-pub drops_zero : (words : List ℕ) (i : ℕ) → suc i ≡ length words → slice_get words i ≡ Some 0 → trimmed words ≡ trimmed (take i words)
+pub drops_zero : (words : List ℕ) (i : ℕ) → suc i ≡ length words → get_or words i 0 ≡ 0 → trimmed words ≡ trimmed (take i words)
 drops_zero [] i size e = absurd (omega (arith, size))
-drops_zero (word ∷ []) zero size e = let same : word ≡ 0 = cc in rw same refl
+drops_zero (word ∷ []) zero size e = rw e refl
 drops_zero (word ∷ []) (suc i) size e = absurd (omega (arith, size))
 drops_zero (word ∷ next ∷ words) zero size e = absurd (omega (arith, size))
 drops_zero (word ∷ next ∷ words) (suc i) size e = ap (before_trimmed word) (drops_zero (next ∷ words) i (omega (arith, size)) e)
 
 -- where a word that is no zero stands at the end, no word is dropped
-pub keeps_some : (words : List ℕ) (i last : ℕ) → suc i ≡ length words → slice_get words i ≡ Some last → eqb last 0 ≡ false → trimmed words ≡ words
-keeps_some [] i last size e some = absurd (omega (arith, size))
-keeps_some (word ∷ []) zero last size e some = let same : word ≡ last = cc in rw (same, some) refl
-keeps_some (word ∷ []) (suc i) last size e some = absurd (omega (arith, size))
-keeps_some (word ∷ next ∷ words) zero last size e some = absurd (omega (arith, size))
-keeps_some (word ∷ next ∷ words) (suc i) last size e some = ap (before_trimmed word) (keeps_some (next ∷ words) i last (omega (arith, size)) e some)
+pub keeps_some : (words : List ℕ) (i : ℕ) → suc i ≡ length words → eqb (get_or words i 0) 0 ≡ false → trimmed words ≡ words
+keeps_some [] i size some = absurd (omega (arith, size))
+keeps_some (word ∷ []) zero size some = rw some refl
+keeps_some (word ∷ []) (suc i) size some = absurd (omega (arith, size))
+keeps_some (word ∷ next ∷ words) zero size some = absurd (omega (arith, size))
+keeps_some (word ∷ next ∷ words) (suc i) size some = ap (before_trimmed word) (keeps_some (next ∷ words) i (omega (arith, size)) some)
+
+-- the same of the last place
+pub last_dropped : (words : List ℕ) (count : ℕ) → count ≡ length words → 0 < count → eqb (get_or words (count - 1) 0) 0 ≡ true → trimmed (take (length words - 1) words) ≡ trimmed words
+last_dropped words count size some is_zero =
+    let place : suc (count - 1) ≡ length words = omega (arith, size, some) in
+    let same : length words - 1 ≡ count - 1 = omega (arith, size) in
+    ap (λ (n : ℕ). trimmed (take n words)) same ∙ sym (drops_zero words (count - 1) place (eqb-true (get_or words (count - 1) 0) 0 is_zero))
+
+pub last_kept : (words : List ℕ) (count : ℕ) → count ≡ length words → 0 < count → eqb (get_or words (count - 1) 0) 0 ≡ false → trimmed words ≡ words
+last_kept words count size some kept = keeps_some words (count - 1) (omega (arith, size, some)) kept
+
+pub none_kept : (words : List ℕ) → length words ≡ 0 → trimmed words ≡ words
+none_kept [] e = refl
+none_kept (word ∷ words) e = absurd (omega (arith, e))

@@ -31,7 +31,7 @@ use Rattle.sys_text.proofs.BlockLines.{end_printable, is_foreign, PrintsTo, prin
 
 rule_of : ℕ → Rule
 rule_of n =
-    cond (eqb n 1) ForeignByte (cond (eqb n 2) Misplaced (cond (eqb n 3) FieldCount (cond (eqb n 4) FieldKind (cond (eqb n 5) Limit (cond (eqb n 6) Same (cond (eqb n 7) Name (cond (eqb n 8) Room (cond (eqb n 9) Assembler (cond (eqb n 10) Ended 
+    cond (eqb n 1) ForeignByte (cond (eqb n 2) Misplaced (cond (eqb n 3) FieldCount (cond (eqb n 4) FieldKind (cond (eqb n 5) Limit (cond (eqb n 6) Same (cond (eqb n 7) Name (cond (eqb n 8) Room (cond (eqb n 9) Assembler (cond (eqb n 10) Ended
     (cond (eqb n 11) (Elf elf.NoElf) (cond (eqb n 12) (Elf elf.Class) (cond (eqb n 13) (Elf elf.Machine) (cond (eqb n 14) (Elf elf.Compressed) (cond (eqb n 15) (Elf elf.Table) (cond (eqb n 16) (Elf elf.Dynamic) (cond (eqb n 17) (Elf elf.FileBytes) (cond (eqb n 18) (Elf elf.Outside) (cond (eqb n 19) (Elf elf.Overlap) (Elf elf.Entry)))))))))))))))))))
 
 rule_of-number : (r : Rule) → rule_of (number_of_rule r) ≡ r
@@ -57,17 +57,17 @@ rule_of-number (Elf elf.Outside) = refl
 rule_of-number (Elf elf.Overlap) = refl
 rule_of-number (Elf elf.Entry) = refl
 
-one_or_more : (rule : ElfRule) → 1 ≤ number_of_elf_rule rule
-one_or_more elf.NoElf = omega arith
-one_or_more elf.Class = omega arith
-one_or_more elf.Machine = omega arith
-one_or_more elf.Compressed = omega arith
-one_or_more elf.Table = omega arith
-one_or_more elf.Dynamic = omega arith
-one_or_more elf.FileBytes = omega arith
-one_or_more elf.Outside = omega arith
-one_or_more elf.Overlap = omega arith
-one_or_more elf.Entry = omega arith
+elf_at_least_one : (rule : ElfRule) → 1 ≤ number_of_elf_rule rule
+elf_at_least_one elf.NoElf = omega arith
+elf_at_least_one elf.Class = omega arith
+elf_at_least_one elf.Machine = omega arith
+elf_at_least_one elf.Compressed = omega arith
+elf_at_least_one elf.Table = omega arith
+elf_at_least_one elf.Dynamic = omega arith
+elf_at_least_one elf.FileBytes = omega arith
+elf_at_least_one elf.Outside = omega arith
+elf_at_least_one elf.Overlap = omega arith
+elf_at_least_one elf.Entry = omega arith
 
 and_none : (a b : Bool) → b ≡ true → (a && not b) ≡ false
 and_none true b h = ap not h
@@ -257,12 +257,12 @@ lower_outside state n line after rule f Room lt = f.lowest Room (λ e. absurd (o
 lower_outside state n line after rule f Assembler lt = refl
 lower_outside state n line after (Elf rule) f Ended lt = and_none (ends_early (place_after (Outside state) n line) after) (refuses_file (Outside state) line) (any_of (λ r. breaks state line (Elf r)) rule f.passes)
 lower_outside state n line after rule f Ended lt = absurd (omega (arith, lt))
-lower_outside state n line after rule f (Elf lower) lt = f.lowest (Elf lower) (λ e. absurd (omega (arith, e, one_or_more lower)), λ e. absurd (omega (arith, e, one_or_more lower))) (omega arith) lt
+lower_outside state n line after rule f (Elf lower) lt = f.lowest (Elf lower) (λ e. absurd (omega (arith, e, elf_at_least_one lower)), λ e. absurd (omega (arith, e, elf_at_least_one lower))) (omega arith) lt
 
 keeps_outside : (state : State) (n : ℕ) (line : List ℕ) (after : List (List ℕ)) → broken_by state line ≡ None → Keeps (Outside state) n line after
 keeps_outside state n line after e =
     let none = λ (rule : Rule) (own : IsOwn rule). none_found (breaks state line) 1 rules rule own rules_from e (at_least_one rule) in
-    let file = λ (rule : ElfRule). none (Elf rule) (λ e. absurd (omega (arith, e, one_or_more rule)), λ e. absurd (omega (arith, e, one_or_more rule))) in
+    let file = λ (rule : ElfRule). none (Elf rule) (λ e. absurd (omega (arith, e, elf_at_least_one rule)), λ e. absurd (omega (arith, e, elf_at_least_one rule))) in
     record {
       foreign = none ForeignByte (λ e. absurd (omega (arith, e)), λ e. absurd (omega (arith, e)));
       fields = λ rule le. none rule (λ e. absurd (omega (arith, e, le)), λ e. absurd (omega (arith, e, le)));

@@ -1,5 +1,5 @@
 -- Lines that break no rule keep a system sound.
-use Rattle.std.proofs.Common.{◌≡◌, ℕ, ◌+◌, ◌*◌, ◌<◌, ◌≤◌, Bool, true, false, not, ◌&&◌, ◌||◌, eqb, nat_le, nat_lt, List, [], ◌∷◌, ◌++◌, length, Option, Some, None, refl, ap, ◌∙◌, arith, length-append}
+use Rattle.std.proofs.Common.{◌≡◌, ℕ, ◌+◌, ◌*◌, ◌<◌, ◌≤◌, Bool, true, false, not, ◌&&◌, ◌||◌, eqb, nat_le, nat_lt, List, [], ◌∷◌, ◌++◌, length, Option, Some, None, refl, sym, ap, ◌∙◌, arith, length-append}
 use Rattle.std.specs.List.{list_all}
 use Rattle.std.specs.Prelude.{is_none}
 use Rattle.std.specs.Option.{option_map}
@@ -10,14 +10,9 @@ use Rattle.sys_text.specs.declared.system.Image.{Image}
 use Rattle.sys_text.specs.declared.state.State.{State}
 use Rattle.sys_text.specs.Valid.{is_within, is_entry, is_name, is_chan}
 use Rattle.sys_text.specs.Line.{Line, default_entry}
-use Rattle.rv_elf.specs.declared.refusal.Rule.{Rule as ElfRule}
-use Rattle.rv_elf.specs.declared.refusal.Rule.TheVariants.{Entry}
-use Rattle.rv_elf.specs.File.{entry}
-use Rattle.rv_elf.specs.Loaded.{loaded}
-use Rattle.rv_elf.specs.Rules.{breaks}
-use Rattle.sys_text.specs.Files.{file_of, words_of_bytes, trimmed, image_of_file, described}
-use Rattle.sys_text.proofs.FileRules.{of_file, none_at_all, entry_is}
-use Rattle.sys_text.proofs.FileWords.{loaded_fits}
+use Rattle.sys_text.specs.Files.{words_loaded, image_of_file, described}
+use Rattle.sys_text.proofs.FileRules.{of_file, entry_kept}
+use Rattle.sys_text.proofs.FileWords.{words_fit}
 use Rattle.sys_text.specs.Line as lines
 use Rattle.sys_text.specs.Rules.{place_of, image_named, has_root, places_with, keeps_limits, root_of, with_root, limit_of, fit_limit, fit_open, takes_more, lowest_of_file, no_words, image_with, with_open, closed, closed_with, add_line, add}
 use Rattle.sys_text.proofs.Bounds.{first_of_two, second_of_two}
@@ -137,19 +132,16 @@ shape_with : (image : Image) (words : List ℕ) → is_headed image ≡ true →
 shape_with image words h few = both _ _ h (le-leb (4 * length words) (256 * image.pages) (omega (arith, few)))
 
 open_more : (images : List Image) (file : Option ℕ) (block : Option Image) (words : List ℕ) → not (takes_more file block (length words)) ≡ false → HasOpen images file block → HasOpen images file (option_map (λ image. image_with image (image.words ++ words)) block)
-open_more images file block words room h = record { image = image_with image (image.words ++ words); is_open = rw h.is_open refl; headed = h.headed; fits = fits_more; fresh = h.fresh }
+open_more images file block words room h = record { image = image_with h.image ((h.image).words ++ words); is_open = rw h.is_open refl; headed = h.headed; fits = fits_more h.image (room_of h.image h.is_open); fresh = h.fresh }
   where
-    image : Image
-    image = h.image
+    room_of : (image : Image) → block ≡ Some image → not (fit_limit (length image.words + length words) (limit_of file image.pages)) ≡ false
+    room_of image is = ap (λ (b : Option Image). not (takes_more file b (length words))) (sym is) ∙ room
 
-    free : not (fit_limit (length (h.image).words + length words) (limit_of file (h.image).pages)) ≡ false
-    free = rw h.is_open at room
-
-    fits_more : file ≡ None → nat_le (4 * length ((h.image).words ++ words)) (256 * (h.image).pages) ≡ true
-    fits_more none =
+    fits_more : (image : Image) → not (fit_limit (length image.words + length words) (limit_of file image.pages)) ≡ false → file ≡ None → nat_le (4 * length (image.words ++ words)) (256 * image.pages) ≡ true
+    fits_more image free none =
         let own = rw none at free in
-        let fit = le_of (length (h.image).words + length words) (64 * (h.image).pages) own in
-        le-leb (4 * length ((h.image).words ++ words)) (256 * (h.image).pages) (omega (arith, fit, length-append (h.image).words words))
+        let fit = le_of (length image.words + length words) (64 * image.pages) own in
+        le-leb (4 * length (image.words ++ words)) (256 * image.pages) (omega (arith, fit, length-append image.words words))
 
 sound_words : (state : State) (words : List ℕ) → not (takes_more state.file state.block (length words)) ≡ false → IsSound state → IsSound (add_line state (lines.Words words))
 sound_words state words room s = record {
@@ -194,28 +186,20 @@ sound_closed_with state words st fit s =
     let few = leb-true (length words) (64 * h.image.pages) (rw h.is_open at fit) in
     rw h.is_open (sound_closed state (image_with h.image words) st (shape_with h.image words h.headed few) h.fresh s)
 
--- the file of the block breaks no rule
-end_keeps : (state : State) (image : Image) (size : ℕ) (rule : ElfRule) → state.block ≡ Some image → state.file ≡ Some size → lowest_of_file state lines.End ≡ None → breaks (file_of size image.words) image.pages rule ≡ false
-end_keeps state image size rule is file none = none_at_all (breaks (file_of size image.words) image.pages) rule (of_file state image size is file none)
-
 sound_end : (state : State) → rank state.stage ≡ 5 → lowest_of_file state lines.End ≡ None → IsSound state → IsSound (add_line state lines.End)
 sound_end state st none s = by_file state.file refl
   where
-    h : HasOpen state.system.images state.file state.block
-    h = s.block st
-
     by_file : (o : Option ℕ) → state.file ≡ o → IsSound (closed state (option_map (described state.file) state.block))
     by_file None e =
-        let open = (s.block st).is_open in
-        rw (open, e) (sound_closed state (s.block st).image st (both _ _ (s.block st).headed ((s.block st).fits e)) (s.block st).fresh s)
+        let opened = (s.block st).is_open in
+        rw (opened, e) (sound_closed state (s.block st).image st (both _ _ (s.block st).headed ((s.block st).fits e)) (s.block st).fresh s)
     by_file (Some size) e =
-        let open = (s.block st).is_open in
+        let opened = (s.block st).is_open in
         let image = (s.block st).image in
-        let file = file_of size image.words in
-        let at : is_entry image.pages (entry file) ≡ true = entry_is (entry file) image.pages (end_keeps state image size Entry open e none) in
-        let headed : is_headed (image_of_file image file) ≡ true = both _ _ (first_of_two (is_name image.name && is_within 1 256 image.pages) _ (s.block st).headed) at in
-        let few = le-leb (4 * length (trimmed (words_of_bytes (loaded file image.pages)))) (256 * image.pages) (loaded_fits file image.pages) in
-        rw (open, e) (sound_closed state (image_of_file image file) st (both _ _ headed few) (s.block st).fresh s)
+        let at = entry_kept size image.words image.pages (of_file state image size opened e none) in
+        let headed : is_headed (image_of_file size image) ≡ true = both _ _ (first_of_two (is_name image.name && is_within 1 256 image.pages) _ (s.block st).headed) at in
+        let few = le-leb (4 * length (words_loaded size image.words image.pages)) (256 * image.pages) (words_fit size image.words image.pages) in
+        rw (opened, e) (sound_closed state (image_of_file size image) st (both _ _ headed few) (s.block st).fresh s)
 
 -- ---- roots
 

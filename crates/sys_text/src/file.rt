@@ -1,11 +1,7 @@
 //! From the words of a file to those of its image.
-ghost use Rattle.std.specs.Prelude.{◌≡◌, ◌≤◌, ◌+◌, ◌*◌, ◌/◌, IfOk, IfErr, None, length};
-ghost use Rattle.rv_elf.specs.File.{entry as entry_of};
+ghost use Rattle.std.specs.Prelude.{◌≡◌, ◌≤◌, ◌<◌, ◌+◌, ◌-◌, ◌*◌, ◌/◌, true, false, IfOk, IfErr, None, length, take};
 ghost use Rattle.rv_elf.specs.Answers.{Refuses};
-ghost use Rattle.rv_elf.specs.Loaded.{loaded as loaded_in};
-ghost use Rattle.rv_elf.specs.Rules.{broken};
-ghost use Rattle.sys_text.specs.Boot.{bytes_of_words};
-ghost use Rattle.sys_text.specs.Files.{file_of, trimmed, words_of_bytes};
+ghost use Rattle.sys_text.specs.Files.{broken_in, entry_loaded, file_of, trimmed, words_loaded, words_of_bytes};
 
 use byteorder::{ByteOrder, LittleEndian};
 use rv_elf::{ElfRefused, load_elf};
@@ -30,21 +26,39 @@ fn file_of(alloc: Global, words: &[u32], size: u32) -> Result<Vec<u8>, AllocErro
     Ok(bytes)
 }
 
+/// Reads words from bytes, lowest byte first.
+fn read_words(words: &mut [u32], bytes: &[u8])
+    requires { length bytes.now ≡ 4 * length words.old }
+    ensures { words.new ≡ words_of_bytes bytes.now }
+{
+    LittleEndian::read_u32_into(bytes, words);
+}
+
 /// The words of bytes, lowest byte first.
 fn words_of_bytes(alloc: Global, bytes: &[u8], count: usize) -> Result<Vec<u32>, AllocError>
     requires { length bytes.now ≡ 4 * count }
     ensures { IfOk result (λ words. words.items ≡ words_of_bytes bytes.now) }
 {
     let mut words = vec![in alloc; 0u32; count]?;
-    LittleEndian::read_u32_into(bytes, &mut words);
+    read_words(&mut words, bytes);
     Ok(words)
+}
+
+/// Is the last word a zero?
+fn ends_in_zero(words: &[u32]) -> bool
+    ensures some { result ≡ true → 0 < length words.now }
+    ensures dropped { result ≡ true → trimmed (take (length words.now - 1) words.now) ≡ trimmed words.now }
+    ensures kept { result ≡ false → trimmed words.now ≡ words.now }
+{
+    let count = words.len();
+    count > 0 && words[count - 1] == 0
 }
 
 /// Drops the zeros at the end.
 fn trim(words: &mut Vec<u32>)
     ensures { words.new.items ≡ trimmed words.old.items }
 {
-    while let Some(0) = words.last() {
+    while ends_in_zero(words) {
         words.pop();
     }
 }
@@ -60,17 +74,25 @@ pub fn load_words(
     requires size { length words.now ≡ (size + 3) / 4 }
     requires least { 1 ≤ pages }
     requires most { pages ≤ 256 }
-    ensures words { IfOk result (λ image. image.words ≡ trimmed (words_of_bytes (loaded_in (file_of size words.now) pages))) }
-    ensures entry { IfOk result (λ image. image.entry ≡ entry_of (file_of size words.now)) }
-    ensures kept { IfOk result (λ image. broken (file_of size words.now) pages ≡ None) }
-    ensures refused { IfErr result (λ refused. Refuses refused (broken (file_of size words.now) pages)) }
+    ensures words { IfOk result (λ image. image.words ≡ words_loaded size words.now pages) }
+    ensures entry { IfOk result (λ image. image.entry ≡ entry_loaded size words.now) }
+    ensures kept { IfOk result (λ image. broken_in size words.now pages ≡ None) }
+    ensures refused { IfErr result (λ refused. Refuses refused (broken_in size words.now pages)) }
 {
     let file = file_of(alloc, words, size)?;
-    let loaded = load_elf(alloc, &file, pages)?;
-    let mut words = words_of_bytes(alloc, loaded.bytes.as_slice(), 64 * usize::from(pages))?;
-    trim(&mut words);
-    Ok(FileImage {
-        words: List::from_vec(words),
-        entry: loaded.entry,
-    })
+    match load_elf(alloc, &file, pages) {
+        Err(refused) => Err(refused),
+        Ok(loaded) => {
+            let mut words = words_of_bytes(
+                alloc,
+                loaded.bytes.as_slice(),
+                64 * usize::from(pages),
+            )?;
+            trim(&mut words);
+            Ok(FileImage {
+                words: List::from_vec(words),
+                entry: loaded.entry,
+            })
+        }
+    }
 }

@@ -3,9 +3,8 @@ ghost use Rattle.std.specs.Prelude.{◌≡◌, ◌≤◌, ◌+◌, ◌/◌, ◌+
 ghost use Rattle.text_parts.specs.Lines.{fields_of};
 ghost use Rattle.sys_text.specs.Line.{words_in};
 ghost use Rattle.sys_text.specs.Rules.{image_with, limit_of, no_words};
-ghost use Rattle.sys_text.specs.Files.{file_of, image_of_file};
+ghost use Rattle.sys_text.specs.Files.{broken_in, image_of_file};
 ghost use Rattle.rv_elf.specs.Answers.{Refuses};
-ghost use Rattle.rv_elf.specs.Rules.{broken};
 ghost use Rattle.sys_text.specs.WordLines.{lowest_of_words, RefusesBy};
 
 use crate::file::load_words;
@@ -107,14 +106,18 @@ impl<'a> OpenBlock<'a> {
     /// rule the file breaks.
     pub fn load_file(&mut self, alloc: Global, size: u32) -> Result<(), ElfRefused>
         requires { length self.old.words ≡ (size + 3) / 4 }
-        ensures loaded { OnOk result (self.new ≡ image_of_file self.old (file_of size self.old.words)) }
-        ensures kept { OnOk result (broken (file_of size self.old.words) self.old.pages ≡ None) }
-        ensures refused { IfErr result (λ refused. Refuses refused (broken (file_of size self.old.words) self.old.pages)) }
+        ensures loaded { OnOk result (self.new ≡ image_of_file size self.old) }
+        ensures kept { OnOk result (broken_in size self.old.words self.old.pages ≡ None) }
+        ensures refused { IfErr result (λ refused. Refuses refused (broken_in size self.old.words self.old.pages)) }
     {
-        let loaded = load_words(alloc, self.words.as_slice(), size, self.pages)?;
-        self.words = loaded.words;
-        self.entry = loaded.entry;
-        Ok(())
+        match load_words(alloc, self.words.as_slice(), size, self.pages) {
+            Err(refused) => Err(refused),
+            Ok(loaded) => {
+                self.words = loaded.words;
+                self.entry = loaded.entry;
+                Ok(())
+            }
+        }
     }
 
     /// The image of the block that ends.
