@@ -169,10 +169,12 @@ fn file_header(text: &[u8]) -> Result<(&[u8], u64, u64), Rule>
     let (name, rest) = next_field(text)?;
     let (pages, rest) = next_field(rest)?;
     let (size, rest) = next_field(rest)?;
-    no_field(rest)?;
-    match name_with_numbers(name, pages, size) {
-        Some(header) => Ok(header),
-        None => Err(Rule::FieldKind),
+    match no_field(rest) {
+        Err(rule) => Err(rule),
+        Ok(()) => match name_with_numbers(name, pages, size) {
+            Some(header) => Ok(header),
+            None => Err(Rule::FieldKind),
+        },
     }
 }
 

@@ -80,10 +80,10 @@ fn take_fields<'a>(
         Err(rule) => Err(refused(number, rule)),
         Ok(read) => match broken_rule(reader, read) {
             Some(rule) => Err(refused(number, rule)),
-            None => {
-                add_line(alloc, reader, number, read)?;
-                Ok(opens_block(keyword))
-            }
+            None => match add_line(alloc, reader, number, read) {
+                Err(refused) => Err(refused),
+                Ok(()) => Ok(opens_block(keyword)),
+            },
         },
     }
 }
