@@ -24,7 +24,7 @@ use Rattle.sys_text.specs.Valid.{is_entry}
 use Rattle.sys_text.specs.Files.{file_of, words_of_bytes, trimmed, words_loaded, entry_loaded, breaks_in, broken_in}
 use Rattle.sys_text.specs.FileRefusals.{IsOfFile, RefusesFile}
 use Rattle.sys_text.specs.Line as lines
-use Rattle.sys_text.specs.Rules.{breaks_as, file_rules, lowest_of_file}
+use Rattle.sys_text.specs.Rules.{breaks_as, lowest_of_file}
 use Rattle.sys_text.specs.WordLines.{RefusesBy}
 
 -- ---- the ten rules

@@ -1,5 +1,5 @@
 -- A line that breaks no rule keeps what the rules keep.
-use Rattle.std.proofs.Common.{◌≡◌, ℕ, Bool, true, false, List, [], ◌∷◌, Option, Some, None, refl, ap}
+use Rattle.std.proofs.Common.{◌≡◌, ℕ, Bool, true, false, List, ◌∷◌, Option, Some, None, refl, ap}
 use Rattle.std.specs.List.{find}
 use Rattle.text_parts.specs.Lines.{fields_of}
 use Rattle.sys_text.specs.declared.stage.Keyword.{Keyword}

@@ -1,5 +1,5 @@
 -- The file of an `elf` block, and the image that it gives.
-use Rattle.std.specs.Prelude.{ℕ, ◌*◌, ◌==◌, Bool, false, List, [], ◌∷◌, take, Option, Some, None, if◌then◌else◌}
+use Rattle.std.specs.Prelude.{ℕ, ◌==◌, Bool, false, List, [], ◌∷◌, take, Option, Some, None, if◌then◌else◌}
 use Rattle.byteorder.specs.Endian.{little_number}
 use Rattle.rv_elf.specs.declared.refusal.Rule.{Rule as ElfRule}
 use Rattle.rv_elf.specs.File.{entry}

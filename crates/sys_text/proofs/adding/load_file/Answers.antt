@@ -1,5 +1,5 @@
-use Rattle.std.proofs.Common.{sym, ◌∙◌}
-use Rattle.sys_text.proofs.FileRules.{file_kept, numbered, refused_by}
+use Rattle.std.proofs.Common.{sym}
+use Rattle.sys_text.proofs.FileRules.{file_kept, refused_by}
 use Rattle.sys_text.proofs.adding.load_file.Goals as goal
 
 pub returns-in-Ok-clause-kept : goal.returns-in-Ok-clause-kept

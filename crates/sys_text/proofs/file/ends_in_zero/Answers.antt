@@ -1,4 +1,4 @@
-use Rattle.std.proofs.Common.{◌≡◌, ◌<◌, length, refl, arith}
+use Rattle.std.proofs.Common.{length, refl, arith}
 use Rattle.sys_text.proofs.FileWords.{last_dropped, last_kept}
 use Rattle.sys_text.proofs.file.ends_in_zero.Goals as goal
 

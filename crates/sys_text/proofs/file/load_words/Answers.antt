@@ -1,6 +1,6 @@
-use Rattle.std.proofs.Common.{◌≡◌, sym, ap, ◌∙◌, arith}
-use Rattle.sys_text.specs.Files.{file_of, words_of_bytes, trimmed}
-use Rattle.sys_text.proofs.FileRules.{loader_kept, loader_entry, loader_words, loader_size, loader_refused}
+use Rattle.std.proofs.Common.{◌≡◌, ap, ◌∙◌}
+use Rattle.sys_text.specs.Files.{words_of_bytes, trimmed}
+use Rattle.sys_text.proofs.FileRules.{loader_kept, loader_entry, loader_words, loader_refused}
 use Rattle.sys_text.proofs.file.load_words.Goals as goal
 
 pub returns-clause-words : goal.returns-clause-words
