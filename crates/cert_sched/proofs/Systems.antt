@@ -12,7 +12,7 @@ cluster n = record { 0 = n }
 
 -- one page with a program at its front
 abbrev pub image : List ℕ → Image
-image words = record { name = []; pages = 1; words = words }
+image words = record { name = []; pages = 1; entry = 65536; words = words }
 
 -- home, backup, mode and limit; no births, terminal 0
 abbrev pub root : ℕ → ℕ → Mode → ℕ → Root

@@ -46,7 +46,7 @@ abbrev pub writes : ℕ → List ℕ → What
 writes at bytes = Mail at (record { from = pid 16; out = 0; to = Tty 0; body = Said bytes })
 
 abbrev pub no_process : ProcState
-no_process = root_state (pid 0) 1 [] 0 0 0
+no_process = root_state (pid 0) 65536 1 [] 0 0 0
 
 -- process 16 after silent steps up to a step count
 abbrev pub process_upto : System → List Entry → ℕ → ProcState

@@ -52,5 +52,5 @@ abbrev pid : Pid
 pid = record { 0 = 16 }
 
 -- a root at its start with ten instructions: these, its 32 ends and two changes of status
-one_root : kernel_load (record { processes = (pid, root_state pid 1 [] 10 0 0) ∷ []; ttys = [] }) ≡ 44
+one_root : kernel_load (record { processes = (pid, root_state pid 65536 1 [] 10 0 0) ∷ []; ttys = [] }) ≡ 44
 one_root = refl

@@ -21,7 +21,7 @@ abbrev reader_image : List ℕ
 reader_image = 147 ∷ 8 ∷ 48 ∷ 0 ∷ 19 ∷ 5 ∷ 16 ∷ 0 ∷ 183 ∷ 5 ∷ 1 ∷ 0 ∷ 147 ∷ 133 ∷ 69 ∷ 3 ∷ 19 ∷ 6 ∷ 32 ∷ 0 ∷ 115 ∷ 0 ∷ 0 ∷ 0 ∷ []
 
 abbrev reader : Kernel
-reader = record { processes = (record { 0 = 16 }, linked_to (root_state (record { 0 = 16 }) 1 reader_image 1000 0 0) (record { 0 = 17 }) 1) ∷ []; ttys = [] }
+reader = record { processes = (record { 0 = 16 }, linked_to (root_state (record { 0 = 16 }) 65536 1 reader_image 1000 0 0) (record { 0 = 17 }) 1) ∷ []; ttys = [] }
 
 stops_at_its_read : Applies (Run (record { 0 = 16 }) 9) (Err (Disabled 5)) reader (unwrap_or (steps 5 (record { 0 = 16 }) reader) reader)
 unfolding one_step steps
@@ -33,7 +33,7 @@ abbrev signal_9 : Arrived
 signal_9 = record { number = 0; letter = record { from = record { 0 = 17 }; out = 0; to = Proc (record { 0 = 16 }) 0; body = Signal 9 } }
 
 abbrev waited_for : ProcState
-waited_for = record (root_state (record { 0 = 16 }) 1 reader_image 1000 0 0) { mail = signal_9 ∷ []; next = 1 }
+waited_for = record (root_state (record { 0 = 16 }) 65536 1 reader_image 1000 0 0) { mail = signal_9 ∷ []; next = 1 }
 
 abbrev one_process : ProcState → Kernel
 one_process s = record { processes = (record { 0 = 16 }, s) ∷ []; ttys = [] }

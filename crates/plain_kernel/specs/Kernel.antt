@@ -39,13 +39,13 @@ tty_at k t = find nat_cmp t k.ttys
 -- ---- boot
 
 abbrev pub no_image : Image
-no_image = record { name = []; pages = 1; words = [] }
+no_image = record { name = []; pages = 1; entry = 0x10000; words = [] }
 
 -- a root at its start; a valid system has its image
 abbrev pub root_process : System → Pid → Root → ProcState
 root_process system p r =
     let image = unwrap_or (slice_get system.images r.image) no_image in
-    root_state p image.pages (bytes_of_words image.words) r.limit r.births r.tty
+    root_state p image.entry image.pages (bytes_of_words image.words) r.limit r.births r.tty
 
 abbrev pub with_root : System → Kernel → Pid × Root → Kernel
 with_root system k r = record {

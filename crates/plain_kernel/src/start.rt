@@ -45,7 +45,14 @@ impl<'a> Start<'a> {
     {
         let image = image_of(system, root);
         Start {
-            small: first_small(pid, image.pages, root.limit, root.births, root.tty),
+            small: first_small(
+                pid,
+                image.entry,
+                image.pages,
+                root.limit,
+                root.births,
+                root.tty,
+            ),
             image,
         }
     }

@@ -65,14 +65,14 @@ pub record IsFresh (p : Process) : Type 0 where
   pub synced : p.since ≡ 0
   pub clean : (p.ram).dirty ≡ replicate (p.small).pages false
 
--- all 0 but x2, which is the address after the memory; the next instruction is the memory's first
-abbrev pub first_registers : ℕ → Registers
-first_registers pages = record { x = slice_set (replicate 32 0) 2 (0x10000 + 256 * pages); pc = 0x10000 }
+-- all 0 but x2, which is the address after the memory; the next instruction is the one at the entry
+abbrev pub first_registers : (entry pages : ℕ) → Registers
+first_registers entry pages = record { x = slice_set (replicate 32 0) 2 (0x10000 + 256 * pages); pc = entry }
 
-abbrev pub root_small : Pid → ℕ → ℕ → ℕ → ℕ → SmallState
-root_small pid pages limit births tty = record {
+abbrev pub root_small : Pid → (entry pages limit births tty : ℕ) → SmallState
+root_small pid entry pages limit births tty = record {
   pid = pid;
-  regs = first_registers pages;
+  regs = first_registers entry pages;
   ends = slice_set (replicate 32 Never) 0 (Tty tty);
   handler = 0;
   frame = None;
@@ -92,5 +92,5 @@ started small image = record {
   next = 0;
 }
 
-abbrev pub root_state : Pid → ℕ → List ℕ → ℕ → ℕ → ℕ → ProcState
-root_state pid pages image limit births tty = started (root_small pid pages limit births tty) image
+abbrev pub root_state : Pid → (entry pages : ℕ) → List ℕ → (limit births tty : ℕ) → ProcState
+root_state pid entry pages image limit births tty = started (root_small pid entry pages limit births tty) image

@@ -25,12 +25,13 @@ impl Process {
     ghost use Rattle.proc_state.specs.Ends.{free_end};
     ghost use Rattle.proc_state.specs.State.{state_of, root_state, started, delivered, linked_to, IsFresh, SameRest};
 
-    /// A root at its start. Its memory has `pages` pages of 256 bytes and begins with the image, which
-    /// fits it; the rest is zero, and no page is dirty. It may execute `limit` instructions and fork
-    /// `births` times, and its end 0 is the terminal `tty`.
+    /// A root at its start. Its first instruction is the one at the address `entry`. Its memory has `pages` pages of
+    /// 256 bytes and begins with the image, which fits it; the rest is zero, and no page is dirty. It may execute `limit`
+    /// instructions and fork `births` times, and its end 0 is the terminal `tty`.
     pub fn root(
         alloc: Global,
         pid: Pid,
+        entry: u32,
         pages: u16,
         image: &[u8],
         limit: u32,
@@ -40,10 +41,14 @@ impl Process {
         requires low { 1 ≤ pages }
         requires high { pages ≤ 256 }
         requires fits { length image.now ≤ 256 * pages }
-        ensures state { IfOk result (λ p. state_of p ≡ root_state pid pages image.now limit births tty) }
+        ensures state { IfOk result (λ p. state_of p ≡ root_state pid entry pages image.now limit births tty) }
         ensures fresh { IfOk result IsFresh }
     {
-        Process::starting(alloc, first_small(pid, pages, limit, births, tty), image)
+        Process::starting(
+            alloc,
+            first_small(pid, entry, pages, limit, births, tty),
+            image,
+        )
     }
 
     /// A process at its start, in a state that has made no step. Its memory has the pages of that state and begins with
@@ -115,11 +120,11 @@ impl Process {
 
 ghost use Rattle.proc_state.specs.State.{root_small};
 
-/// The state of a root at its start. It may execute `limit` instructions and fork `births` times, and its end 0 is the
-/// terminal `tty`. Takes no memory.
-pub fn first_small(pid: Pid, pages: u16, limit: u32, births: u8, tty: u8) -> Small
+/// The state of a root at its start. Its first instruction is the one at the address `entry`. It may execute `limit`
+/// instructions and fork `births` times, and its end 0 is the terminal `tty`. Takes no memory.
+pub fn first_small(pid: Pid, entry: u32, pages: u16, limit: u32, births: u8, tty: u8) -> Small
     requires { pages ≤ 256 }
-    ensures { result ≡ root_small pid pages limit births tty }
+    ensures { result ≡ root_small pid entry pages limit births tty }
 {
     let mut x = [0u32; 32];
     x[2] = BASE + 256 * u32::from(pages);
@@ -127,7 +132,7 @@ pub fn first_small(pid: Pid, pages: u16, limit: u32, births: u8, tty: u8) -> Sma
     ends[0] = EndState::Tty(tty);
     Small {
         pid,
-        regs: Regs { x, pc: BASE },
+        regs: Regs { x, pc: entry },
         ends,
         handler: 0,
         frame: None,

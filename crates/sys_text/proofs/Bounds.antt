@@ -8,7 +8,7 @@ use Rattle.std.proofs.lemmas.List.FromFn.{length-range_with_len, get_or-range_wi
 use Rattle.sys_text.specs.declared.system.System.{System}
 use Rattle.sys_text.specs.declared.system.Image.{Image}
 use Rattle.sys_text.specs.declared.system.Root.{Root}
-use Rattle.sys_text.specs.Valid.{is_header, is_name, is_word, is_image, are_images, is_root, births_of, are_roots, is_chan, links, are_chans, is_system}
+use Rattle.sys_text.specs.Valid.{is_header, is_name, is_within, is_entry, is_word, is_image, are_images, is_root, births_of, are_roots, is_chan, links, are_chans, is_system}
 
 -- both tests of a pair
 pub first_of_two : (a b : Bool) → (a && b) ≡ true → a ≡ true
@@ -40,11 +40,12 @@ pub record SystemBounds (s : System) : Type 0 where
   pub roots : length s.roots ≤ 32
   pub births : length s.roots + births_of s.roots ≤ 32
 
--- an image: its name, its pages and its words
+-- an image: its name, its pages, its entry and its words
 pub record ImageBounds (image : Image) : Type 0 where
   pub name : is_name image.name ≡ true
   pub least : 1 ≤ image.pages
   pub pages : image.pages ≤ 256
+  pub entry : is_entry image.pages image.entry ≡ true
   pub fits : 4 * length image.words ≤ 256 * image.pages
   pub words : list_all is_word image.words ≡ true
 
@@ -162,7 +163,8 @@ system_bounds s h =
 
 pub image_fits : (image : Image) → is_image image ≡ true → ImageBounds image
 image_fits image h = record {
-  name = first_of_two _ _ (first_of_two _ _ (first_of_two _ (list_all is_word image.words) h));
+  name = first_of_two _ _ (first_of_two _ _ (first_of_two _ _ (first_of_two _ (list_all is_word image.words) h)));
+  entry = second_of_two (is_name image.name && is_within 1 256 image.pages) (is_entry image.pages image.entry) (first_of_two _ _ (first_of_two _ (list_all is_word image.words) h));
   least = grind (arith, nat_tests);
   pages = grind (arith, nat_tests);
   fits = grind (arith, nat_tests);

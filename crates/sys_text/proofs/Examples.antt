@@ -16,7 +16,7 @@ abbrev cluster : ℕ → ClusterNo
 cluster n = record { 0 = n }
 
 abbrev image : List ℕ → ℕ → List ℕ → Image
-image name pages words = record { name = name; pages = pages; words = words }
+image name pages words = record { name = name; pages = pages; entry = 65536; words = words }
 
 abbrev root : ℕ → ℕ → ℕ → ℕ → ℕ → ℕ → Root
 root home backup number limit births tty = record {

@@ -40,7 +40,7 @@ not_equal a b h = by_test (eqb a b) h
 -- ---- the lines
 
 keeps_clusters : (state : State) (f : List ℕ) (n : ℕ) → number_of f ≡ Some n → is_within 2 16 n ≡ true → Keeps state keywords.Clusters (f ∷ [])
-keeps_clusters state f n e w = record { line = lines.Clusters n; read = rw e refl; rules = record { limits = rw w refl; same = refl; name = refl; room = refl } }
+keeps_clusters state f n e w = record { line = lines.Clusters n; read = rw e refl; rules = record { limits = rw w refl; same = refl; name = refl; room = refl }; file = refl }
 
 keeps_pager : (state : State) (f g : List ℕ) (a b : ClusterNo) → number_of f ≡ Some a.0 → number_of g ≡ Some b.0 → is_pair state.system.clusters a b ≡ true → Keeps state keywords.Pager (f ∷ g ∷ [])
 keeps_pager state f g a b e1 e2 pair =
@@ -48,13 +48,13 @@ keeps_pager state f g a b e1 e2 pair =
     let first = first_of_two (nat_lt a.0 state.system.clusters) _ below in
     let second = second_of_two (nat_lt a.0 state.system.clusters) _ below in
     let apart = not_equal a.0 b.0 (second_of_two (nat_lt a.0 state.system.clusters && nat_lt b.0 state.system.clusters) _ pair) in
-    record { line = lines.Pager a.0 b.0; read = rw (e1, e2) refl; rules = record { limits = rw (first, second) refl; same = apart; name = refl; room = refl } }
+    record { line = lines.Pager a.0 b.0; read = rw (e1, e2) refl; rules = record { limits = rw (first, second) refl; same = apart; name = refl; room = refl }; file = refl }
 
 keeps_syncreads : (state : State) (f : List ℕ) (n : ℕ) → number_of f ≡ Some n → is_within 1 1000 n ≡ true → Keeps state keywords.Syncreads (f ∷ [])
-keeps_syncreads state f n e w = record { line = lines.Syncreads n; read = rw e refl; rules = record { limits = rw w refl; same = refl; name = refl; room = refl } }
+keeps_syncreads state f n e w = record { line = lines.Syncreads n; read = rw e refl; rules = record { limits = rw w refl; same = refl; name = refl; room = refl }; file = refl }
 
 keeps_syncsteps : (state : State) (f : List ℕ) (n : ℕ) → number_of f ≡ Some n → is_within 64 100000 n ≡ true → Keeps state keywords.Syncsteps (f ∷ [])
-keeps_syncsteps state f n e w = record { line = lines.Syncsteps n; read = rw e refl; rules = record { limits = rw w refl; same = refl; name = refl; room = refl } }
+keeps_syncsteps state f n e w = record { line = lines.Syncsteps n; read = rw e refl; rules = record { limits = rw w refl; same = refl; name = refl; room = refl }; file = refl }
 
 -- ---- the states
 
@@ -64,6 +64,7 @@ numbers stage clusters pager reads steps = record {
   stage = stage;
   system = record { clusters = clusters; pager = pager; syncreads = reads; syncsteps = steps; images = []; roots = []; chans = [] };
   block = None;
+  file = None;
 }
 
 abbrev no_pager : ClusterNo × ClusterNo
@@ -82,7 +83,7 @@ with_lists s images roots chans = record {
 }
 
 abbrev pub at_images : System → List Image → State
-at_images s done = record { stage = Images; system = with_lists s done [] []; block = None }
+at_images s done = record { stage = Images; system = with_lists s done [] []; block = None; file = None }
 
 adds_clusters : (f : List ℕ) (n : ℕ) → number_of f ≡ Some n → add nothing_yet keywords.Clusters (f ∷ []) ≡ numbers AfterClusters n no_pager 0 0
 adds_clusters f n e = rw e refl

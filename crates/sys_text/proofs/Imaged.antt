@@ -1,10 +1,10 @@
 -- The image blocks that are printed are read.
-use Rattle.std.proofs.Common.{◌≡◌, ℕ, zero, suc, ◌+◌, ◌*◌, ◌<◌, ◌≤◌, ◌^◌, Bool, true, false, not, ◌&&◌, cond, List, [], ◌∷◌, ◌++◌, length, map, take, drop, Some, None, Ok, refl, sym, ap, ◌∙◌, arith, append_assoc, append-nil, length-append, length-drop}
+use Rattle.std.proofs.Common.{◌≡◌, ℕ, zero, suc, ◌+◌, ◌*◌, ◌%◌, ◌<◌, ◌≤◌, ◌^◌, Bool, true, false, not, ◌&&◌, cond, eqb, leb, List, [], ◌∷◌, ◌++◌, length, map, take, drop, Some, None, Ok, refl, sym, ap, ◌∙◌, arith, append_assoc, append-nil, length-append, length-drop, subst}
 use Rattle.std.specs.List.{flat_map, list_all}
 use Rattle.std.specs.Prelude.{codes, count_by, is_some}
 use Rattle.std.specs.Fmt.{decimal}
 use Rattle.std.specs.Str.{bytes_eq}
-use Rattle.std.proofs.lemmas.Bool.{le-leb, eqb-true}
+use Rattle.std.proofs.lemmas.Bool.{and_parts, le-leb, leb-true, eqb-true}
 use Rattle.std.proofs.lemmas.Bool.Decides.{nat_tests}
 use Rattle.std.proofs.lemmas.List.{take-append-drop, length-map}
 use Rattle.std.proofs.lemmas.List.Folds.{list_all-append}
@@ -16,27 +16,57 @@ use Rattle.sys_text.specs.declared.stage.Stage.TheVariants.{InImage}
 use Rattle.sys_text.specs.declared.system.System.{System}
 use Rattle.sys_text.specs.declared.system.Image.{Image}
 use Rattle.sys_text.specs.declared.state.State.{State}
-use Rattle.sys_text.specs.Valid.{is_within, is_name, is_word, is_image, is_named_once, are_images}
-use Rattle.sys_text.specs.Line.{words_in, is_word_field, line_of}
+use Rattle.sys_text.specs.Valid.{is_within, is_entry, is_name, is_word, is_image, is_named_once, are_images}
+use Rattle.sys_text.specs.Line.{words_in, is_word_field, default_entry, as_line, image_header, line_of}
 use Rattle.sys_text.specs.Line as lines
-use Rattle.sys_text.specs.Rules.{place_of, takes_more, add}
-use Rattle.sys_text.specs.Text.{word_text, words_line, words_lines, words_lines_upto, image_lines}
+use Rattle.sys_text.specs.Rules.{place_of, takes_more, image_with, add}
+use Rattle.sys_text.specs.Text.{word_text, words_line, words_lines, words_lines_upto, entry_fields, image_lines}
 use Rattle.sys_text.proofs.Bounds.{first_of_two, second_of_two, image_fits}
 use Rattle.sys_text.proofs.Keeping.{Keeps}
-use Rattle.sys_text.proofs.Printed.{both, are_plain, plain_name, plain_word, word_again}
+use Rattle.sys_text.proofs.Printed.{both, is_plain, are_plain, plain_name, plain_word, word_again}
 use Rattle.sys_text.proofs.Headed.{with_lists, at_images, number_again, plain_number}
 use Rattle.sys_text.proofs.Leading.{Leads, leads_none, leads_then, leads_one}
 
 -- ---- the first line of a block
 
-abbrev in_image : System → List Image → List ℕ → ℕ → List ℕ → State
-in_image s done name pages words = record { stage = InImage; system = with_lists s done [] []; block = Some (record { name = name; pages = pages; words = words }) }
+-- an image but for its words
+abbrev in_image : System → List Image → Image → List ℕ → State
+in_image s done image words = record { stage = InImage; system = with_lists s done [] []; block = Some (image_with image words); file = None }
 
-keeps_image : (state : State) (name f : List ℕ) (pages : ℕ) → is_name name ≡ true → number_of f ≡ Some pages → is_within 1 256 pages ≡ true → place_of state.system.images name ≡ None → Keeps state keywords.Image (name ∷ f ∷ [])
-keeps_image state name f pages h e w none = record { line = lines.Image name pages; read = rw (h, e) refl; rules = record { limits = rw w refl; same = refl; name = rw none refl; room = refl } }
+-- the two fields, or three, say the pages and the entry
+record SaysNumbers (fields : List (List ℕ)) (pages entry : ℕ) : Type 0 where
+  plain : are_plain fields ≡ true
+  read : (name : List ℕ) → is_name name ≡ true → image_header (name ∷ fields) ≡ Ok (name, pages, entry)
 
-adds_image : (s : System) (done : List Image) (name f : List ℕ) (pages : ℕ) → is_name name ≡ true → number_of f ≡ Some pages → add (at_images s done) keywords.Image (name ∷ f ∷ []) ≡ in_image s done name pages []
-adds_image s done name f pages h e = rw (h, e) refl
+says_pages : (f : List ℕ) (pages : ℕ) → is_plain f ≡ true → number_of f ≡ Some pages → SaysNumbers (f ∷ []) pages default_entry
+says_pages f pages plain e = record { plain = both _ _ plain refl; read = λ name h. rw (h, e) refl }
+
+says_entry : (f g : List ℕ) (pages entry : ℕ) → is_plain f ≡ true → is_plain g ≡ true → number_of f ≡ Some pages → number_of g ≡ Some entry → SaysNumbers (f ∷ g ∷ []) pages entry
+says_entry f g pages entry plain_f plain_g e1 e2 = record { plain = both _ _ plain_f (both _ _ plain_g refl); read = λ name h. rw (h, e1, e2) refl }
+
+says_numbers : (pages entry : ℕ) → pages < 2 ^ 32 → entry < 2 ^ 32 → SaysNumbers (decimal pages ∷ entry_fields entry) pages entry
+says_numbers pages entry few low = by_default (eqb entry default_entry) refl
+  where
+    by_default : (b : Bool) → eqb entry default_entry ≡ b → SaysNumbers (decimal pages ∷ entry_fields entry) pages entry
+    by_default true e =
+        let same : entry ≡ default_entry = eqb-true entry default_entry e in
+        subst (λ (n : ℕ). SaysNumbers (decimal pages ∷ entry_fields n) pages n) (sym same) (says_pages (decimal pages) pages (plain_number pages few) (number_again pages few))
+    by_default false e = rw e (says_entry (decimal pages) (decimal entry) pages entry (plain_number pages few) (plain_number entry low) (number_again pages few) (number_again entry low))
+
+image_read : (name : List ℕ) (fields : List (List ℕ)) (pages entry : ℕ) → is_name name ≡ true → SaysNumbers fields pages entry → line_of keywords.Image (name ∷ fields) ≡ Ok (lines.Image name pages entry)
+image_read name fields pages entry h n = ap (as_line (λ (header : List ℕ × ℕ × ℕ). lines.Image header.0 header.1 header.2)) (n.read name h)
+
+keeps_image : (state : State) (image : Image) (fields : List (List ℕ)) → SaysNumbers fields image.pages image.entry → is_name image.name ≡ true → is_within 1 256 image.pages ≡ true → is_entry image.pages image.entry ≡ true → place_of state.system.images image.name ≡ None
+    → Keeps state keywords.Image (image.name ∷ fields)
+keeps_image state image fields n h w e none = record {
+  line = lines.Image image.name image.pages image.entry;
+  read = image_read image.name fields image.pages image.entry h n;
+  rules = record { limits = rw (w, e) refl; same = refl; name = rw none refl; room = refl };
+  file = refl;
+}
+
+adds_image : (s : System) (done : List Image) (image : Image) (fields : List (List ℕ)) → SaysNumbers fields image.pages image.entry → is_name image.name ≡ true → add (at_images s done) keywords.Image (image.name ∷ fields) ≡ in_image s done image []
+adds_image s done image fields n h = rw (image_read image.name fields image.pages image.entry h n) refl
 
 -- ---- lines of words
 
@@ -65,68 +95,76 @@ words_read : (fields : List (List ℕ)) → 1 ≤ length fields → list_all is_
 words_read [] some kinds = absurd (omega (arith, some))
 words_read (field ∷ fields) some kinds = rw kinds refl
 
-keeps_words : (state : State) (fields : List (List ℕ)) (ws : List ℕ) → 1 ≤ length fields → list_all is_word_field fields ≡ true → words_in fields ≡ ws → takes_more state.block (length ws) ≡ true → Keeps state keywords.Words fields
+keeps_words : (state : State) (fields : List (List ℕ)) (ws : List ℕ) → 1 ≤ length fields → list_all is_word_field fields ≡ true → words_in fields ≡ ws → takes_more state.file state.block (length ws) ≡ true → Keeps state keywords.Words fields
 keeps_words state fields ws some kinds is fits = record {
   line = lines.Words ws;
   read = words_read fields some kinds ∙ ap (λ (words : List ℕ). Ok (lines.Words words)) is;
-  rules = record { limits = refl; same = refl; name = refl; room = not_of (takes_more state.block (length ws)) fits };
+  rules = record { limits = refl; same = refl; name = refl; room = not_of (takes_more state.file state.block (length ws)) fits };
+  file = refl;
 }
 
-adds_words : (s : System) (done : List Image) (name : List ℕ) (pages : ℕ) (before ws : List ℕ) (fields : List (List ℕ)) → 1 ≤ length fields → list_all is_word_field fields ≡ true → words_in fields ≡ ws → add (in_image s done name pages before) keywords.Words fields ≡ in_image s done name pages (before ++ ws)
-adds_words s done name pages before ws fields some kinds is = rw (words_read fields some kinds) (ap (λ (words : List ℕ). in_image s done name pages (before ++ words)) is)
+adds_words : (s : System) (done : List Image) (image : Image) (before ws : List ℕ) (fields : List (List ℕ)) → 1 ≤ length fields → list_all is_word_field fields ≡ true → words_in fields ≡ ws → add (in_image s done image before) keywords.Words fields ≡ in_image s done image (before ++ ws)
+adds_words s done image before ws fields some kinds is = rw (words_read fields some kinds) (ap (λ (words : List ℕ). in_image s done image (before ++ words)) is)
 
-leads_line : (s : System) (done : List Image) (name : List ℕ) (pages : ℕ) (before ws : List ℕ) → 1 ≤ length ws → list_all is_word ws ≡ true → length before + length ws ≤ 64 * pages
-    → Leads (in_image s done name pages before) (words_line ws ∷ []) (in_image s done name pages (before ++ ws))
-leads_line s done name pages before ws some words fits =
-    let state = in_image s done name pages before in
+leads_line : (s : System) (done : List Image) (image : Image) (before ws : List ℕ) → 1 ≤ length ws → list_all is_word ws ≡ true → length before + length ws ≤ 64 * image.pages
+    → Leads (in_image s done image before) (words_line ws ∷ []) (in_image s done image (before ++ ws))
+leads_line s done image before ws some words fits =
+    let state = in_image s done image before in
     let same : length (map word_text ws) ≡ length ws = length-map ws word_text in
-    leads_one state (in_image s done name pages (before ++ ws)) keywords.Words (codes "words") (map word_text ws) (both _ _ refl (plain_words ws)) refl refl refl
-    (keeps_words state (map word_text ws) ws (omega (arith, some, same)) (words_are_kinds ws words) (words_again ws words) (le-leb (length before + length ws) (64 * pages) fits)) (adds_words s done name pages before ws (map word_text ws) (omega (arith, some, same)) (words_are_kinds ws words) (words_again ws words))
+    leads_one state (in_image s done image (before ++ ws)) keywords.Words (codes "words") (map word_text ws) (both _ _ refl (plain_words ws)) refl refl refl
+    (keeps_words state (map word_text ws) ws (omega (arith, some, same)) (words_are_kinds ws words) (words_again ws words) (le-leb (length before + length ws) (64 * image.pages) fits)) (adds_words s done image before ws (map word_text ws) (omega (arith, some, same)) (words_are_kinds ws words) (words_again ws words))
 
 split_words : (ws : List ℕ) → list_all is_word ws ≡ true → (list_all is_word (take 8 ws) && list_all is_word (drop 8 ws)) ≡ true
 split_words ws h = sym (list_all-append is_word (take 8 ws) (drop 8 ws)) ∙ ap (list_all is_word) (take-append-drop 8 ws) ∙ h
 
-leads_words : (s : System) (done : List Image) (name : List ℕ) (pages k : ℕ) (before ws : List ℕ) → length ws ≤ k → list_all is_word ws ≡ true → length before + length ws ≤ 64 * pages
-    → Leads (in_image s done name pages before) (words_lines_upto k ws) (in_image s done name pages (before ++ ws))
-leads_words s done name pages zero before [] le words fits = rw (append-nil before) (leads_none (in_image s done name pages before))
-leads_words s done name pages zero before (w ∷ ws) le words fits = absurd (omega arith)
-leads_words s done name pages (suc k) before [] le words fits = rw (append-nil before) (leads_none (in_image s done name pages before))
-leads_words s done name pages (suc k) before (w ∷ ws) le words fits =
+leads_words : (s : System) (done : List Image) (image : Image) (k : ℕ) (before ws : List ℕ) → length ws ≤ k → list_all is_word ws ≡ true → length before + length ws ≤ 64 * image.pages
+    → Leads (in_image s done image before) (words_lines_upto k ws) (in_image s done image (before ++ ws))
+leads_words s done image zero before [] le words fits = rw (append-nil before) (leads_none (in_image s done image before))
+leads_words s done image zero before (w ∷ ws) le words fits = absurd (omega arith)
+leads_words s done image (suc k) before [] le words fits = rw (append-nil before) (leads_none (in_image s done image before))
+leads_words s done image (suc k) before (w ∷ ws) le words fits =
     let all = w ∷ ws in
     let line = take 8 all in
     let rest = drop 8 all in
     let tests = split_words all words in
     let sizes : length line + length rest ≡ length all = sym (length-append line rest) ∙ ap length (take-append-drop 8 all) in
-    let after = in_image s done name pages (before ++ line) in
+    let after = in_image s done image (before ++ line) in
     let left : length rest ≤ k = omega (arith, le, length-drop 8 all) in
     let whole : (before ++ line) ++ rest ≡ before ++ all = append_assoc before line rest ∙ ap (λ t. before ++ t) (take-append-drop 8 all) in
-    let one = leads_line s done name pages before line (omega arith) (first_of_two (list_all is_word line) _ tests) (omega (arith, sizes, fits)) in
-    let more = leads_words s done name pages k (before ++ line) rest left (second_of_two (list_all is_word line) _ tests) (omega (arith, sizes, fits, length-append before line)) in
-    leads_then (in_image s done name pages before) after (in_image s done name pages (before ++ all)) (words_line line ∷ []) (words_lines_upto k rest) one (rw (← whole) more)
+    let one = leads_line s done image before line (omega arith) (first_of_two (list_all is_word line) _ tests) (omega (arith, sizes, fits)) in
+    let more = leads_words s done image k (before ++ line) rest left (second_of_two (list_all is_word line) _ tests) (omega (arith, sizes, fits, length-append before line)) in
+    leads_then (in_image s done image before) after (in_image s done image (before ++ all)) (words_line line ∷ []) (words_lines_upto k rest) one (rw (← whole) more)
 
-leads_all_words : (s : System) (done : List Image) (name : List ℕ) (pages : ℕ) (ws : List ℕ) → list_all is_word ws ≡ true → length ws ≤ 64 * pages → Leads (in_image s done name pages []) (words_lines ws) (in_image s done name pages ws)
+leads_all_words : (s : System) (done : List Image) (image : Image) (ws : List ℕ) → list_all is_word ws ≡ true → length ws ≤ 64 * image.pages → Leads (in_image s done image []) (words_lines ws) (in_image s done image ws)
 unfolding words_lines
-leads_all_words s done name pages ws words fits = leads_words s done name pages (length ws) [] ws (omega arith) words (omega (arith, fits))
+leads_all_words s done image ws words fits = leads_words s done image (length ws) [] ws (omega arith) words (omega (arith, fits))
 
 -- ---- a block
 
-keeps_end : (state : State) → Keeps state keywords.End []
-keeps_end state = record { line = lines.End; read = refl; rules = record { limits = refl; same = refl; name = refl; room = refl } }
+keeps_end : (s : System) (done : List Image) (image : Image) (words : List ℕ) → Keeps (in_image s done image words) keywords.End []
+keeps_end s done image words = record { line = lines.End; read = refl; rules = record { limits = refl; same = refl; name = refl; room = refl }; file = refl }
 
 within : (low high n : ℕ) → low ≤ n → n ≤ high → is_within low high n ≡ true
 within low high n p q = grind (arith, nat_tests)
 
+entry_small : (pages entry : ℕ) → is_entry pages entry ≡ true → pages ≤ 256 → entry < 2 ^ 32
+entry_small pages entry h few = below (leb-true (entry + 4) (65536 + 256 * pages) (and_parts (leb 65536 entry) _ (and_parts (eqb (entry % 4) 0) _ h).1).1)
+  where
+    below : entry + 4 ≤ 65536 + 256 * pages → entry < 2 ^ 32
+    below le = omega (arith, le, few)
+
 leads_image : (s : System) (done : List Image) (image : Image) → is_image image ≡ true → place_of done image.name ≡ None → Leads (at_images s done) (image_lines image) (at_images s (done ++ image ∷ []))
 leads_image s done image h none =
     let b = image_fits image h in
-    let small : image.pages < 2 ^ 32 = omega (arith, b.pages) in
-    let opened = in_image s done image.name image.pages [] in
-    let full = in_image s done image.name image.pages image.words in
+    let fields = decimal image.pages ∷ entry_fields image.entry in
+    let n : SaysNumbers fields image.pages image.entry = says_numbers image.pages image.entry (omega (arith, b.pages)) (entry_small image.pages image.entry b.entry b.pages) in
+    let opened = in_image s done image [] in
+    let full = in_image s done image image.words in
     let closed = at_images s (done ++ image ∷ []) in
-    let one = leads_one (at_images s done) opened keywords.Image (codes "image") (image.name ∷ decimal image.pages ∷ []) (both _ _ refl (both _ _ (plain_name image.name b.name) (both _ _ (plain_number image.pages small) refl))) refl refl refl
-    (keeps_image (at_images s done) image.name (decimal image.pages) image.pages b.name (number_again image.pages small) (within 1 256 image.pages b.least b.pages) none) (adds_image s done image.name (decimal image.pages) image.pages b.name (number_again image.pages small)) in
-    let words = leads_all_words s done image.name image.pages image.words b.words (omega (arith, b.fits)) in
-    let end = leads_one full closed keywords.End (codes "end") [] refl refl refl refl (keeps_end full) refl in
+    let one = leads_one (at_images s done) opened keywords.Image (codes "image") (image.name ∷ fields) (both _ _ refl (both _ _ (plain_name image.name b.name) n.plain)) refl refl refl
+    (keeps_image (at_images s done) image fields n b.name (within 1 256 image.pages b.least b.pages) b.entry none) (adds_image s done image fields n b.name) in
+    let words = leads_all_words s done image image.words b.words (omega (arith, b.fits)) in
+    let end = leads_one full closed keywords.End (codes "end") [] refl refl refl refl (keeps_end s done image image.words) refl in
     leads_then (at_images s done) opened closed _ _ one (leads_then opened full closed (words_lines image.words) ((codes "end" ∷ []) ∷ []) words end)
 
 -- ---- all blocks

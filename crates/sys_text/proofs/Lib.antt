@@ -3,6 +3,8 @@ mod Blocks
 pub mod Bounds
 mod Examples
 mod Fields
+mod FileRules
+pub mod FileWords
 mod FirstWords
 mod Headed
 mod ImagePlaces

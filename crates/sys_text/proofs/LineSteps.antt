@@ -1,5 +1,6 @@
-use Rattle.std.proofs.Common.{◌≡◌, ℕ, ◌≤◌, Bool, true, false, not, ◌&&◌, ◌||◌, leb, nat_lt, List, ◌∷◌, length, Option, Some, None, Ok, refl, sym, ap, ◌∙◌, arith}
+use Rattle.std.proofs.Common.{◌≡◌, ℕ, ◌+◌, ◌*◌, ◌%◌, ◌^◌, ◌<◌, ◌≤◌, eqb, Bool, true, false, not, ◌&&◌, ◌||◌, leb, nat_lt, List, ◌∷◌, length, Option, Some, None, Ok, refl, sym, ap, ◌∙◌, arith}
 use Rattle.std.specs.Prelude.{is_some}
+use Rattle.std.proofs.lemmas.Bool.{and_parts, leb-true, not-false}
 use Rattle.std.proofs.lemmas.Bool.Decides.{nat_tests}
 use Rattle.text_parts.specs.Lines.{are_printable, fields_of}
 use Rattle.sys_text.specs.declared.stage.Keyword.{Keyword}
@@ -9,16 +10,16 @@ use Rattle.sys_text.specs.declared.refusal.Rule.{Rule}
 use Rattle.sys_text.specs.declared.refusal.SystemRefused.{SystemRefused}
 use Rattle.sys_text.specs.declared.refusal.SystemRefused.TheVariants as refusals
 use Rattle.sys_text.specs.declared.state.State.{State}
-use Rattle.sys_text.specs.Valid.{is_within}
+use Rattle.sys_text.specs.Valid.{is_within, is_entry}
 use Rattle.sys_text.specs.Line.{Line, line_of}
 use Rattle.sys_text.specs.Line as lines
-use Rattle.sys_text.specs.Rules.{may_stand, keyword_in, begins_comment, broken_by, lowest_of, add_line, add, HasRoom}
+use Rattle.sys_text.specs.Rules.{may_stand, keyword_in, begins_comment, broken_by, lowest_of, lowest_of_file, add_line, add, HasRoom}
 use Rattle.sys_text.specs.Numbers.{Fits}
 use Rattle.sys_text.specs.Fronts.{Starts}
 use Rattle.sys_text.specs.Reading.{is_asm, kept, kept_line, step_outside}
 use Rattle.sys_text.specs.Answers.{RefusesStep, TakesLine}
 use Rattle.sys_text.specs.WordLines.{IsWordsLine, RefusesBy}
-use Rattle.sys_text.proofs.Keeping.{kept_rules, lowest_read, within_le}
+use Rattle.sys_text.proofs.Keeping.{kept_rules, lowest_file, within_le}
 use Rattle.sys_text.proofs.Spelling.{keyword_said, said_keyword}
 use Rattle.sys_text.proofs.Standing.{rank, in_image, stands, stands_at}
 
@@ -42,6 +43,15 @@ not_both : (a b : Bool) → not (a && b) ≡ false → (not a ≡ false) × (not
 not_both true b h = (refl, h)
 not_both false b h = absurd cc
 
+within_ge : (low high n : ℕ) → not (is_within low high n) ≡ false → low ≤ n
+within_ge low high n h = grind (arith, nat_tests)
+
+entry_below : (pages entry : ℕ) → not (is_entry pages entry) ≡ false → pages ≤ 256 → entry < 2 ^ 32
+entry_below pages entry h few = below (leb-true (entry + 4) (65536 + 256 * pages) (and_parts (leb 65536 entry) _ (and_parts (eqb (entry % 4) 0) _ (not-false (is_entry pages entry) h)).1).1)
+  where
+    below : entry + 4 ≤ 65536 + 256 * pages → entry < 2 ^ 32
+    below le = omega (arith, le, few)
+
 pub fits : (state : State) (line : Line) → lowest_of state line ≡ None → HasRoom state → Fits line
 fits state (lines.Clusters count) e r = omega (arith, within_le 2 16 count (kept_rules state (lines.Clusters count) e).limits)
 fits state (lines.Pager first second) e r =
@@ -49,8 +59,15 @@ fits state (lines.Pager first second) e r =
     (omega (arith, le.0, r.clusters), omega (arith, le.1, r.clusters))
 fits state (lines.Syncreads count) e r = omega (arith, within_le 1 1000 count (kept_rules state (lines.Syncreads count) e).limits)
 fits state (lines.Syncsteps count) e r = within_le 64 100000 count (kept_rules state (lines.Syncsteps count) e).limits
-fits state (lines.Image name pages) e r = within_le 1 256 pages (kept_rules state (lines.Image name pages) e).limits
-fits state (lines.Asm name pages) e r = within_le 1 256 pages (kept_rules state (lines.Asm name pages) e).limits
+fits state (lines.Image name pages entry) e r =
+    let both = not_both (is_within 1 256 pages) (is_entry pages entry) (kept_rules state (lines.Image name pages entry) e).limits in
+    record { least = within_ge 1 256 pages both.0; most = within_le 1 256 pages both.0; fits = entry_below pages entry both.1 (within_le 1 256 pages both.0) }
+fits state (lines.Asm name pages) e r =
+    let limits = (kept_rules state (lines.Asm name pages) e).limits in
+    record { least = within_ge 1 256 pages limits; most = within_le 1 256 pages limits; fits = omega arith }
+fits state (lines.Elf name pages size) e r =
+    let both = not_both (is_within 1 256 pages) (is_within 1 65536 size) (kept_rules state (lines.Elf name pages size) e).limits in
+    record { least = within_ge 1 256 pages both.0; most = within_le 1 256 pages both.0; fits = omega (arith, within_le 1 65536 size both.1) }
 fits state (lines.Words words) e r = tt
 fits state lines.End e r = tt
 fits state (lines.Root root image) e r =
@@ -81,8 +98,9 @@ asm_line state (lines.Clusters count) h = absurd cc
 asm_line state (lines.Pager first second) h = absurd cc
 asm_line state (lines.Syncreads count) h = absurd cc
 asm_line state (lines.Syncsteps count) h = absurd cc
-asm_line state (lines.Image name pages) h = absurd cc
+asm_line state (lines.Image name pages entry) h = absurd cc
 asm_line state (lines.Asm name pages) h = (refl, refl)
+asm_line state (lines.Elf name pages size) h = absurd cc
 asm_line state (lines.Words words) h = absurd cc
 asm_line state lines.End h = absurd cc
 asm_line state (lines.Root root image) h = absurd cc
@@ -93,8 +111,8 @@ asm_opens_block state after keyword fields read opens e is asm h = rw is (asm_li
 
 -- ---- what it leads to
 
-pub none_broken : (state : State) (line : List ℕ) (keyword : Keyword) (fields : List (List ℕ)) (read : Line) → Starts state line keyword fields → line_of keyword fields ≡ Ok read → lowest_of state read ≡ None → broken_by state line ≡ None
-none_broken state line keyword fields read s e none = s.broken ∙ lowest_read state keyword fields read e ∙ none
+pub none_broken : (state : State) (line : List ℕ) (keyword : Keyword) (fields : List (List ℕ)) (read : Line) → Starts state line keyword fields → line_of keyword fields ≡ Ok read → lowest_of state read ≡ None → lowest_of_file state read ≡ None → broken_by state line ≡ None
+none_broken state line keyword fields read s e none file = s.broken ∙ lowest_file state keyword fields read e none ∙ file
 
 added : (state : State) (keyword : Keyword) (fields : List (List ℕ)) (read : Line) → line_of keyword fields ≡ Ok read → add state keyword fields ≡ add_line state read
 added state keyword fields read e = rw e refl

@@ -28,7 +28,7 @@ use Rattle.sys_text.proofs.Leading.{Leads, Ends, leads_one, leads_to_end}
 -- ---- a channel
 
 abbrev at_chans : Stage → System → List (ℕ × ℕ) → State
-at_chans stage s done = record { stage = stage; system = with_lists s s.images s.roots done; block = None }
+at_chans stage s done = record { stage = stage; system = with_lists s s.images s.roots done; block = None; file = None }
 
 record ChanParts (s : System) (chan : ℕ × ℕ) : Type 0 where
   first : has_root s chan.0 ≡ true
@@ -52,7 +52,7 @@ chan_parts s chan h = record {
 
 keeps_chan : (state : State) (f g : List ℕ) (a b : ℕ) → number_of f ≡ Some a → number_of g ≡ Some b → eqb a b ≡ false → has_root state.system a ≡ true → has_root state.system b ≡ true → is_full state.system a ≡ false → is_full state.system b ≡ false
     → Keeps state keywords.Chan (f ∷ g ∷ [])
-keeps_chan state f g a b e1 e2 apart first second free_a free_b = record { line = lines.Chan a b; read = rw (e1, e2) refl; rules = record { limits = refl; same = apart; name = rw (first, second) refl; room = rw (free_a, free_b) refl } }
+keeps_chan state f g a b e1 e2 apart first second free_a free_b = record { line = lines.Chan a b; read = rw (e1, e2) refl; rules = record { limits = refl; same = apart; name = rw (first, second) refl; room = rw (free_a, free_b) refl }; file = refl }
 
 adds_chan : (stage : Stage) (s : System) (done : List (ℕ × ℕ)) (chan : ℕ × ℕ) (f g : List ℕ) → number_of f ≡ Some chan.0 → number_of g ≡ Some chan.1 → add (at_chans stage s done) keywords.Chan (f ∷ g ∷ []) ≡ at_chans Chans s (done ++ chan ∷ [])
 adds_chan stage s done chan f g e1 e2 = rw (e1, e2) refl

@@ -1,9 +1,9 @@
 -- What reading line by line names is the first line that breaks a rule, and the lowest rule that it breaks.
-use Rattle.std.proofs.Common.{◌≡◌, ℕ, zero, suc, ◌+◌, ◌<◌, ◌≤◌, Bool, true, false, not, cond, eqb, List, [], ◌∷◌, ◌++◌, length, Option, Some, None, Result, Ok, Err, refl, sym, ap, ◌∙◌, arith, inl, inr, ◌⊎◌, append_assoc, append-nil, length-append, subst}
+use Rattle.std.proofs.Common.{◌≡◌, ℕ, zero, suc, ◌+◌, ◌<◌, ◌≤◌, Bool, true, false, not, ◌&&◌, cond, eqb, List, [], ◌∷◌, ◌++◌, length, Option, Some, None, Result, Ok, Err, refl, sym, ap, ◌∙◌, arith, inl, inr, ◌⊎◌, append_assoc, append-nil, length-append, subst}
 use Rattle.std.specs.List.{find}
 use Rattle.std.specs.Option.{option_map}
 use Rattle.std.specs.Prelude.{IfOk, IfErr}
-use Rattle.std.proofs.lemmas.Bool.{cases_eq, eq-eqb}
+use Rattle.std.proofs.lemmas.Bool.{cases_eq, eq-eqb, eqb-true, eqb-false}
 use Rattle.std.proofs.lemmas.Bool.Decides.{nat_tests}
 use Rattle.text_parts.specs.Lines.{are_printable, lines_of, fields_of}
 use Rattle.rv_asm.specs.Program.{reading_of_lines}
@@ -12,20 +12,27 @@ use Rattle.rv_asm.specs.declared.refusal.Rule.TheVariants as asm_rules
 use Rattle.sys_text.specs.declared.state.State.{State}
 use Rattle.sys_text.specs.declared.system.System.{System}
 use Rattle.sys_text.specs.declared.refusal.Rule.{Rule}
-use Rattle.sys_text.specs.declared.refusal.Rule.TheVariants.{ForeignByte, Misplaced, FieldCount, FieldKind, Limit, Same, Name, Room, Assembler, Ended}
+use Rattle.sys_text.specs.declared.refusal.Rule.TheVariants.{ForeignByte, Misplaced, FieldCount, FieldKind, Limit, Same, Name, Room, Assembler, Ended, Elf}
+use Rattle.rv_elf.specs.declared.refusal.Rule.{Rule as ElfRule}
+use Rattle.rv_elf.specs.declared.refusal.Rule.TheVariants as elf
+use Rattle.rv_elf.specs.Refusal.{number_of_rule as number_of_elf_rule}
+use Rattle.rv_elf.specs.Rules.{rules as elf_rules}
+use Rattle.sys_text.proofs.FileRules.{any_of, none_of_any, up_to_ten}
 use Rattle.sys_text.specs.declared.refusal.SystemRefused.{SystemRefused}
 use Rattle.sys_text.specs.declared.refusal.SystemRefused.TheVariants as refusals
 use Rattle.sys_text.specs.Refusal.{number_of_rule}
 use Rattle.sys_text.specs.Rules.{breaks, rules, broken_by, closed_with, fit_open}
 use Rattle.sys_text.specs.Reading.{Answer, Place, Outside, InBlock, nothing_yet, rule_in_block, is_end, last_line, may_end, ended, ended_in_block, close_block, kept, kept_line, step_outside, goes_on, reading_from, reading_of, system_of_lines}
-use Rattle.sys_text.specs.RuleByRule.{place_with, place_after, breaks_outside, lacks_room, before_end, refuses_line, refuses_in, fails_to_assemble, may_end_at, ends_early, breaks_line, breaks_among, one_or_more, place_behind, system_at, IsSystemOf, IsFirstBroken, HasCause}
+use Rattle.sys_text.specs.RuleByRule.{place_with, place_after, breaks_outside, lacks_room, before_end, refuses_line, refuses_in, fails_to_assemble, may_end_at, ends_early, refuses_file, breaks_line, breaks_among, one_or_more, place_behind, system_at, IsSystemOf, IsFirstBroken, HasCause}
 use Rattle.sys_text.specs.Answers.{Answers}
 use Rattle.sys_text.proofs.BlockLines.{end_printable, is_foreign, PrintsTo, prints_from, AllPrint, refused_prints, words_print}
 
 -- ---- the rules by their numbers
 
 rule_of : ℕ → Rule
-rule_of n = cond (eqb n 1) ForeignByte (cond (eqb n 2) Misplaced (cond (eqb n 3) FieldCount (cond (eqb n 4) FieldKind (cond (eqb n 5) Limit (cond (eqb n 6) Same (cond (eqb n 7) Name (cond (eqb n 8) Room (cond (eqb n 9) Assembler Ended))))))))
+rule_of n =
+    cond (eqb n 1) ForeignByte (cond (eqb n 2) Misplaced (cond (eqb n 3) FieldCount (cond (eqb n 4) FieldKind (cond (eqb n 5) Limit (cond (eqb n 6) Same (cond (eqb n 7) Name (cond (eqb n 8) Room (cond (eqb n 9) Assembler (cond (eqb n 10) Ended
+    (cond (eqb n 11) (Elf elf.NoElf) (cond (eqb n 12) (Elf elf.Class) (cond (eqb n 13) (Elf elf.Machine) (cond (eqb n 14) (Elf elf.Compressed) (cond (eqb n 15) (Elf elf.Table) (cond (eqb n 16) (Elf elf.Dynamic) (cond (eqb n 17) (Elf elf.FileBytes) (cond (eqb n 18) (Elf elf.Outside) (cond (eqb n 19) (Elf elf.Overlap) (Elf elf.Entry)))))))))))))))))))
 
 rule_of-number : (r : Rule) → rule_of (number_of_rule r) ≡ r
 unfolding rule_of
@@ -39,6 +46,32 @@ rule_of-number Name = refl
 rule_of-number Room = refl
 rule_of-number Assembler = refl
 rule_of-number Ended = refl
+rule_of-number (Elf elf.NoElf) = refl
+rule_of-number (Elf elf.Class) = refl
+rule_of-number (Elf elf.Machine) = refl
+rule_of-number (Elf elf.Compressed) = refl
+rule_of-number (Elf elf.Table) = refl
+rule_of-number (Elf elf.Dynamic) = refl
+rule_of-number (Elf elf.FileBytes) = refl
+rule_of-number (Elf elf.Outside) = refl
+rule_of-number (Elf elf.Overlap) = refl
+rule_of-number (Elf elf.Entry) = refl
+
+elf_at_least_one : (rule : ElfRule) → 1 ≤ number_of_elf_rule rule
+elf_at_least_one elf.NoElf = omega arith
+elf_at_least_one elf.Class = omega arith
+elf_at_least_one elf.Machine = omega arith
+elf_at_least_one elf.Compressed = omega arith
+elf_at_least_one elf.Table = omega arith
+elf_at_least_one elf.Dynamic = omega arith
+elf_at_least_one elf.FileBytes = omega arith
+elf_at_least_one elf.Outside = omega arith
+elf_at_least_one elf.Overlap = omega arith
+elf_at_least_one elf.Entry = omega arith
+
+and_none : (a b : Bool) → b ≡ true → (a && not b) ≡ false
+and_none true b h = ap not h
+and_none false b h = refl
 
 same_rule : (a b : Rule) → number_of_rule a ≡ number_of_rule b → a ≡ b
 same_rule a b e = sym (rule_of-number a) ∙ ap rule_of e ∙ rule_of-number b
@@ -54,69 +87,120 @@ at_least_one Name = omega arith
 at_least_one Room = omega arith
 at_least_one Assembler = omega arith
 at_least_one Ended = omega arith
+at_least_one (Elf rule) = omega arith
 
--- rules with the numbers from k to 8
+-- the number behind k among the rules of a line: those behind 8 are the rules for files
+abbrev next_number : ℕ → ℕ
+next_number k = cond (eqb k 8) 11 (k + 1)
+
+-- rules with the numbers from k to 20, but for 9 and 10
 abbrev AreFrom : ℕ → List Rule → Type 0
-AreFrom k [] = k ≡ 9
-AreFrom k (r ∷ rs) = (number_of_rule r ≡ k) × AreFrom (k + 1) rs
+AreFrom k [] = k ≡ 21
+AreFrom k (r ∷ rs) = (number_of_rule r ≡ k) × AreFrom (next_number k) rs
 
 rules_from : AreFrom 1 rules
-rules_from = (refl, (refl, (refl, (refl, (refl, (refl, (refl, (refl, refl))))))))
+rules_from = (refl, (refl, (refl, (refl, (refl, (refl, (refl, (refl, (refl, (refl, (refl, (refl, (refl, (refl, (refl, (refl, (refl, (refl, refl))))))))))))))))))
+
+-- a rule that is asked of a line by itself: neither rule 9 nor rule 10
+abbrev IsOwn : Rule → Type 0
+IsOwn rule = (number_of_rule rule ≡ 9 → ⊥) × (number_of_rule rule ≡ 10 → ⊥)
 
 -- what is found passes, is one of the list, and is the first that passes
 record IsFound (p : Rule → Bool) (k : ℕ) (rule : Rule) : Type 0 where
   passes : p rule ≡ true
-  within : number_of_rule rule ≤ 8
-  lowest : (lower : Rule) → k ≤ number_of_rule lower → number_of_rule lower < number_of_rule rule → p lower ≡ false
+  own : IsOwn rule
+  lowest : (lower : Rule) → IsOwn lower → k ≤ number_of_rule lower → number_of_rule lower < number_of_rule rule → p lower ≡ false
 
-from_below : (k : ℕ) (xs : List Rule) → AreFrom k xs → k ≤ 9
-from_below k [] are = omega (arith, are)
-from_below k (x ∷ xs) are = omega (arith, from_below (k + 1) xs are.1)
-
-found : (p : Rule → Bool) (k : ℕ) (xs : List Rule) (rule : Rule) → AreFrom k xs → find p xs ≡ Some rule → IsFound p k rule
-found p k [] rule are e = absurd cc
-found p k (x ∷ xs) rule are e = by_test (λ f. found p (k + 1) xs rule are.1 f) (p x) refl
+-- the numbers from k on are those from the next one on, but for k itself
+from_next : (k n : ℕ) → (n ≡ 9 → ⊥) → (n ≡ 10 → ⊥) → (n ≡ k → ⊥) → k ≤ n → next_number k ≤ n
+from_next k n no_9 no_10 other le = by_eight (eqb k 8) refl
   where
-    by_test : (find p xs ≡ Some rule → IsFound p (k + 1) rule) → (b : Bool) → p x ≡ b → IsFound p k rule
+    by_eight : (b : Bool) → eqb k 8 ≡ b → next_number k ≤ n
+    by_eight true e = let at = eqb-true k 8 e in rw e (behind at (cases_eq n 9) (cases_eq n 10))
+      where
+        behind : k ≡ 8 → (n ≡ 9) ⊎ (n ≡ 9 → ⊥) → (n ≡ 10) ⊎ (n ≡ 10 → ⊥) → 11 ≤ n
+        behind at (inl nine) ten = absurd (no_9 nine)
+        behind at (inr nine) (inl ten) = absurd (no_10 ten)
+        behind at (inr nine) (inr ten) = omega (arith, at, nine, ten, other, le)
+    by_eight false e = rw e (omega (arith, other, le))
+
+-- each rule of the list is one that is asked of a line by itself
+is_own : (k : ℕ) (xs : List Rule) (rule : Rule) → (k ≡ 9 → ⊥) → (k ≡ 10 → ⊥) → number_of_rule rule ≡ k → IsOwn rule
+is_own k xs rule no_9 no_10 at = (λ nine. no_9 (sym at ∙ nine), λ ten. no_10 (sym at ∙ ten))
+
+next_no_9 : (k : ℕ) → next_number k ≡ 9 → ⊥
+next_no_9 k e = by_eight (eqb k 8) refl
+  where
+    by_eight : (b : Bool) → eqb k 8 ≡ b → ⊥
+    by_eight true h = let f = rw h at e in absurd (omega (arith, f))
+    by_eight false h = let f = rw h at e in eqb-false k 8 h (omega (arith, f))
+
+next_no_10 : (k : ℕ) → (k ≡ 9 → ⊥) → next_number k ≡ 10 → ⊥
+next_no_10 k no_9 e = by_eight (eqb k 8) refl
+  where
+    by_eight : (b : Bool) → eqb k 8 ≡ b → ⊥
+    by_eight true h = let f = rw h at e in absurd (omega (arith, f))
+    by_eight false h = let f = rw h at e in no_9 (omega (arith, f))
+
+found : (p : Rule → Bool) (k : ℕ) (xs : List Rule) (rule : Rule) → (k ≡ 9 → ⊥) → (k ≡ 10 → ⊥) → AreFrom k xs → find p xs ≡ Some rule → IsFound p k rule
+found p k [] rule no_9 no_10 are e = absurd cc
+found p k (x ∷ xs) rule no_9 no_10 are e = by_test (λ f. found p (next_number k) xs rule (next_no_9 k) (next_no_10 k no_9) are.1 f) (p x) refl
+  where
+    by_test : (find p xs ≡ Some rule → IsFound p (next_number k) rule) → (b : Bool) → p x ≡ b → IsFound p k rule
     by_test next true h =
         let f = rw h at e in
         let same : x ≡ rule = cc in
         let number = ap number_of_rule same in
         record {
           passes = ap p (sym same) ∙ h;
-          within = omega (arith, number, are.0, from_below (k + 1) xs are.1);
-          lowest = λ lower le lt. absurd (omega (arith, number, are.0, le, lt));
+          own = is_own k xs rule no_9 no_10 (sym number ∙ are.0);
+          lowest = λ lower own le lt. absurd (omega (arith, number, are.0, le, lt));
         }
     by_test next false h =
         let f = next (rw h at e) in
         record {
           passes = f.passes;
-          within = f.within;
-          lowest = λ lower le lt. elim (cases_eq (number_of_rule lower) k) [
+          own = f.own;
+          lowest = λ lower own le lt. elim (cases_eq (number_of_rule lower) k) [
             | inl here ↦ ap p (same_rule lower x (here ∙ sym are.0)) ∙ h
-            | inr other ↦ f.lowest lower (omega (arith, le, other)) lt
+            | inr other ↦ f.lowest lower own (from_next k (number_of_rule lower) own.0 own.1 other le) lt
           ];
         }
 
-none_found : (p : Rule → Bool) (k : ℕ) (xs : List Rule) (rule : Rule) → AreFrom k xs → find p xs ≡ None → k ≤ number_of_rule rule → number_of_rule rule ≤ 8 → p rule ≡ false
-none_found p k [] rule are e le few = absurd (omega (arith, are, le, few))
-none_found p k (x ∷ xs) rule are e le few = by_test (λ next_le f. none_found p (k + 1) xs rule are.1 f next_le few) (p x) refl
+up_to_20 : (rule : Rule) → number_of_rule rule ≤ 20
+up_to_20 ForeignByte = omega arith
+up_to_20 Misplaced = omega arith
+up_to_20 FieldCount = omega arith
+up_to_20 FieldKind = omega arith
+up_to_20 Limit = omega arith
+up_to_20 Same = omega arith
+up_to_20 Name = omega arith
+up_to_20 Room = omega arith
+up_to_20 Assembler = omega arith
+up_to_20 Ended = omega arith
+up_to_20 (Elf rule) = omega (arith, up_to_ten rule)
+
+none_found : (p : Rule → Bool) (k : ℕ) (xs : List Rule) (rule : Rule) → IsOwn rule → AreFrom k xs → find p xs ≡ None → k ≤ number_of_rule rule → p rule ≡ false
+none_found p k [] rule own are e le = absurd (omega (arith, are, le, up_to_20 rule))
+none_found p k (x ∷ xs) rule own are e le = by_test (λ next_le f. none_found p (next_number k) xs rule own are.1 f next_le) (p x) refl
   where
-    by_test : (k + 1 ≤ number_of_rule rule → find p xs ≡ None → p rule ≡ false) → (b : Bool) → p x ≡ b → p rule ≡ false
+    by_test : (next_number k ≤ number_of_rule rule → find p xs ≡ None → p rule ≡ false) → (b : Bool) → p x ≡ b → p rule ≡ false
     by_test next true h = let f = rw h at e in absurd cc
     by_test next false h =
         let f = rw h at e in
         elim (cases_eq (number_of_rule rule) k) [
           | inl here ↦ ap p (same_rule rule x (here ∙ sym are.0)) ∙ h
-          | inr other ↦ next (omega (arith, le, other)) f
+          | inr other ↦ next (from_next k (number_of_rule rule) own.0 own.1 other le) f
         ]
 
 -- ---- a line
 
--- the line breaks none of the rules 1 to 9
+-- the line breaks none of the rules 1 to 9, nor one for files
 record Keeps (place : Place) (n : ℕ) (line : List ℕ) (after : List (List ℕ)) : Type 0 where
   foreign : not (are_printable line) ≡ false
   fields : (rule : Rule) → number_of_rule rule ≤ 8 → breaks_outside place line rule ≡ false
+  file : (rule : ElfRule) → breaks_outside place line (Elf rule) ≡ false
+  accepts : refuses_file place line ≡ false
   room : lacks_room place line ≡ false
   assembler : fails_to_assemble place n (line ∷ after) ≡ false
 
@@ -131,9 +215,10 @@ below_ended place n line after k Name lt = k.fields Name (omega arith)
 below_ended place n line after k Room lt = k.room
 below_ended place n line after k Assembler lt = k.assembler
 below_ended place n line after k Ended lt = absurd (omega (arith, lt))
+below_ended place n line after k (Elf rule) lt = absurd (omega (arith, lt))
 
 none_at_all : (place : Place) (n : ℕ) (line : List ℕ) (after : List (List ℕ)) → Keeps place n line after → ends_early (place_after place n line) after ≡ false → (rule : Rule) → breaks_line place n line after rule ≡ false
-none_at_all place n line after k goes_on Ended = goes_on
+none_at_all place n line after k goes_on Ended = rw goes_on refl
 none_at_all place n line after k goes_on ForeignByte = k.foreign
 none_at_all place n line after k goes_on Misplaced = k.fields Misplaced (omega arith)
 none_at_all place n line after k goes_on FieldCount = k.fields FieldCount (omega arith)
@@ -143,24 +228,49 @@ none_at_all place n line after k goes_on Same = k.fields Same (omega arith)
 none_at_all place n line after k goes_on Name = k.fields Name (omega arith)
 none_at_all place n line after k goes_on Room = k.room
 none_at_all place n line after k goes_on Assembler = k.assembler
+none_at_all place n line after k goes_on (Elf rule) = k.file rule
 
--- outside blocks the rules up to 8 are those of `breaks`
-outside_rule : (state : State) (n : ℕ) (line : List ℕ) (after : List (List ℕ)) (rule : Rule) → number_of_rule rule ≤ 8 → breaks_line (Outside state) n line after rule ≡ breaks state line rule
-outside_rule state n line after ForeignByte le = refl
-outside_rule state n line after Misplaced le = refl
-outside_rule state n line after FieldCount le = refl
-outside_rule state n line after FieldKind le = refl
-outside_rule state n line after Limit le = refl
-outside_rule state n line after Same le = refl
-outside_rule state n line after Name le = refl
-outside_rule state n line after Room le = refl
-outside_rule state n line after Assembler le = absurd (omega (arith, le))
-outside_rule state n line after Ended le = absurd (omega (arith, le))
+-- outside blocks the rules of a line by itself are those of `breaks`
+outside_rule : (state : State) (n : ℕ) (line : List ℕ) (after : List (List ℕ)) (rule : Rule) → IsOwn rule → breaks_line (Outside state) n line after rule ≡ breaks state line rule
+outside_rule state n line after ForeignByte own = refl
+outside_rule state n line after Misplaced own = refl
+outside_rule state n line after FieldCount own = refl
+outside_rule state n line after FieldKind own = refl
+outside_rule state n line after Limit own = refl
+outside_rule state n line after Same own = refl
+outside_rule state n line after Name own = refl
+outside_rule state n line after Room own = refl
+outside_rule state n line after Assembler own = absurd (own.0 refl)
+outside_rule state n line after Ended own = absurd (own.1 refl)
+outside_rule state n line after (Elf rule) own = refl
+
+-- below a rule that the line breaks no rule is broken
+lower_outside : (state : State) (n : ℕ) (line : List ℕ) (after : List (List ℕ)) (rule : Rule) → IsFound (breaks state line) 1 rule → (lower : Rule) → number_of_rule lower < number_of_rule rule → breaks_line (Outside state) n line after lower ≡ false
+lower_outside state n line after rule f ForeignByte lt = f.lowest ForeignByte (λ e. absurd (omega (arith, e)), λ e. absurd (omega (arith, e))) (omega arith) lt
+lower_outside state n line after rule f Misplaced lt = f.lowest Misplaced (λ e. absurd (omega (arith, e)), λ e. absurd (omega (arith, e))) (omega arith) lt
+lower_outside state n line after rule f FieldCount lt = f.lowest FieldCount (λ e. absurd (omega (arith, e)), λ e. absurd (omega (arith, e))) (omega arith) lt
+lower_outside state n line after rule f FieldKind lt = f.lowest FieldKind (λ e. absurd (omega (arith, e)), λ e. absurd (omega (arith, e))) (omega arith) lt
+lower_outside state n line after rule f Limit lt = f.lowest Limit (λ e. absurd (omega (arith, e)), λ e. absurd (omega (arith, e))) (omega arith) lt
+lower_outside state n line after rule f Same lt = f.lowest Same (λ e. absurd (omega (arith, e)), λ e. absurd (omega (arith, e))) (omega arith) lt
+lower_outside state n line after rule f Name lt = f.lowest Name (λ e. absurd (omega (arith, e)), λ e. absurd (omega (arith, e))) (omega arith) lt
+lower_outside state n line after rule f Room lt = f.lowest Room (λ e. absurd (omega (arith, e)), λ e. absurd (omega (arith, e))) (omega arith) lt
+lower_outside state n line after rule f Assembler lt = refl
+lower_outside state n line after (Elf rule) f Ended lt = and_none (ends_early (place_after (Outside state) n line) after) (refuses_file (Outside state) line) (any_of (λ r. breaks state line (Elf r)) rule f.passes)
+lower_outside state n line after rule f Ended lt = absurd (omega (arith, lt))
+lower_outside state n line after rule f (Elf lower) lt = f.lowest (Elf lower) (λ e. absurd (omega (arith, e, elf_at_least_one lower)), λ e. absurd (omega (arith, e, elf_at_least_one lower))) (omega arith) lt
 
 keeps_outside : (state : State) (n : ℕ) (line : List ℕ) (after : List (List ℕ)) → broken_by state line ≡ None → Keeps (Outside state) n line after
 keeps_outside state n line after e =
-    let none = λ (rule : Rule) (le : number_of_rule rule ≤ 8). none_found (breaks state line) 1 rules rule rules_from e (at_least_one rule) le in
-    record { foreign = none ForeignByte (omega arith); fields = none; room = none Room (omega arith); assembler = refl }
+    let none = λ (rule : Rule) (own : IsOwn rule). none_found (breaks state line) 1 rules rule own rules_from e (at_least_one rule) in
+    let file = λ (rule : ElfRule). none (Elf rule) (λ e. absurd (omega (arith, e, elf_at_least_one rule)), λ e. absurd (omega (arith, e, elf_at_least_one rule))) in
+    record {
+      foreign = none ForeignByte (λ e. absurd (omega (arith, e)), λ e. absurd (omega (arith, e)));
+      fields = λ rule le. none rule (λ e. absurd (omega (arith, e, le)), λ e. absurd (omega (arith, e, le)));
+      file = file;
+      accepts = none_of_any (λ r. breaks state line (Elf r)) file elf_rules;
+      room = none Room (λ e. absurd (omega (arith, e)), λ e. absurd (omega (arith, e)));
+      assembler = refl;
+    }
 
 more_follow : (place : Place) (after : List (List ℕ)) → 0 < length after → ends_early place after ≡ false
 more_follow place [] some = absurd (omega (arith, some))
@@ -201,7 +311,7 @@ later place n line lines m rule none r = record {
 
 -- the last line, behind which the text may not end
 last : (place : Place) (n : ℕ) (line : List ℕ) → Keeps place (n + 1) line [] → ends_early (place_after place (n + 1) line) [] ≡ true → FirstAmong place n (line ∷ []) (n + 1) Ended
-last place n line k early = now place n line [] Ended early (λ lower lt. below_ended place (n + 1) line [] k lower lt)
+last place n line k early = now place n line [] Ended (rw (early, k.accepts) refl) (λ lower lt. below_ended place (n + 1) line [] k lower lt)
 
 -- a byte that is not printable
 foreign_line : (place : Place) (n : ℕ) (line : List ℕ) (lines : List (List ℕ)) → not (are_printable line) ≡ true → FirstAmong place n (line ∷ lines) (n + 1) ForeignByte
@@ -282,6 +392,7 @@ module _ (state : State) (header : ℕ) where
   below_assembler done n line after printable room Room lt = room
   below_assembler done n line after printable room Assembler lt = absurd (omega (arith, lt))
   below_assembler done n line after printable room Ended lt = absurd (omega (arith, lt))
+  below_assembler done n line after printable room (Elf rule) lt = absurd (omega (arith, lt))
 
   below_room : (done : List (List ℕ)) (n : ℕ) (line : List ℕ) (after : List (List ℕ)) → not (are_printable line) ≡ false → (rule : Rule) → number_of_rule rule < 8 → breaks_line (InBlock state header done) n line after rule ≡ false
   below_room done n line after printable ForeignByte lt = printable
@@ -294,11 +405,12 @@ module _ (state : State) (header : ℕ) where
   below_room done n line after printable Room lt = absurd (omega (arith, lt))
   below_room done n line after printable Assembler lt = absurd (omega (arith, lt))
   below_room done n line after printable Ended lt = absurd (omega (arith, lt))
+  below_room done n line after printable (Elf rule) lt = absurd (omega (arith, lt))
 
   -- a line that is not the end, and that the assembler does not refuse
   keeps_inside : (done : List (List ℕ)) (n : ℕ) (line : List ℕ) (after : List (List ℕ)) → not (are_printable line) ≡ false → is_end (fields_of line) ≡ false → fails_to_assemble (InBlock state header done) n (line ∷ after) ≡ false
       → Keeps (InBlock state header done) n line after
-  keeps_inside done n line after printable e assembler = record { foreign = printable; fields = λ rule le. refl; room = no_room_asked done line e; assembler = assembler }
+  keeps_inside done n line after printable e assembler = record { foreign = printable; fields = λ rule le. refl; file = λ rule. refl; accepts = refl; room = no_room_asked done line e; assembler = assembler }
 
   none_inside : (done : List (List ℕ)) (n : ℕ) (line : List ℕ) (lines : List (List ℕ)) → 0 < length lines → Keeps (InBlock state header done) (n + 1) line lines → (rule : Rule) → breaks_line (InBlock state header done) (n + 1) line lines rule ≡ false
   none_inside done n line lines some k = none_at_all (InBlock state header done) (n + 1) line lines k (more_follow (place_after (InBlock state header done) (n + 1) line) lines some)
@@ -385,6 +497,8 @@ module _ (state : State) (header : ℕ) where
   keeps_end done n line after words asm ends fits = record {
     foreign = ap not (end_printable line ends);
     fields = λ rule le. refl;
+    file = λ rule. refl;
+    accepts = refl;
     room = rw (ends, asm, fits) refl;
     assembler = assembled done n done [] line after (Ok words) (sym (append-nil done)) asm tt ends;
   }
@@ -454,9 +568,9 @@ line_outside state n line lines m rule next e = by_rule (broken_by state line) r
     by_rule : (o : Option Rule) → broken_by state line ≡ o → FirstAmong (Outside state) n (line ∷ lines) m rule
     by_rule (Some r) h =
         let f = rw h at e in
-        let x = found (breaks state line) 1 rules r rules_from h in
+        let x = found (breaks state line) 1 rules r (λ e. absurd (omega (arith, e))) (λ e. absurd (omega (arith, e))) rules_from h in
         renamed (Outside state) n (line ∷ lines) (n + 1, r) (m, rule) f
-        (now (Outside state) n line lines r (outside_rule state (n + 1) line lines r x.within ∙ x.passes) (λ lower lt. outside_rule state (n + 1) line lines lower (omega (arith, lt, x.within)) ∙ x.lowest lower (at_least_one lower) lt))
+        (now (Outside state) n line lines r (outside_rule state (n + 1) line lines r x.own ∙ x.passes) (λ lower lt. lower_outside state (n + 1) line lines r x lower lt))
     by_rule None h =
         let f = rw h at e in
         by_kept (kept state (fields_of line)) (keeps_outside state (n + 1) line lines h) refl f

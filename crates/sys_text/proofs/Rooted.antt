@@ -60,7 +60,7 @@ place_again (x ∷ images) (suc i) image e once = by_name (λ h. place_again ima
 -- ---- a root
 
 abbrev pub at_roots : Stage → System → List Root → State
-at_roots stage s done = record { stage = stage; system = with_lists s s.images done []; block = None }
+at_roots stage s done = record { stage = stage; system = with_lists s s.images done []; block = None; file = None }
 
 -- the fields of a line stand for the parts of a root
 record Spells (s : System) (root : Root) (home backup mode name limit births tty : List ℕ) : Type 0 where
@@ -111,6 +111,7 @@ keeps_root state s root home backup mode name limit births tty ec ei f p room = 
   line = lines.Root (fields_of_root root) name;
   read = rw (f.home_is, f.backup_is, f.mode_is, f.name_is, f.limit_is, f.births_is, f.tty_is) refl;
   rules = record { limits = rw (ec, p.home, p.backup, p.limit, p.births, p.tty) refl; same = p.apart; name = rw (ei, f.image_is) refl; room = le-ltb 32 (places_with state.system root.births) room };
+  file = refl;
 }
 
 adds_root : (stage : Stage) (s : System) (done : List Root) (root : Root) (home backup mode name limit births tty : List ℕ) → Spells s root home backup mode name limit births tty

@@ -11,7 +11,7 @@ use Rattle.std.proofs.lemmas.Slice.Eq.{bytes_eq-Decides}
 use Rattle.sys_text.specs.declared.system.Image.{Image}
 use Rattle.sys_text.specs.declared.system.Root.{Root}
 use Rattle.sys_text.specs.declared.state.State.{State}
-use Rattle.sys_text.specs.Valid.{is_within, is_pair, is_name, is_named_once, births_of, is_chan, links}
+use Rattle.sys_text.specs.Valid.{is_within, is_entry, is_pair, is_name, is_named_once, births_of, is_chan, links}
 use Rattle.sys_text.specs.Rules.{place_of}
 use Rattle.sys_text.proofs.Bounds.{first_of_two, second_of_two}
 use Rattle.sys_text.proofs.Printed.{both, all_joined}
@@ -20,9 +20,13 @@ use Rattle.sys_text.proofs.Standing.{rank}
 
 -- ---- what is kept, but for the types of the code
 
--- a name, 1 to 256 pages, and words that fit them
+-- a name, 1 to 256 pages, and an entry in them
+abbrev pub is_headed : Image → Bool
+is_headed image = is_name image.name && is_within 1 256 image.pages && is_entry image.pages image.entry
+
+-- and words that fit them
 abbrev pub is_shaped : Image → Bool
-is_shaped image = is_name image.name && is_within 1 256 image.pages && nat_le (4 * length image.words) (256 * image.pages)
+is_shaped image = is_headed image && nat_le (4 * length image.words) (256 * image.pages)
 
 -- a root of such a number of images
 abbrev pub is_placed : ℕ → ℕ → Root → Bool
@@ -31,11 +35,12 @@ is_placed clusters images root = is_pair clusters root.home root.backup && nat_l
 abbrev pub are_once : List Image → List Image → Bool
 are_once all images = list_all (λ (image : Image). is_named_once all image.name) images
 
--- an image is open that is well shaped, and whose name is new
-pub record HasOpen (images : List Image) (block : Option Image) : Type 0 where
+-- an image is open whose name is new, and that is well shaped where its words are not those of a file
+pub record HasOpen (images : List Image) (file : Option ℕ) (block : Option Image) : Type 0 where
   pub image : Image
   pub is_open : block ≡ Some image
-  pub shaped : is_shaped image ≡ true
+  pub headed : is_headed image ≡ true
+  pub fits : file ≡ None → nat_le (4 * length image.words) (256 * image.pages) ≡ true
   pub fresh : place_of images image.name ≡ None
 
 pub record IsSound (state : State) : Type 0 where
@@ -51,7 +56,7 @@ pub record IsSound (state : State) : Type 0 where
   pub some : 6 ≤ rank state.stage → 1 ≤ length state.system.roots
   pub chans : list_all (is_chan (length state.system.roots)) state.system.chans ≡ true
   pub linked : (root : ℕ) → links state.system.chans root ≤ 31
-  pub block : rank state.stage ≡ 5 → HasOpen state.system.images state.block
+  pub block : rank state.stage ≡ 5 → HasOpen state.system.images state.file state.block
 
 -- ---- small facts
 

@@ -1,5 +1,5 @@
 -- Lines that break no rule keep a system sound.
-use Rattle.std.proofs.Common.{◌≡◌, ℕ, ◌+◌, ◌*◌, ◌<◌, ◌≤◌, Bool, true, false, not, ◌&&◌, ◌||◌, eqb, nat_le, nat_lt, List, [], ◌∷◌, ◌++◌, length, Option, Some, None, refl, ap, ◌∙◌, arith, length-append}
+use Rattle.std.proofs.Common.{◌≡◌, ℕ, ◌+◌, ◌*◌, ◌<◌, ◌≤◌, Bool, true, false, not, ◌&&◌, ◌||◌, eqb, nat_le, nat_lt, List, [], ◌∷◌, ◌++◌, length, Option, Some, None, refl, sym, ap, ◌∙◌, arith, length-append}
 use Rattle.std.specs.List.{list_all}
 use Rattle.std.specs.Prelude.{is_none}
 use Rattle.std.specs.Option.{option_map}
@@ -8,16 +8,19 @@ use Rattle.sys_text.specs.declared.stage.Keyword.{Keyword}
 use Rattle.sys_text.specs.declared.line.RootFields.{RootFields}
 use Rattle.sys_text.specs.declared.system.Image.{Image}
 use Rattle.sys_text.specs.declared.state.State.{State}
-use Rattle.sys_text.specs.Valid.{is_within, is_name, is_chan}
-use Rattle.sys_text.specs.Line.{Line}
+use Rattle.sys_text.specs.Valid.{is_within, is_entry, is_name, is_chan}
+use Rattle.sys_text.specs.Line.{Line, default_entry}
+use Rattle.sys_text.specs.Files.{words_loaded, image_of_file, described}
+use Rattle.sys_text.proofs.FileRules.{of_file, entry_kept}
+use Rattle.sys_text.proofs.FileWords.{words_fit}
 use Rattle.sys_text.specs.Line as lines
-use Rattle.sys_text.specs.Rules.{place_of, image_named, has_root, places_with, keeps_limits, root_of, with_root, fit_open, takes_more, no_words, image_with, with_open, closed, closed_with, add_line, add}
+use Rattle.sys_text.specs.Rules.{place_of, image_named, has_root, places_with, keeps_limits, root_of, with_root, limit_of, fit_limit, fit_open, takes_more, lowest_of_file, no_words, image_with, with_open, closed, closed_with, add_line, add}
 use Rattle.sys_text.proofs.Bounds.{first_of_two, second_of_two}
 use Rattle.sys_text.proofs.Keeping.{Keeps, KeepsRules, le_of, births-root}
 use Rattle.sys_text.proofs.Printed.{both, all_joined}
 use Rattle.sys_text.proofs.Spelling.{keyword_said, said_keyword, HasName, has_name}
 use Rattle.sys_text.proofs.Standing.{rank, StandsAt}
-use Rattle.sys_text.proofs.Sound.{HasOpen, IsSound, is_shaped, is_placed, not_true, none_of, once_push, place_within, more_images, more_roots, links_few}
+use Rattle.sys_text.proofs.Sound.{HasOpen, IsSound, is_headed, is_shaped, is_placed, not_true, none_of, once_push, place_within, more_images, more_roots, links_few}
 
 -- ---- the header
 
@@ -103,8 +106,9 @@ sound_syncsteps state count n st s =
 fits_none : (n : ℕ) → nat_le (4 * 0) (256 * n) ≡ true
 fits_none n = le-leb (4 * 0) (256 * n) (omega arith)
 
-sound_opened : (state : State) (image : List ℕ) (pages : ℕ) → is_name image ≡ true → is_within 1 256 pages ≡ true → place_of state.system.images image ≡ None → 4 ≤ rank state.stage → IsSound state → IsSound (with_open state image pages)
-sound_opened state image pages name within none st s = record {
+sound_opened : (state : State) (name : List ℕ) (pages entry : ℕ) (file : Option ℕ) → is_name name ≡ true → is_within 1 256 pages ≡ true → is_entry pages entry ≡ true → place_of state.system.images name ≡ None → 4 ≤ rank state.stage → IsSound state
+    → IsSound (with_open state (no_words name pages entry) file)
+sound_opened state name pages entry file named within at none st s = record {
   clusters = λ r. s.clusters (omega (arith, st));
   pager = λ r. s.pager (omega (arith, st));
   reads = λ r. s.reads (omega (arith, st));
@@ -117,22 +121,29 @@ sound_opened state image pages name within none st s = record {
   some = λ r. absurd (omega (arith, r));
   chans = s.chans;
   linked = s.linked;
-  block = λ e. record { image = no_words image pages; is_open = refl; shaped = both _ _ (both _ _ name within) (fits_none pages); fresh = none };
+  block = λ e. record { image = no_words name pages entry; is_open = refl; headed = both _ _ (both _ _ named within) at; fits = λ n. fits_none pages; fresh = none };
 }
 
-shape_with : (image : Image) (words : List ℕ) → is_shaped image ≡ true → length words ≤ 64 * image.pages → is_shaped (image_with image words) ≡ true
-shape_with image words h few =
-    both _ _ (first_of_two (is_name image.name && is_within 1 256 image.pages) _ h) (le-leb (4 * length words) (256 * image.pages) (omega (arith, few)))
+-- the default entry is in any memory
+has_default : (pages : ℕ) → is_within 1 256 pages ≡ true → is_entry pages default_entry ≡ true
+has_default pages h = both _ _ refl (both _ _ refl (le-leb (default_entry + 4) (65536 + 256 * pages) (omega (arith, leb-true 1 pages (first_of_two (nat_le 1 pages) _ h)))))
 
-open_more : (images : List Image) (block : Option Image) (words : List ℕ) → not (takes_more block (length words)) ≡ false → HasOpen images block → HasOpen images (option_map (λ image. image_with image (image.words ++ words)) block)
-open_more images block words room h =
-    let image = h.image in
-    let free = rw h.is_open at room in
-    let fit = le_of (length image.words + length words) (64 * image.pages) free in
-    let few : length (image.words ++ words) ≤ 64 * image.pages = omega (arith, fit, length-append image.words words) in
-    record { image = image_with image (image.words ++ words); is_open = rw h.is_open refl; shaped = shape_with image (image.words ++ words) h.shaped few; fresh = h.fresh }
+shape_with : (image : Image) (words : List ℕ) → is_headed image ≡ true → length words ≤ 64 * image.pages → is_shaped (image_with image words) ≡ true
+shape_with image words h few = both _ _ h (le-leb (4 * length words) (256 * image.pages) (omega (arith, few)))
 
-sound_words : (state : State) (words : List ℕ) → not (takes_more state.block (length words)) ≡ false → IsSound state → IsSound (add_line state (lines.Words words))
+open_more : (images : List Image) (file : Option ℕ) (block : Option Image) (words : List ℕ) → not (takes_more file block (length words)) ≡ false → HasOpen images file block → HasOpen images file (option_map (λ image. image_with image (image.words ++ words)) block)
+open_more images file block words room h = record { image = image_with h.image ((h.image).words ++ words); is_open = rw h.is_open refl; headed = h.headed; fits = fits_more h.image (room_of h.image h.is_open); fresh = h.fresh }
+  where
+    room_of : (image : Image) → block ≡ Some image → not (fit_limit (length image.words + length words) (limit_of file image.pages)) ≡ false
+    room_of image is = ap (λ (b : Option Image). not (takes_more file b (length words))) (sym is) ∙ room
+
+    fits_more : (image : Image) → not (fit_limit (length image.words + length words) (limit_of file image.pages)) ≡ false → file ≡ None → nat_le (4 * length (image.words ++ words)) (256 * image.pages) ≡ true
+    fits_more image free none =
+        let own = rw none at free in
+        let fit = le_of (length image.words + length words) (64 * image.pages) own in
+        le-leb (4 * length (image.words ++ words)) (256 * image.pages) (omega (arith, fit, length-append image.words words))
+
+sound_words : (state : State) (words : List ℕ) → not (takes_more state.file state.block (length words)) ≡ false → IsSound state → IsSound (add_line state (lines.Words words))
 sound_words state words room s = record {
   clusters = s.clusters;
   pager = s.pager;
@@ -146,7 +157,7 @@ sound_words state words room s = record {
   some = s.some;
   chans = s.chans;
   linked = s.linked;
-  block = λ e. open_more state.system.images state.block words room (s.block e);
+  block = λ e. open_more state.system.images state.file state.block words room (s.block e);
 }
 
 sound_closed : (state : State) (image : Image) → rank state.stage ≡ 5 → is_shaped image ≡ true → place_of state.system.images image.name ≡ None → IsSound state → IsSound (closed state (Some image))
@@ -173,12 +184,22 @@ pub sound_closed_with : (state : State) (words : List ℕ) → rank state.stage 
 sound_closed_with state words st fit s =
     let h = s.block st in
     let few = leb-true (length words) (64 * h.image.pages) (rw h.is_open at fit) in
-    rw h.is_open (sound_closed state (image_with h.image words) st (shape_with h.image words h.shaped few) h.fresh s)
+    rw h.is_open (sound_closed state (image_with h.image words) st (shape_with h.image words h.headed few) h.fresh s)
 
-sound_end : (state : State) → rank state.stage ≡ 5 → IsSound state → IsSound (closed state state.block)
-sound_end state st s =
-    let h = s.block st in
-    rw h.is_open (sound_closed state h.image st h.shaped h.fresh s)
+sound_end : (state : State) → rank state.stage ≡ 5 → lowest_of_file state lines.End ≡ None → IsSound state → IsSound (add_line state lines.End)
+sound_end state st none s = by_file state.file refl
+  where
+    by_file : (o : Option ℕ) → state.file ≡ o → IsSound (closed state (option_map (described state.file) state.block))
+    by_file None e =
+        let opened = (s.block st).is_open in
+        rw (opened, e) (sound_closed state (s.block st).image st (both _ _ (s.block st).headed ((s.block st).fits e)) (s.block st).fresh s)
+    by_file (Some size) e =
+        let opened = (s.block st).is_open in
+        let image = (s.block st).image in
+        let at = entry_kept size image.words image.pages (of_file state image size opened e none) in
+        let headed : is_headed (image_of_file size image) ≡ true = both _ _ (first_of_two (is_name image.name && is_within 1 256 image.pages) _ (s.block st).headed) at in
+        let few = le-leb (4 * length (words_loaded size image.words image.pages)) (256 * image.pages) (words_fit size image.words image.pages) in
+        rw (opened, e) (sound_closed state (image_of_file size image) st (both _ _ headed few) (s.block st).fresh s)
 
 -- ---- roots
 
@@ -255,19 +276,26 @@ sound_chan state first second k st s =
 
 -- ---- any line
 
-sound_line : (state : State) (line : Line) → KeepsRules state line → HasName line → StandsAt (rank state.stage) (keyword_said line) → IsSound state → IsSound (add_line state line)
-sound_line state (lines.Clusters count) k named st s = sound_clusters state count (not-false _ k.limits) st s
-sound_line state (lines.Pager first second) k named st s = sound_pager state first second k st s
-sound_line state (lines.Syncreads count) k named st s = sound_syncreads state count (not-false _ k.limits) st s
-sound_line state (lines.Syncsteps count) k named st s = sound_syncsteps state count (not-false _ k.limits) st s
-sound_line state (lines.Image name pages) k named st s = sound_opened state name pages named (not-false _ k.limits) (none_of (place_of state.system.images name) k.name) st s
-sound_line state (lines.Asm name pages) k named st s = sound_opened state name pages named (not-false _ k.limits) (none_of (place_of state.system.images name) k.name) st s
-sound_line state (lines.Words words) k named st s = sound_words state words k.room s
-sound_line state lines.End k named st s = sound_end state st s
-sound_line state (lines.Root root image) k named st s = sound_root state root image k st s
-sound_line state (lines.Chan first second) k named st s = sound_chan state first second k st s
+sound_line : (state : State) (line : Line) → KeepsRules state line → lowest_of_file state line ≡ None → HasName line → StandsAt (rank state.stage) (keyword_said line) → IsSound state → IsSound (add_line state line)
+sound_line state (lines.Clusters count) k file named st s = sound_clusters state count (not-false _ k.limits) st s
+sound_line state (lines.Pager first second) k file named st s = sound_pager state first second k st s
+sound_line state (lines.Syncreads count) k file named st s = sound_syncreads state count (not-false _ k.limits) st s
+sound_line state (lines.Syncsteps count) k file named st s = sound_syncsteps state count (not-false _ k.limits) st s
+sound_line state (lines.Image name pages entry) k file named st s =
+    let limits = not-false (is_within 1 256 pages && is_entry pages entry) k.limits in
+    sound_opened state name pages entry None named (first_of_two (is_within 1 256 pages) _ limits) (second_of_two (is_within 1 256 pages) _ limits) (none_of (place_of state.system.images name) k.name) st s
+sound_line state (lines.Asm name pages) k file named st s =
+    let limits = not-false (is_within 1 256 pages) k.limits in
+    sound_opened state name pages default_entry None named limits (has_default pages limits) (none_of (place_of state.system.images name) k.name) st s
+sound_line state (lines.Elf name pages size) k file named st s =
+    let limits = first_of_two (is_within 1 256 pages) _ (not-false (is_within 1 256 pages && is_within 1 65536 size) k.limits) in
+    sound_opened state name pages default_entry (Some size) named limits (has_default pages limits) (none_of (place_of state.system.images name) k.name) st s
+sound_line state (lines.Words words) k file named st s = sound_words state words k.room s
+sound_line state lines.End k file named st s = sound_end state st file s
+sound_line state (lines.Root root image) k file named st s = sound_root state root image k st s
+sound_line state (lines.Chan first second) k file named st s = sound_chan state first second k st s
 
 pub sound_add : (state : State) (keyword : Keyword) (fields : List (List ℕ)) → Keeps state keyword fields → StandsAt (rank state.stage) keyword → IsSound state → IsSound (add state keyword fields)
 sound_add state keyword fields k st s =
     let at : StandsAt (rank state.stage) (keyword_said k.line) = rw (said_keyword keyword fields k.line k.read) st in
-    rw k.read (sound_line state k.line k.rules (has_name keyword fields k.line k.read) at s)
+    rw k.read (sound_line state k.line k.rules k.file (has_name keyword fields k.line k.read) at s)

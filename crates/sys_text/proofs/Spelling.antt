@@ -11,7 +11,7 @@ use Rattle.sys_text.specs.declared.line.RootFields.{RootFields}
 use Rattle.sys_text.specs.declared.state.State.{State}
 use Rattle.sys_text.specs.Valid.{is_name}
 use Rattle.sys_text.specs.Kinds.{mode_named}
-use Rattle.sys_text.specs.Line.{Line, name_of, is_word_field, both_of, root_with, or_kind, one_number, two_numbers, name_and_pages, some_words, no_field, root_fields, as_line, line_of}
+use Rattle.sys_text.specs.Line.{Line, name_of, is_word_field, both_of, all_of, default_entry, root_with, or_kind, one_number, two_numbers, name_and_pages, image_header, file_header, some_words, no_field, root_fields, as_line, line_of}
 use Rattle.sys_text.specs.Line as lines
 use Rattle.sys_text.specs.Rules.{lowest_with}
 
@@ -50,8 +50,9 @@ keyword_said (lines.Clusters count) = keywords.Clusters
 keyword_said (lines.Pager first second) = keywords.Pager
 keyword_said (lines.Syncreads count) = keywords.Syncreads
 keyword_said (lines.Syncsteps count) = keywords.Syncsteps
-keyword_said (lines.Image name pages) = keywords.Image
+keyword_said (lines.Image name pages entry) = keywords.Image
 keyword_said (lines.Asm name pages) = keywords.Asm
+keyword_said (lines.Elf name pages size) = keywords.Elf
 keyword_said (lines.Words words) = keywords.Words
 keyword_said lines.End = keywords.End
 keyword_said (lines.Root root image) = keywords.Root
@@ -65,8 +66,9 @@ said_keyword keywords.Clusters fields line e = said_by lines.Clusters keywords.C
 said_keyword keywords.Pager fields line e = said_by (λ (p : ℕ × ℕ). lines.Pager p.0 p.1) keywords.Pager (two_numbers fields) line (λ x. refl) e
 said_keyword keywords.Syncreads fields line e = said_by lines.Syncreads keywords.Syncreads (one_number fields) line (λ x. refl) e
 said_keyword keywords.Syncsteps fields line e = said_by lines.Syncsteps keywords.Syncsteps (one_number fields) line (λ x. refl) e
-said_keyword keywords.Image fields line e = said_by (λ (p : List ℕ × ℕ). lines.Image p.0 p.1) keywords.Image (name_and_pages fields) line (λ x. refl) e
+said_keyword keywords.Image fields line e = said_by (λ (p : List ℕ × ℕ × ℕ). lines.Image p.0 p.1 p.2) keywords.Image (image_header fields) line (λ x. refl) e
 said_keyword keywords.Asm fields line e = said_by (λ (p : List ℕ × ℕ). lines.Asm p.0 p.1) keywords.Asm (name_and_pages fields) line (λ x. refl) e
+said_keyword keywords.Elf fields line e = said_by (λ (p : List ℕ × ℕ × ℕ). lines.Elf p.0 p.1 p.2) keywords.Elf (file_header fields) line (λ x. refl) e
 said_keyword keywords.Words fields line e = said_by lines.Words keywords.Words (some_words fields) line (λ x. refl) e
 said_keyword keywords.End fields line e = said_by (λ (none : Unit {0}). lines.End) keywords.End (no_field fields) line (λ x. refl) e
 said_keyword keywords.Root fields line e = said_by (λ (p : RootFields × List ℕ). lines.Root p.0 p.1) keywords.Root (root_fields fields) line (λ x. refl) e
@@ -75,8 +77,9 @@ said_keyword keywords.Chan fields line e = said_by (λ (p : ℕ × ℕ). lines.C
 -- ---- the name of an image
 
 abbrev pub HasName : Line → Type 0
-HasName (lines.Image name pages) = is_name name ≡ true
+HasName (lines.Image name pages entry) = is_name name ≡ true
 HasName (lines.Asm name pages) = is_name name ≡ true
+HasName (lines.Elf name pages size) = is_name name ≡ true
 HasName line = Unit {0}
 
 header_name : (fields : List (List ℕ)) (p : List ℕ × ℕ) → name_and_pages fields ≡ Ok p → is_name p.0 ≡ true
@@ -88,13 +91,39 @@ header_name (name ∷ f ∷ []) p e =
     rw (← named.1) named.0
 header_name (name ∷ f ∷ g ∷ fields) p e = absurd cc
 
+first_of_all : {X Y Z : Type 0} (o : Option X) (p : Option Y) (q : Option Z) (x : X × Y × Z) → all_of o p q ≡ Some x → o ≡ Some x.0
+first_of_all None p q x e = absurd cc
+first_of_all (Some a) None q x e = absurd cc
+first_of_all (Some a) (Some b) None x e = absurd cc
+first_of_all {X = X} {Y = Y} {Z = Z} (Some a) (Some b) (Some c) x e = let same : (a, b, c) ≡ x = cc in ap (λ (y : X × Y × Z). Some y.0) same
+
+named_first : (name : List ℕ) (o p : Option ℕ) (x : List ℕ × ℕ × ℕ) → or_kind (all_of (name_of name) o p) ≡ Ok x → is_name x.0 ≡ true
+named_first name o p x e =
+    let named = name_is name x.0 (first_of_all (name_of name) o p x (kind_of _ x e)) in
+    rw (← named.1) named.0
+
+image_name_is : (fields : List (List ℕ)) (x : List ℕ × ℕ × ℕ) → image_header fields ≡ Ok x → is_name x.0 ≡ true
+image_name_is [] x e = absurd cc
+image_name_is (name ∷ []) x e = absurd cc
+image_name_is (name ∷ f ∷ []) x e = named_first name (number_of f) (Some default_entry) x e
+image_name_is (name ∷ f ∷ g ∷ []) x e = named_first name (number_of f) (number_of g) x e
+image_name_is (name ∷ f ∷ g ∷ h ∷ fields) x e = absurd cc
+
+file_name_is : (fields : List (List ℕ)) (x : List ℕ × ℕ × ℕ) → file_header fields ≡ Ok x → is_name x.0 ≡ true
+file_name_is [] x e = absurd cc
+file_name_is (name ∷ []) x e = absurd cc
+file_name_is (name ∷ f ∷ []) x e = absurd cc
+file_name_is (name ∷ f ∷ g ∷ []) x e = named_first name (number_of f) (number_of g) x e
+file_name_is (name ∷ f ∷ g ∷ h ∷ fields) x e = absurd cc
+
 pub has_name : (keyword : Keyword) (fields : List (List ℕ)) (line : Line) → line_of keyword fields ≡ Ok line → HasName line
 has_name keywords.Clusters fields line e = let x = as_ok lines.Clusters (one_number fields) line e in rw x.2 tt
 has_name keywords.Pager fields line e = let x = as_ok (λ (p : ℕ × ℕ). lines.Pager p.0 p.1) (two_numbers fields) line e in rw x.2 tt
 has_name keywords.Syncreads fields line e = let x = as_ok lines.Syncreads (one_number fields) line e in rw x.2 tt
 has_name keywords.Syncsteps fields line e = let x = as_ok lines.Syncsteps (one_number fields) line e in rw x.2 tt
-has_name keywords.Image fields line e = let x = as_ok (λ (p : List ℕ × ℕ). lines.Image p.0 p.1) (name_and_pages fields) line e in rw x.2 (header_name fields x.0 x.1)
+has_name keywords.Image fields line e = let x = as_ok (λ (p : List ℕ × ℕ × ℕ). lines.Image p.0 p.1 p.2) (image_header fields) line e in rw x.2 (image_name_is fields x.0 x.1)
 has_name keywords.Asm fields line e = let x = as_ok (λ (p : List ℕ × ℕ). lines.Asm p.0 p.1) (name_and_pages fields) line e in rw x.2 (header_name fields x.0 x.1)
+has_name keywords.Elf fields line e = let x = as_ok (λ (p : List ℕ × ℕ × ℕ). lines.Elf p.0 p.1 p.2) (file_header fields) line e in rw x.2 (file_name_is fields x.0 x.1)
 has_name keywords.Words fields line e = let x = as_ok lines.Words (some_words fields) line e in rw x.2 tt
 has_name keywords.End fields line e = let x = as_ok (λ (none : Unit {0}). lines.End) (no_field fields) line e in rw x.2 tt
 has_name keywords.Root fields line e = let x = as_ok (λ (p : RootFields × List ℕ). lines.Root p.0 p.1) (root_fields fields) line e in rw x.2 tt
@@ -131,6 +160,20 @@ header_of_fields (f ∷ []) rule e = by_count (name_and_pages (f ∷ [])) rule r
 header_of_fields (f ∷ g ∷ []) rule e = by_kind (both_of (name_of f) (number_of g)) rule e
 header_of_fields (f ∷ g ∷ h ∷ fields) rule e = by_count (name_and_pages (f ∷ g ∷ h ∷ fields)) rule refl e
 
+image_of_fields : (fields : List (List ℕ)) (rule : Rule) → image_header fields ≡ Err rule → IsOfFields rule
+image_of_fields [] rule e = by_count (image_header []) rule refl e
+image_of_fields (f ∷ []) rule e = by_count (image_header (f ∷ [])) rule refl e
+image_of_fields (f ∷ g ∷ []) rule e = by_kind (all_of (name_of f) (number_of g) (Some default_entry)) rule e
+image_of_fields (f ∷ g ∷ h ∷ []) rule e = by_kind (all_of (name_of f) (number_of g) (number_of h)) rule e
+image_of_fields (f ∷ g ∷ h ∷ i ∷ fields) rule e = by_count (image_header (f ∷ g ∷ h ∷ i ∷ fields)) rule refl e
+
+file_of_fields : (fields : List (List ℕ)) (rule : Rule) → file_header fields ≡ Err rule → IsOfFields rule
+file_of_fields [] rule e = by_count (file_header []) rule refl e
+file_of_fields (f ∷ []) rule e = by_count (file_header (f ∷ [])) rule refl e
+file_of_fields (f ∷ g ∷ []) rule e = by_count (file_header (f ∷ g ∷ [])) rule refl e
+file_of_fields (f ∷ g ∷ h ∷ []) rule e = by_kind (all_of (name_of f) (number_of g) (number_of h)) rule e
+file_of_fields (f ∷ g ∷ h ∷ i ∷ fields) rule e = by_count (file_header (f ∷ g ∷ h ∷ i ∷ fields)) rule refl e
+
 words_of_fields : (fields : List (List ℕ)) (rule : Rule) → some_words fields ≡ Err rule → IsOfFields rule
 words_of_fields [] rule e = by_count (some_words []) rule refl e
 words_of_fields (f ∷ fields) rule e = by_test (list_all is_word_field (f ∷ fields)) refl
@@ -159,8 +202,9 @@ of_fields keywords.Clusters fields rule e = one_of_fields fields rule (as_err li
 of_fields keywords.Pager fields rule e = two_of_fields fields rule (as_err (λ (p : ℕ × ℕ). lines.Pager p.0 p.1) (two_numbers fields) rule e)
 of_fields keywords.Syncreads fields rule e = one_of_fields fields rule (as_err lines.Syncreads (one_number fields) rule e)
 of_fields keywords.Syncsteps fields rule e = one_of_fields fields rule (as_err lines.Syncsteps (one_number fields) rule e)
-of_fields keywords.Image fields rule e = header_of_fields fields rule (as_err (λ (p : List ℕ × ℕ). lines.Image p.0 p.1) (name_and_pages fields) rule e)
+of_fields keywords.Image fields rule e = image_of_fields fields rule (as_err (λ (p : List ℕ × ℕ × ℕ). lines.Image p.0 p.1 p.2) (image_header fields) rule e)
 of_fields keywords.Asm fields rule e = header_of_fields fields rule (as_err (λ (p : List ℕ × ℕ). lines.Asm p.0 p.1) (name_and_pages fields) rule e)
+of_fields keywords.Elf fields rule e = file_of_fields fields rule (as_err (λ (p : List ℕ × ℕ × ℕ). lines.Elf p.0 p.1 p.2) (file_header fields) rule e)
 of_fields keywords.Words fields rule e = words_of_fields fields rule (as_err lines.Words (some_words fields) rule e)
 of_fields keywords.End fields rule e = none_of_fields fields rule (as_err (λ (none : Unit {0}). lines.End) (no_field fields) rule e)
 of_fields keywords.Root fields rule e = root_of_fields fields rule (as_err (λ (p : RootFields × List ℕ). lines.Root p.0 p.1) (root_fields fields) rule e)
@@ -180,3 +224,4 @@ rule_named state keyword fields rule e = by_rule rule e (of_fields keyword field
     by_rule rules.Room e is = absurd is
     by_rule rules.Assembler e is = absurd is
     by_rule rules.Ended e is = absurd is
+    by_rule (rules.Elf elf) e is = absurd is

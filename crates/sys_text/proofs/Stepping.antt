@@ -1,5 +1,4 @@
 use Rattle.std.proofs.Common.{◌≡◌, ℕ, false, Err, refl}
-use Rattle.sys_text.specs.declared.refusal.SystemRefused.TheVariants as refusals
 use Rattle.sys_text.specs.declared.stage.Stage.{Stage}
 use Rattle.sys_text.specs.declared.refusal.Rule.TheVariants.{Ended}
 use Rattle.sys_text.specs.declared.system.System.{System}

@@ -1,8 +1,8 @@
 -- A line of words, field by field.
-use Rattle.std.proofs.Common.{◌≡◌, ℕ, zero, suc, ◌+◌, ◌*◌, ◌<◌, ◌≤◌, Bool, true, false, List, [], ◌∷◌, ◌++◌, length, Option, Some, None, Ok, Err, Result, refl, sym, ap, ◌∙◌, arith, append_assoc}
+use Rattle.std.proofs.Common.{◌≡◌, ℕ, zero, suc, ◌+◌, ◌≤◌, Bool, true, false, List, [], ◌∷◌, ◌++◌, length, Option, Some, None, Ok, Err, Result, refl, sym, ap, ◌∙◌, arith, append_assoc}
 use Rattle.std.specs.Prelude.{◌&&◌, nat_le, OnOk, IfErr}
 use Rattle.std.specs.List.{list_all}
-use Rattle.std.proofs.lemmas.Bool.{le-leb, lt-leb}
+use Rattle.std.proofs.lemmas.Bool.{le-leb}
 use Rattle.std.proofs.lemmas.List.{append-nil, length-append}
 use Rattle.std.proofs.lemmas.List.Elements.{filter_map-append}
 use Rattle.std.proofs.lemmas.List.Folds.{list_all-append}
@@ -15,7 +15,7 @@ use Rattle.sys_text.specs.declared.system.Image.{Image}
 use Rattle.sys_text.specs.declared.state.State.{State}
 use Rattle.sys_text.specs.Line.{words_in, is_word_field, line_of}
 use Rattle.sys_text.specs.Line as lines
-use Rattle.sys_text.specs.Rules.{broken_by, lowest_with, image_with, add}
+use Rattle.sys_text.specs.Rules.{limit_of, fit_limit, broken_by, lowest_with, image_with, add}
 use Rattle.sys_text.specs.Fronts.{Starts}
 use Rattle.sys_text.specs.Reading.{Goes, Outside, step_outside}
 use Rattle.sys_text.specs.Answers.{ClosesBlock}
@@ -73,7 +73,7 @@ read_all old new rest all s none =
     let words : new ≡ old ++ words_in all = s.words ∙ ap (λ (t : List (List ℕ)). old ++ words_in t) whole in
     record { are = are; words = words; size = ap length words ∙ length-append old (words_in all) ∙ ap (λ (k : ℕ). length old + k) (words_length all are) }
 
-pub no_fields : (old new : List ℕ) (all : List (List ℕ)) (pages : ℕ) → Read old new all → length new ≡ length old → lowest_of_words (length old) pages all ≡ Some FieldCount
+pub no_fields : (old new : List ℕ) (all : List (List ℕ)) (pages : Option ℕ) → Read old new all → length new ≡ length old → lowest_of_words (length old) pages all ≡ Some FieldCount
 no_fields old new all pages r same = by_fields all (omega (arith, r.size, same))
   where
     by_fields : (fields : List (List ℕ)) → length fields ≡ 0 → lowest_of_words (length old) pages fields ≡ Some FieldCount
@@ -87,30 +87,30 @@ some_of old new all r differ = le-leb 1 (length all) (at_least (length all) refl
     at_least zero e = absurd (differ (r.size ∙ ap (λ (n : ℕ). length old + n) e ∙ omega arith))
     at_least (suc k) e = omega arith
 
-pub no_room : (old new : List ℕ) (all : List (List ℕ)) (pages : ℕ) → Read old new all → (length new ≡ length old → ⊥) → 64 * pages < length new → lowest_of_words (length old) pages all ≡ Some Room
+pub no_room : (old new : List ℕ) (all : List (List ℕ)) (pages : Option ℕ) → Read old new all → (length new ≡ length old → ⊥) → fit_limit (length new) pages ≡ false → lowest_of_words (length old) pages all ≡ Some Room
 no_room old new all pages r differ over =
-    let many : nat_le (length old + length all) (64 * pages) ≡ false = lt-leb (length old + length all) (64 * pages) (omega (arith, over, r.size)) in
+    let many : fit_limit (length old + length all) pages ≡ false = ap (λ (n : ℕ). fit_limit n pages) (sym r.size) ∙ over in
     rw (some_of old new all r differ, r.are, many) refl
 
-pub in_room : (old new : List ℕ) (all : List (List ℕ)) (pages : ℕ) → Read old new all → (length new ≡ length old → ⊥) → length new ≤ 64 * pages → lowest_of_words (length old) pages all ≡ None
+pub in_room : (old new : List ℕ) (all : List (List ℕ)) (pages : Option ℕ) → Read old new all → (length new ≡ length old → ⊥) → fit_limit (length new) pages ≡ true → lowest_of_words (length old) pages all ≡ None
 in_room old new all pages r differ fits =
-    let few : nat_le (length old + length all) (64 * pages) ≡ true = le-leb (length old + length all) (64 * pages) (omega (arith, fits, r.size)) in
+    let few : fit_limit (length old + length all) pages ≡ true = ap (λ (n : ℕ). fit_limit n pages) (sym r.size) ∙ fits in
     rw (some_of old new all r differ, r.are, few) refl
 
 -- ---- what the line leads to
 
-words_lowest : (state : State) (image : Image) (fields : List (List ℕ)) → state.block ≡ Some image → lowest_with state Words fields ≡ lowest_of_words (length image.words) image.pages fields
+words_lowest : (state : State) (image : Image) (fields : List (List ℕ)) → state.block ≡ Some image → lowest_with state Words fields ≡ lowest_of_words (length image.words) (limit_of state.file image.pages) fields
 words_lowest state image [] is = refl
 words_lowest state image (field ∷ fields) is = by_words (list_all is_word_field (field ∷ fields)) refl
   where
-    by_words : (b : Bool) → list_all is_word_field (field ∷ fields) ≡ b → lowest_with state Words (field ∷ fields) ≡ lowest_of_words (length image.words) image.pages (field ∷ fields)
+    by_words : (b : Bool) → list_all is_word_field (field ∷ fields) ≡ b → lowest_with state Words (field ∷ fields) ≡ lowest_of_words (length image.words) (limit_of state.file image.pages) (field ∷ fields)
     by_words true h = rw (some_fields [] fields field, h, words_length (field ∷ fields) h, is) refl
     by_words false h = rw (some_fields [] fields field, h) refl
 
-words_rules : (state : State) (image : Image) (line rest : List ℕ) → state.block ≡ Some image → Starts state line Words (fields_of rest) → broken_by state line ≡ lowest_of_words (length image.words) image.pages (fields_of rest)
+words_rules : (state : State) (image : Image) (line rest : List ℕ) → state.block ≡ Some image → Starts state line Words (fields_of rest) → broken_by state line ≡ lowest_of_words (length image.words) (limit_of state.file image.pages) (fields_of rest)
 words_rules state image line rest is s = s.broken ∙ words_lowest state image (fields_of rest) is
 
-words_read : (words pages : ℕ) (fields : List (List ℕ)) → lowest_of_words words pages fields ≡ None → line_of Words fields ≡ Ok (lines.Words (words_in fields))
+words_read : (words : ℕ) (pages : Option ℕ) (fields : List (List ℕ)) → lowest_of_words words pages fields ≡ None → line_of Words fields ≡ Ok (lines.Words (words_in fields))
 words_read words pages [] e = absurd cc
 words_read words pages (field ∷ fields) e = by_words (list_all is_word_field (field ∷ fields)) refl
   where
@@ -120,18 +120,18 @@ words_read words pages (field ∷ fields) e = by_words (list_all is_word_field (
 
 -- the state with this image of the block
 abbrev pub with_block : State → Image → State
-with_block state image = record { stage = state.stage; system = state.system; block = Some image }
+with_block state image = record { stage = state.stage; system = state.system; block = Some image; file = state.file }
 
-words_kept : (state : State) (image : Image) (fields : List (List ℕ)) → state.block ≡ Some image → lowest_of_words (length image.words) image.pages fields ≡ None → add state Words fields ≡ with_block state (image_with image (image.words ++ words_in fields))
-words_kept state image fields is e = rw (words_read (length image.words) image.pages fields e, is) refl
+words_kept : (state : State) (image : Image) (fields : List (List ℕ)) → state.block ≡ Some image → lowest_of_words (length image.words) (limit_of state.file image.pages) fields ≡ None → add state Words fields ≡ with_block state (image_with image (image.words ++ words_in fields))
+words_kept state image fields is e = rw (words_read (length image.words) (limit_of state.file image.pages) fields e, is) refl
 
-words_go : (state : State) (image : Image) (n : ℕ) (line rest : List ℕ) → state.block ≡ Some image → Starts state line Words (fields_of rest) → lowest_of_words (length image.words) image.pages (fields_of rest) ≡ None → step_outside state n line ≡ Goes (Outside (with_block state (image_with image (image.words ++ words_in (fields_of rest)))))
+words_go : (state : State) (image : Image) (n : ℕ) (line rest : List ℕ) → state.block ≡ Some image → Starts state line Words (fields_of rest) → lowest_of_words (length image.words) (limit_of state.file image.pages) (fields_of rest) ≡ None → step_outside state n line ≡ Goes (Outside (with_block state (image_with image (image.words ++ words_in (fields_of rest)))))
 words_go state image n line rest is s none =
     let broken : broken_by state line ≡ None = words_rules state image line rest is s ∙ none in
     rw (broken, s.kept, words_kept state image (fields_of rest) is none) refl
 
 pub words_step : (state : State) (image new : Image) (n : ℕ) (line rest : List ℕ) (r : Result (Unit {0}) SystemRefused) → state.block ≡ Some image → Starts state line Words (fields_of rest)
-    → OnOk r (new ≡ image_with image (image.words ++ words_in (fields_of rest))) → OnOk r (lowest_of_words (length image.words) image.pages (fields_of rest) ≡ None)
-    → IfErr r (λ refused. RefusesBy refused n (lowest_of_words (length image.words) image.pages (fields_of rest))) → ClosesBlock r (with_block state new) (step_outside state n line)
+    → OnOk r (new ≡ image_with image (image.words ++ words_in (fields_of rest))) → OnOk r (lowest_of_words (length image.words) (limit_of state.file image.pages) (fields_of rest) ≡ None)
+    → IfErr r (λ refused. RefusesBy refused n (lowest_of_words (length image.words) (limit_of state.file image.pages) (fields_of rest))) → ClosesBlock r (with_block state new) (step_outside state n line)
 words_step state image new n line rest (Ok done) is w added none by = rw added (words_go state image n line rest is w none)
-words_step state image new n line rest (Err refused) is w added none by = refused_at state n line (lowest_of_words (length image.words) image.pages (fields_of rest)) refused (words_rules state image line rest is w) by
+words_step state image new n line rest (Err refused) is w added none by = refused_at state n line (lowest_of_words (length image.words) (limit_of state.file image.pages) (fields_of rest)) refused (words_rules state image line rest is w) by

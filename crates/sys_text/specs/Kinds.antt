@@ -14,9 +14,10 @@ name is value = (name, value)
 -- the first fields of the lines
 abbrev pub keywords_by_name : List (List ℕ × Keyword)
 keywords_by_name =
-    (codes "clusters" is keywords.Clusters) ∷ (codes "pager" is keywords.Pager) ∷ (codes "syncreads" is keywords.Syncreads) ∷ (codes "syncsteps" is keywords.Syncsteps)
-    ∷ (codes "image" is keywords.Image) ∷ (codes "asm" is keywords.Asm) ∷ (codes "words" is keywords.Words) ∷ (codes "end" is keywords.End)
-    ∷ (codes "root" is keywords.Root) ∷ (codes "chan" is keywords.Chan) ∷ []
+    (codes "clusters" is keywords.Clusters) ∷ (codes "pager" is keywords.Pager) ∷ (codes "syncreads" is keywords.Syncreads)
+    ∷ (codes "syncsteps" is keywords.Syncsteps)
+    ∷ (codes "image" is keywords.Image) ∷ (codes "asm" is keywords.Asm) ∷ (codes "elf" is keywords.Elf)
+    ∷ (codes "words" is keywords.Words) ∷ (codes "end" is keywords.End) ∷ (codes "root" is keywords.Root) ∷ (codes "chan" is keywords.Chan) ∷ []
 
 -- the modes by their names
 abbrev pub modes_by_name : List (List ℕ × Mode)

@@ -1,6 +1,8 @@
 pub mod Valid
 pub mod Text
 pub mod Boot
+pub mod Files
+pub mod FileRefusals
 pub mod Refusal
 pub mod Kinds
 pub mod Line

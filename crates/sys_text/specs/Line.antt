@@ -19,8 +19,9 @@ pub data Line : Type 0 where
   Pager : (first second : ℕ) → Line
   Syncreads : (count : ℕ) → Line
   Syncsteps : (count : ℕ) → Line
-  Image : (name : List ℕ) (pages : ℕ) → Line
+  Image : (name : List ℕ) (pages entry : ℕ) → Line
   Asm : (name : List ℕ) (pages : ℕ) → Line
+  Elf : (name : List ℕ) (pages size : ℕ) → Line
   Words : (words : List ℕ) → Line
   End : Line
   Root : (root : RootFields) (image : List ℕ) → Line
@@ -71,6 +72,28 @@ abbrev pub name_and_pages : List (List ℕ) → Result (List ℕ × ℕ) Rule
 name_and_pages (name ∷ pages ∷ []) = or_kind (both_of (name_of name) (number_of pages))
 name_and_pages fields = Err FieldCount
 
+-- what three fields stand for, if all do
+abbrev pub all_of : {X Y Z : Type 0} → Option X → Option Y → Option Z → Option (X × Y × Z)
+all_of None second third = None
+all_of (Some x) None third = None
+all_of (Some x) (Some y) None = None
+all_of (Some x) (Some y) (Some z) = Some (x, y, z)
+
+-- the address of the first instruction, where a text does not say it
+abbrev pub default_entry : ℕ
+default_entry = 0x10000
+
+-- the name of an image, its pages and, where a third field says it, its entry
+abbrev pub image_header : List (List ℕ) → Result (List ℕ × ℕ × ℕ) Rule
+image_header (name ∷ pages ∷ []) = or_kind (all_of (name_of name) (number_of pages) (Some default_entry))
+image_header (name ∷ pages ∷ entry ∷ []) = or_kind (all_of (name_of name) (number_of pages) (number_of entry))
+image_header fields = Err FieldCount
+
+-- the name of an image, its pages, and how many bytes its file has
+abbrev pub file_header : List (List ℕ) → Result (List ℕ × ℕ × ℕ) Rule
+file_header (name ∷ pages ∷ size ∷ []) = or_kind (all_of (name_of name) (number_of pages) (number_of size))
+file_header fields = Err FieldCount
+
 -- one word or more
 abbrev pub some_words : List (List ℕ) → Result (List ℕ) Rule
 some_words [] = Err FieldCount
@@ -98,8 +121,9 @@ line_of keywords.Clusters fields = as_line Clusters (one_number fields)
 line_of keywords.Pager fields = as_line (λ pair. Pager pair.0 pair.1) (two_numbers fields)
 line_of keywords.Syncreads fields = as_line Syncreads (one_number fields)
 line_of keywords.Syncsteps fields = as_line Syncsteps (one_number fields)
-line_of keywords.Image fields = as_line (λ header. Image header.0 header.1) (name_and_pages fields)
+line_of keywords.Image fields = as_line (λ header. Image header.0 header.1 header.2) (image_header fields)
 line_of keywords.Asm fields = as_line (λ header. Asm header.0 header.1) (name_and_pages fields)
+line_of keywords.Elf fields = as_line (λ header. Elf header.0 header.1 header.2) (file_header fields)
 line_of keywords.Words fields = as_line Words (some_words fields)
 line_of keywords.End fields = as_line (λ none. End) (no_field fields)
 line_of keywords.Root fields = as_line (λ root. Root root.0 root.1) (root_fields fields)
@@ -112,8 +136,9 @@ said (lines.Clusters count) = Clusters count
 said (lines.Pager first second) = Pager first second
 said (lines.Syncreads count) = Syncreads count
 said (lines.Syncsteps count) = Syncsteps count
-said (lines.Image name pages) = Image name.now pages
+said (lines.Image name pages entry) = Image name.now pages entry
 said (lines.Asm name pages) = Asm name.now pages
+said (lines.Elf name pages size) = Elf name.now pages size
 said lines.End = End
 said (lines.Root root image) = Root root image.now
 said (lines.Chan first second) = Chan first second

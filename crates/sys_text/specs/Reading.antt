@@ -22,7 +22,7 @@ Answer = Result System (ℕ × Rule)
 
 -- before the first line
 abbrev pub nothing_yet : State
-nothing_yet = record { stage = Start; system = record { clusters = 0; pager = (record { 0 = 0 }, record { 0 = 0 }); syncreads = 0; syncsteps = 0; images = []; roots = []; chans = [] }; block = None }
+nothing_yet = record { stage = Start; system = record { clusters = 0; pager = (record { 0 = 0 }, record { 0 = 0 }); syncreads = 0; syncsteps = 0; images = []; roots = []; chans = [] }; block = None; file = None }
 
 -- ---- the end of an assembler block, and of the text
 

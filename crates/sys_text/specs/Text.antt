@@ -1,5 +1,5 @@
 -- The canonical text of a system: lines of fields.
-use Rattle.std.specs.Prelude.{ℕ, zero, suc, ◌+◌, ◌/◌, ◌%◌, nat_lt, if◌then◌else◌, List, [], ◌∷◌, ◌++◌, length, map, take, drop, codes, slice_get, option_map, unwrap_or}
+use Rattle.std.specs.Prelude.{ℕ, zero, suc, ◌+◌, ◌/◌, ◌%◌, nat_lt, ◌==◌, if◌then◌else◌, List, [], ◌∷◌, ◌++◌, length, map, take, drop, codes, slice_get, option_map, unwrap_or}
 use Rattle.std.specs.List.{flat_map}
 use Rattle.std.specs.Fmt.{decimal}
 use Rattle.t32_base.specs.declared.process.Mode.{Mode}
@@ -7,6 +7,7 @@ use Rattle.t32_base.specs.declared.process.Mode.TheVariants.{Quarter, Half, Full
 use Rattle.sys_text.specs.declared.system.System.{System}
 use Rattle.sys_text.specs.declared.system.Image.{Image}
 use Rattle.sys_text.specs.declared.system.Root.{Root}
+use Rattle.sys_text.specs.Line.{default_entry}
 
 -- one space between the fields of a line, which a line feed ends
 abbrev pub line_text : List (List ℕ) → List ℕ
@@ -38,9 +39,17 @@ words_lines_upto (suc n) (w ∷ ws) = words_line (take 8 (w ∷ ws)) ∷ words_l
 unfoldable pub words_lines : List ℕ → List (List (List ℕ))
 words_lines ws = words_lines_upto (length ws) ws
 
+-- the entry of an image, where it is not the one of a text that does not say it
+abbrev pub entry_fields : ℕ → List (List ℕ)
+entry_fields entry = if entry == default_entry then [] else decimal entry ∷ []
+
+-- the first line of an image block
+abbrev pub image_line : Image → List (List ℕ)
+image_line image = codes "image" ∷ image.name ∷ decimal image.pages ∷ entry_fields image.entry
+
 -- an image block
 abbrev pub image_lines : Image → List (List (List ℕ))
-image_lines image = (codes "image" ∷ image.name ∷ decimal image.pages ∷ []) ∷ (words_lines image.words ++ (codes "end" ∷ []) ∷ [])
+image_lines image = image_line image ∷ (words_lines image.words ++ (codes "end" ∷ []) ∷ [])
 
 abbrev pub mode_text : Mode → List ℕ
 mode_text Quarter = codes "quarter"

@@ -1,8 +1,9 @@
 -- The rules of a system: each system that keeps them has a text, and the system of a text keeps them.
-use Rattle.std.specs.Prelude.{ℕ, ◌+◌, ◌*◌, Bool, not, ◌&&◌, ◌||◌, ◌==◌, nat_le, nat_lt, List, length, take, count_by, sum_by}
+use Rattle.std.specs.Prelude.{ℕ, ◌+◌, ◌*◌, ◌%◌, Bool, not, ◌&&◌, ◌||◌, ◌==◌, nat_le, nat_lt, List, length, take, count_by, sum_by}
 use Rattle.std.specs.List.{list_all, range_with_len}
 use Rattle.std.specs.Str.{bytes_eq}
 use Rattle.t32_base.specs.declared.process.ClusterNo.{ClusterNo}
+use Rattle.rv_elf.specs.Rules.{lies_within}
 use Rattle.sys_text.specs.declared.system.System.{System}
 use Rattle.sys_text.specs.declared.system.Image.{Image}
 use Rattle.sys_text.specs.declared.system.Root.{Root}
@@ -37,10 +38,15 @@ is_name name = is_within 1 16 (length name) && list_all is_letter (take 1 name) 
 abbrev pub is_word : ℕ → Bool
 is_word word = nat_lt word 4294967296
 
--- a name, 1 to 256 pages of 256 bytes, and any words of four bytes that fit them
+-- an instruction may stand at this address, in so many pages
+abbrev pub is_entry : (pages entry : ℕ) → Bool
+is_entry pages entry = (entry % 4 == 0) && lies_within pages entry 4
+
+-- a name, 1 to 256 pages of 256 bytes, an entry in them, and any words of four bytes that fit them
 abbrev pub is_image : Image → Bool
 is_image image =
-    is_name image.name && is_within 1 256 image.pages && nat_le (4 * length image.words) (256 * image.pages)
+    is_name image.name && is_within 1 256 image.pages && is_entry image.pages image.entry
+    && nat_le (4 * length image.words) (256 * image.pages)
     && list_all is_word image.words
 
 -- one image alone has this name

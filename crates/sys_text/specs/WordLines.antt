@@ -11,7 +11,7 @@ use Rattle.sys_text.specs.declared.refusal.SystemRefused.{SystemRefused}
 use Rattle.sys_text.specs.declared.refusal.SystemRefused.TheVariants as refusals
 use Rattle.sys_text.specs.Refusal.{number_of_rule}
 use Rattle.sys_text.specs.Line.{is_word_field}
-use Rattle.sys_text.specs.Rules.{fit_pages}
+use Rattle.sys_text.specs.Rules.{fit_limit}
 
 -- the first field of the line is `words`, and these bytes stand after it
 pub record IsWordsLine (stage : Stage) (line rest : List ℕ) : Type 0 where
@@ -26,12 +26,12 @@ pub record FirstWord (line : List ℕ) (value : Option ℕ) (rest : List ℕ) : 
   pub value_is : word_of field ≡ value
   pub shorter : length rest < length line
 
--- the lowest rule that the fields after `words` break, behind so many words of an image of so many pages
-abbrev pub lowest_of_words : (words pages : ℕ) → List (List ℕ) → Option Rule
+-- the lowest rule that the fields after `words` break, behind so many words of a block of so many pages, where these are a limit
+abbrev pub lowest_of_words : (words : ℕ) → (pages : Option ℕ) → List (List ℕ) → Option Rule
 lowest_of_words words pages fields =
     if not (nat_le 1 (length fields)) then Some FieldCount
     else (if not (list_all (is_word_field) fields) then Some FieldKind
-    else (if not (fit_pages (words + length fields) pages) then Some Room else None))
+    else (if not (fit_limit (words + length fields) pages) then Some Room else None))
 
 -- line n is refused by this rule
 abbrev pub RefusesBy : SystemRefused → ℕ → Option Rule → Type 0

@@ -7,13 +7,14 @@ use crate::stage::Keyword;
 use t32_base::process::Mode;
 use text_parts::lookup;
 
-const KEYWORDS: [(&[u8], Keyword); 10] = [
+const KEYWORDS: [(&[u8], Keyword); 11] = [
     (b"clusters", Keyword::Clusters),
     (b"pager", Keyword::Pager),
     (b"syncreads", Keyword::Syncreads),
     (b"syncsteps", Keyword::Syncsteps),
     (b"image", Keyword::Image),
     (b"asm", Keyword::Asm),
+    (b"elf", Keyword::Elf),
     (b"words", Keyword::Words),
     (b"end", Keyword::End),
     (b"root", Keyword::Root),

@@ -3,6 +3,7 @@
 
 mod adding;
 mod block;
+mod file;
 mod kinds;
 mod line;
 mod open_block;

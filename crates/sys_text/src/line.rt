@@ -4,7 +4,7 @@ ghost use Rattle.text_parts.specs.Lines.{fields_of};
 ghost use Rattle.text_parts.specs.Numbers.{number_of};
 ghost use Rattle.sys_text.specs.declared.stage.Keyword.TheVariants.{Words as WordsOf};
 ghost use Rattle.sys_text.specs.declared.refusal.Rule.TheVariants.{FieldCount};
-ghost use Rattle.sys_text.specs.Line.{name_of, both_of, root_with, one_number, two_numbers, name_and_pages, no_field, root_fields, line_of, said_or_rule};
+ghost use Rattle.sys_text.specs.Line.{name_of, both_of, all_of, default_entry, root_with, one_number, two_numbers, name_and_pages, image_header, file_header, no_field, root_fields, line_of, said_or_rule};
 ghost use Rattle.sys_text.specs.Kinds.{mode_named};
 
 use crate::kinds::mode_named;
@@ -32,9 +32,12 @@ pub enum Line<'a> {
     Pager(u64, u64),
     Syncreads(u64),
     Syncsteps(u64),
+    /// The name of an image, its pages and its entry.
+    Image(&'a [u8], u64, u64),
     /// The name of an image, and its pages.
-    Image(&'a [u8], u64),
     Asm(&'a [u8], u64),
+    /// The name of an image, its pages, and how many bytes its file has.
+    Elf(&'a [u8], u64, u64),
     End,
     /// A root, and the name of its image.
     Root(RootFields, &'a [u8]),
@@ -120,6 +123,61 @@ fn name_and_pages(text: &[u8]) -> Result<(&[u8], u64), Rule>
     }
 }
 
+fn name_with_numbers<'a>(name: &'a [u8], pages: &[u8], last: &[u8]) -> Option<(&'a [u8], u64, u64)>
+    ensures { MatchOption result (all_of (name_of name.now) (number_of pages.now) (number_of last.now) ≡ None) (λ x. all_of (name_of name.now) (number_of pages.now) (number_of last.now) ≡ Some (x.0.now, x.1, x.2)) }
+{
+    let name = name_of(name)?;
+    let pages = number(pages)?;
+    let last = number(last)?;
+    Some((name, pages, last))
+}
+
+/// The entry of an image whose text does not say it.
+const DEFAULT_ENTRY: u64 = 0x10000;
+
+fn with_default_entry<'a>(name: &'a [u8], pages: &[u8]) -> Option<(&'a [u8], u64, u64)>
+    ensures { MatchOption result (all_of (name_of name.now) (number_of pages.now) (Some default_entry) ≡ None) (λ x. all_of (name_of name.now) (number_of pages.now) (Some default_entry) ≡ Some (x.0.now, x.1, x.2)) }
+{
+    let name = name_of(name)?;
+    let pages = number(pages)?;
+    Some((name, pages, DEFAULT_ENTRY))
+}
+
+/// The name of an image, its pages and, where a third field says it, its entry.
+fn image_header(text: &[u8]) -> Result<(&[u8], u64, u64), Rule>
+    ensures { MatchResult result (λ x. image_header (fields_of text.now) ≡ Ok (x.0.now, x.1, x.2)) (λ rule. image_header (fields_of text.now) ≡ Err rule) }
+{
+    let (name, rest) = next_field(text)?;
+    let (pages, rest) = next_field(rest)?;
+    let header = match first_field(rest) {
+        None => with_default_entry(name, pages),
+        Some((entry, rest)) => {
+            no_field(rest)?;
+            name_with_numbers(name, pages, entry)
+        }
+    };
+    match header {
+        Some(header) => Ok(header),
+        None => Err(Rule::FieldKind),
+    }
+}
+
+/// The name of an image, its pages, and how many bytes its file has.
+fn file_header(text: &[u8]) -> Result<(&[u8], u64, u64), Rule>
+    ensures { MatchResult result (λ x. file_header (fields_of text.now) ≡ Ok (x.0.now, x.1, x.2)) (λ rule. file_header (fields_of text.now) ≡ Err rule) }
+{
+    let (name, rest) = next_field(text)?;
+    let (pages, rest) = next_field(rest)?;
+    let (size, rest) = next_field(rest)?;
+    match no_field(rest) {
+        Err(rule) => Err(rule),
+        Ok(()) => match name_with_numbers(name, pages, size) {
+            Some(header) => Ok(header),
+            None => Err(Rule::FieldKind),
+        },
+    }
+}
+
 fn root_with<'a>(
     home: &[u8],
     backup: &[u8],
@@ -183,12 +241,16 @@ pub fn line_of(keyword: Keyword, text: &[u8]) -> Result<Line<'_>, Rule>
         Keyword::Syncreads => Ok(Line::Syncreads(one_number(text)?)),
         Keyword::Syncsteps => Ok(Line::Syncsteps(one_number(text)?)),
         Keyword::Image => {
-            let (name, pages) = name_and_pages(text)?;
-            Ok(Line::Image(name, pages))
+            let (name, pages, entry) = image_header(text)?;
+            Ok(Line::Image(name, pages, entry))
         }
         Keyword::Asm => {
             let (name, pages) = name_and_pages(text)?;
             Ok(Line::Asm(name, pages))
+        }
+        Keyword::Elf => {
+            let (name, pages, size) = file_header(text)?;
+            Ok(Line::Elf(name, pages, size))
         }
         Keyword::Words => unreachable!(),
         Keyword::End => {

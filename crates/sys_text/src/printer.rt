@@ -2,7 +2,7 @@
 ghost use Rattle.std.specs.Prelude.{◌≡◌, ◌+◌, ◌/◌, ◌*◌, ◌%◌, ◌++◌, ◌∷◌, [], OnOk, IfOk, codes, map, take, drop};
 ghost use Rattle.std.specs.List.{flat_map};
 ghost use Rattle.std.specs.Fmt.{decimal};
-ghost use Rattle.sys_text.specs.Text.{hex_digit, word_text, words_line, words_lines, line_text, lines_text, header_lines, image_lines, root_line, image_name, mode_text, chan_line, system_text as system_text_of};
+ghost use Rattle.sys_text.specs.Text.{hex_digit, word_text, words_line, words_lines, line_text, lines_text, header_lines, entry_fields, image_line, image_lines, root_line, image_name, mode_text, chan_line, system_text as system_text_of};
 
 use crate::system::{Image, Root, System};
 use std::alloc::Global;
@@ -71,15 +71,28 @@ fn put_image(alloc: Global, text: &mut Text, image: &Image) -> Result<(), NoMemo
 }
 
 fn put_image_line(alloc: Global, text: &mut Text, image: &Image) -> Result<(), NoMemory>
-    ensures { OnOk result (text.new ≡ text.old ++ line_text (codes "image" ∷ image.now.name ∷ decimal image.now.pages ∷ [])) }
+    ensures { OnOk result (text.new ≡ text.old ++ line_text (image_line image.now)) }
 {
-    let pages = image.pages;
     text.extend(b"image ")?;
     text.extend(image.name.as_slice())?;
-    let line = format!(in alloc; " {pages}\n")?;
-    text.extend(line.as_bytes())?;
-    Ok(())
+    put_pages(alloc, text, image.pages, image.entry)
 }
+
+/// The pages of an image and, where it is to be said, its entry.
+fn put_pages(alloc: Global, text: &mut Text, pages: u16, entry: u32) -> Result<(), NoMemory>
+    ensures { OnOk result (text.new ≡ text.old ++ 32 ∷ line_text (decimal pages ∷ entry_fields entry)) }
+{
+    if entry == DEFAULT_ENTRY {
+        let line = format!(in alloc; " {pages}\n")?;
+        text.extend(line.as_bytes())
+    } else {
+        let line = format!(in alloc; " {pages} {entry}\n")?;
+        text.extend(line.as_bytes())
+    }
+}
+
+/// The entry of an image whose text does not say it.
+const DEFAULT_ENTRY: u32 = 0x10000;
 
 fn put_words(text: &mut Text, words: &[u32]) -> Result<(), NoMemory>
     ensures { OnOk result (text.new ≡ text.old ++ lines_text (words_lines words.now)) }

@@ -51,10 +51,11 @@ fn take_words(
     ensures room { OnOk result (HasRoom reader.new.state) }
     ensures known { OnOk result (KnowsImages reader.new) }
 {
+    let file = reader.state.file;
     let Some(block) = reader.state.block.as_mut() else {
         unreachable!()
     };
-    block.read_words(number, fields)
+    block.read_words(file, number, fields)
 }
 
 /// Takes line `number`, which has this keyword and this text after it. Does it open an assembler block?
@@ -79,10 +80,10 @@ fn take_fields<'a>(
         Err(rule) => Err(refused(number, rule)),
         Ok(read) => match broken_rule(reader, read) {
             Some(rule) => Err(refused(number, rule)),
-            None => {
-                add_line(alloc, reader, read)?;
-                Ok(opens_block(keyword))
-            }
+            None => match add_line(alloc, reader, number, read) {
+                Err(refused) => Err(refused),
+                Ok(()) => Ok(opens_block(keyword)),
+            },
         },
     }
 }
@@ -149,6 +150,7 @@ fn nothing_yet<'a>(alloc: Global) -> State<'a>
         stage: Stage::Start,
         system: empty_system(alloc),
         block: None,
+        file: None,
     }
 }
 

@@ -10,25 +10,27 @@ use thiserror::Error;
 #[derive(Clone, Copy)]
 pub enum Rule {
     /// A byte outside 0x20 to 0x7E.
-    ForeignByte = 1,
+    ForeignByte,
     /// The first field may not stand here.
-    Misplaced = 2,
+    Misplaced,
     /// The number of fields is wrong.
-    FieldCount = 3,
+    FieldCount,
     /// A field is no number, name, word or mode.
-    FieldKind = 4,
+    FieldKind,
     /// A number is outside its limit.
-    Limit = 5,
+    Limit,
     /// Two clusters or two roots are the same.
-    Same = 6,
+    Same,
     /// A name is used twice, or what is named is not there.
-    Name = 7,
-    /// The words, the processes or the ends are too many.
-    Room = 8,
+    Name,
+    /// The words, the processes or the ends are too many, or the words are not those of the file.
+    Room,
     /// The assembler refuses the line.
-    Assembler = 9,
+    Assembler,
     /// The text ends too early.
-    Ended = 10,
+    Ended,
+    /// The file breaks this rule.
+    Elf(rv_elf::Rule),
 }
 
 impl Rule {
@@ -38,7 +40,19 @@ impl Rule {
     pub fn number(self) -> u8
         ensures { result ≡ number_of_rule self }
     {
-        self as u8
+        match self {
+            Rule::ForeignByte => 1,
+            Rule::Misplaced => 2,
+            Rule::FieldCount => 3,
+            Rule::FieldKind => 4,
+            Rule::Limit => 5,
+            Rule::Same => 6,
+            Rule::Name => 7,
+            Rule::Room => 8,
+            Rule::Assembler => 9,
+            Rule::Ended => 10,
+            Rule::Elf(rule) => 10 + rule.number(),
+        }
     }
 }
 
@@ -62,9 +76,22 @@ fn broken_text(rule: u8) -> &'static str {
         5 => "a number is outside its limit",
         6 => "its two clusters or its two roots are the same",
         7 => "its image name is used twice, or its image or root is not there",
-        8 => "it has more words, processes or ends than there is room for",
+        8 =>
+            "it has more words, processes or ends than there is room for, or not the words of its file",
         9 => "the assembler refuses it",
-        _ => "the text ends before its first root, or inside a block",
+        10 => "the text ends before its first root, or inside a block",
+        11 => "its file is too short, or does not begin as an ELF file",
+        12 => "its file has numbers that are not of 32 bits, lowest byte first",
+        13 => "its file is no executable for RISC-V",
+        14 => "its file has compressed code",
+        15 =>
+            "the table of program headers is not in its file, or has rows that are not of 32 bytes",
+        16 => "its file is to be linked when it is loaded",
+        17 => "a segment of its file has more bytes than memory, or bytes that are not in the file",
+        18 => "a segment of its file is not in memory",
+        19 => "two segments of its file have a byte of memory in common",
+        _ =>
+            "the first instruction of its file is not in memory, or has an address that is no multiple of 4",
     }
 }
 

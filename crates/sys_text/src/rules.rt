@@ -1,7 +1,7 @@
 //! The rules that a line may break, by what the lines before it said.
-ghost use Rattle.std.specs.Prelude.{◌≡◌, ◌≤◌, ◌+◌, length, nat_lt, ◌&&◌, ◌||◌};
-ghost use Rattle.sys_text.specs.Valid.{births_of, is_within};
-ghost use Rattle.sys_text.specs.Rules.{may_stand, keyword_in, begins_comment, has_root, places_with, is_full, keeps_limits, are_same, misnames, overfills, lowest_of, HasRoom};
+ghost use Rattle.std.specs.Prelude.{◌≡◌, ◌≤◌, ◌+◌, ◌/◌, ◌==◌, length, nat_lt, ◌&&◌, ◌||◌};
+ghost use Rattle.sys_text.specs.Valid.{births_of, is_entry, is_within};
+ghost use Rattle.sys_text.specs.Rules.{may_stand, keyword_in, begins_comment, has_root, places_with, is_full, keeps_limits, are_same, misnames, lacks_words, overfills, lowest_of, HasRoom};
 ghost use Rattle.sys_text.specs.Line.{said};
 ghost use Rattle.sys_text.specs.Fronts.{IsFront};
 ghost use Rattle.sys_text.specs.ImageNames.{KnowsImages};
@@ -25,7 +25,10 @@ fn may_stand(stage: Stage, keyword: Keyword) -> bool
         Stage::AfterClusters => matches!(keyword, Keyword::Pager),
         Stage::AfterPager => matches!(keyword, Keyword::Syncreads),
         Stage::AfterSyncreads => matches!(keyword, Keyword::Syncsteps),
-        Stage::Images => matches!(keyword, Keyword::Image | Keyword::Asm | Keyword::Root),
+        Stage::Images => matches!(
+            keyword,
+            Keyword::Image | Keyword::Asm | Keyword::Elf | Keyword::Root
+        ),
         Stage::InImage => matches!(keyword, Keyword::Words | Keyword::End),
         Stage::Roots => matches!(keyword, Keyword::Root | Keyword::Chan),
         Stage::Chans => matches!(keyword, Keyword::Chan),
@@ -48,6 +51,17 @@ fn is_within(low: u64, high: u64, number: u64) -> bool
     low <= number && number <= high
 }
 
+/// May an instruction stand at this address, in so many pages?
+fn is_entry(pages: u64, entry: u64) -> bool
+    requires { pages ≤ 256 }
+    ensures { result ≡ is_entry pages entry }
+{
+    entry % 4 == 0 && BASE <= entry && entry <= BASE - 4 + 256 * pages
+}
+
+/// The address of the first byte of every memory.
+const BASE: u64 = 0x10000;
+
 fn root_keeps_limits(clusters: u64, root: RootFields) -> bool
     ensures { result ≡ (nat_lt root.home clusters && nat_lt root.backup clusters && is_within 1 100000 root.limit && is_within 0 31 root.births && is_within 0 15 root.tty) }
 {
@@ -67,8 +81,9 @@ fn keeps_limits(clusters: u64, line: Line<'_>) -> bool
         Line::Pager(first, second) => first < clusters && second < clusters,
         Line::Syncreads(count) => is_within(1, 1000, count),
         Line::Syncsteps(count) => is_within(64, 100_000, count),
-        Line::Image(_, pages) => is_within(1, 256, pages),
+        Line::Image(_, pages, entry) => is_within(1, 256, pages) && is_entry(pages, entry),
         Line::Asm(_, pages) => is_within(1, 256, pages),
+        Line::Elf(_, pages, size) => is_within(1, 256, pages) && is_within(1, 65536, size),
         Line::Root(root, _) => root_keeps_limits(clusters, root),
         Line::End => true,
         Line::Chan(_, _) => true,
@@ -100,8 +115,9 @@ fn misnames<'a>(reader: &Reader<'a>, line: Line<'a>) -> bool
     ensures { result ≡ misnames reader.now.state.system (said line.entry) }
 {
     match line {
-        Line::Image(name, _) => reader.place(name).is_some(),
+        Line::Image(name, _, _) => reader.place(name).is_some(),
         Line::Asm(name, _) => reader.place(name).is_some(),
+        Line::Elf(name, _, _) => reader.place(name).is_some(),
         Line::Root(_, image) => reader.place(image).is_none(),
         Line::Chan(first, second) => {
             let system = &reader.state.system;
@@ -134,12 +150,33 @@ fn is_either_full(system: &System, first: u64, second: u64) -> bool
     is_full(system, first) || is_full(system, second)
 }
 
-/// Is there no room for the line?
+/// Are the words of the open block not as many as its file has?
+fn lacks_words(state: &State<'_>) -> bool
+    ensures { result ≡ lacks_words state.now.file state.now.block }
+{
+    let Some(size) = state.file else {
+        return false;
+    };
+    match &state.block {
+        Some(block) => !has_words(size, block.len()),
+        None => false,
+    }
+}
+
+/// Are so many words those of a file of so many bytes, the last one filled up?
+fn has_words(size: u32, words: usize) -> bool
+    ensures { result ≡ (words == (size + 3) / 4) }
+{
+    words as u64 == (u64::from(size) + 3) / 4
+}
+
+/// Is there no room for the line, or has a file not its words?
 fn overfills(state: &State<'_>, line: Line<'_>) -> bool
     requires { HasRoom state.now }
     ensures { result ≡ overfills state.now (said line.entry) }
 {
     match line {
+        Line::End => lacks_words(state),
         Line::Root(root, _) => leaves_no_place(&state.system, root.births),
         Line::Chan(first, second) => is_either_full(&state.system, first, second),
         _ => false,

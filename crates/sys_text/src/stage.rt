@@ -9,6 +9,7 @@ pub enum Keyword {
     Syncsteps,
     Image,
     Asm,
+    Elf,
     Words,
     End,
     Root,
@@ -24,7 +25,7 @@ pub enum Stage {
     AfterSyncreads,
     /// Image blocks, and the first root.
     Images,
-    /// In a block of words.
+    /// In a block of words, of an image or of a file.
     InImage,
     /// More roots, and channels.
     Roots,

@@ -8,12 +8,14 @@ use crate::stage::Stage;
 use crate::system::System;
 use text_parts::Names;
 
-/// What the lines so far said, and the block that is open, if one is.
+/// What the lines so far said, the block that is open, if one is, and the size of the file whose words that block has, if
+/// it is the block of one.
 #[derive(Drop)]
 pub struct State<'a> {
     pub stage: Stage,
     pub system: System,
     pub block: Option<OpenBlock<'a>>,
+    pub file: Option<u32>,
 }
 
 /// The state of a reading, and the places of its images by their names.

@@ -2,11 +2,12 @@
 use t32_base::lists::{List, Text};
 use t32_base::process::{ClusterNo, Mode};
 
-/// A program: its name, the pages of its memory, and the words at its front.
+/// A program: its name, the pages of its memory, the address of its first instruction, and the words at its front.
 #[derive(Drop)]
 pub struct Image {
     pub name: Text,
     pub pages: u16,
+    pub entry: u32,
     pub words: List<u32>,
 }
 

@@ -1,7 +1,7 @@
 //! Whether a system keeps the rules.
 ghost use Rattle.std.specs.Prelude.{◌≡◌, ◌≤◌, ◌+◌, ◌*◌, ◌&&◌, nat_le, length, take};
 ghost use Rattle.std.specs.List.{list_all, range_with_len};
-ghost use Rattle.sys_text.specs.Valid.{is_system as is_system_of, is_header as is_header_of, is_pair as is_pair_of, is_image as is_image_of, are_images as are_images_of, is_named_once as is_named_once_of, is_word, is_name as is_name_of, is_name_byte as is_name_byte_of, is_letter as is_letter_of, is_root as is_root_of, are_roots as are_roots_of, births_of, are_chans as are_chans_of, is_chan as is_chan_of, links as links_of};
+ghost use Rattle.sys_text.specs.Valid.{is_system as is_system_of, is_header as is_header_of, is_pair as is_pair_of, is_image as is_image_of, are_images as are_images_of, is_named_once as is_named_once_of, is_word, is_entry as is_entry_of, is_name as is_name_of, is_name_byte as is_name_byte_of, is_letter as is_letter_of, is_root as is_root_of, are_roots as are_roots_of, births_of, are_chans as are_chans_of, is_chan as is_chan_of, links as links_of};
 
 use crate::system::{Image, Root, System};
 use t32_base::process::ClusterNo;
@@ -76,8 +76,22 @@ fn is_image(image: &Image) -> bool
     is_name(image.name.as_slice())
         && 1 <= image.pages
         && image.pages <= 256
+        && is_entry(image.pages, image.entry)
         && fit(image.words.as_slice(), image.pages)
 }
+
+/// Whether an instruction may stand at this address, in so many pages.
+fn is_entry(pages: u16, entry: u32) -> bool
+    requires { pages ≤ 256 }
+    ensures { result ≡ is_entry_of pages entry }
+{
+    entry % 4 == 0
+        && BASE <= entry
+        && u64::from(entry) + 4 <= u64::from(BASE) + 256 * u64::from(pages)
+}
+
+/// The address of the first byte of every memory.
+const BASE: u32 = 0x10000;
 
 /// Whether the words fit the pages. Each has 32 bits by its type.
 fn fit(words: &[u32], pages: u16) -> bool

@@ -4,6 +4,7 @@ ghost use Rattle.std.specs.List.{list_all};
 ghost use Rattle.std.specs.Str.{bytes_eq};
 ghost use Rattle.text_parts.specs.Lines.{fields_of, is_space};
 ghost use Rattle.sys_text.specs.Line.{words_in};
+ghost use Rattle.sys_text.specs.Rules.{fit_limit};
 ghost use Rattle.sys_text.specs.WordLines.{IsWordsLine, FirstWord, lowest_of_words, RefusesBy};
 
 use crate::refusal::{Rule, SystemRefused};
@@ -67,10 +68,20 @@ fn first_word(line: &[u8]) -> Option<(Option<u32>, &[u8])>
     Some((word(field), rest))
 }
 
-/// Reads the words of line `number` behind those so far of an image of so many pages.
+/// Do so many words fit so many pages, where that is a limit?
+fn fit_limit(words: usize, pages: Option<u16>) -> bool
+    ensures { result ≡ fit_limit words pages }
+{
+    match pages {
+        Some(pages) => words <= 64 * usize::from(pages),
+        None => true,
+    }
+}
+
+/// Reads the words of line `number` behind those so far of a block of so many pages, where these are a limit.
 pub fn read_words(
     words: &mut List<u32>,
-    pages: u16,
+    pages: Option<u16>,
     number: u64,
     fields: &[u8],
 ) -> Result<(), SystemRefused>
@@ -90,7 +101,7 @@ pub fn read_words(
     if words.len() == before {
         return Err(refused(number, Rule::FieldCount));
     }
-    if words.len() > 64 * usize::from(pages) {
+    if !fit_limit(words.len(), pages) {
         return Err(refused(number, Rule::Room));
     }
     Ok(())

@@ -25,7 +25,7 @@ waiting_words =
     ∷ 0x0a620a61 ∷ []
 
 abbrev pub image : List ℕ → Image
-image words = record { name = 116 ∷ 119 ∷ 111 ∷ []; pages = 1; words = words }
+image words = record { name = 116 ∷ 119 ∷ 111 ∷ []; pages = 1; entry = 65536; words = words }
 
 abbrev pub writer : ℕ → ℕ → Root
 writer home backup = record { home = record { 0 = home }; backup = record { 0 = backup }; mode = Quarter; image = 0; limit = 1000; births = 0; tty = 0 }

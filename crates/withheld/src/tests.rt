@@ -57,6 +57,7 @@ fn image(alloc: Global, words: &[u32]) -> Result<Image, NoMemory>
     Ok(Image {
         name: Text::copy_of(alloc, b"two")?,
         pages: 1,
+        entry: 0x10000,
         words: List::from_vec(words.to_vec(alloc)?),
     })
 }

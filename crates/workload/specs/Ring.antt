@@ -13,7 +13,7 @@ is_size size = nat_le 1 size && nat_le size 1000
 
 -- the images `head` and `link`, in this order
 abbrev pub images : ℕ → List Image
-images size = record { name = codes "head"; pages = 1; words = head_words size } ∷ record { name = codes "link"; pages = 1; words = link_words } ∷ []
+images size = record { name = codes "head"; pages = 1; entry = 65536; words = head_words size } ∷ record { name = codes "link"; pages = 1; entry = 65536; words = link_words } ∷ []
 
 -- root number i: the first is `head`; each other one is `link` and may fork once
 abbrev pub root : ℕ → Root

@@ -37,11 +37,13 @@ fn images(alloc: Global, size: u32) -> Result<List<Image>, NoMemory>
     let head = Image {
         name: Bytes::copy_of(alloc, b"head")?,
         pages: 1,
+        entry: 0x10000,
         words: head_words(alloc, size)?,
     };
     let link = Image {
         name: Bytes::copy_of(alloc, b"link")?,
         pages: 1,
+        entry: 0x10000,
         words: link_words(alloc)?,
     };
     let mut images = List::new(alloc);

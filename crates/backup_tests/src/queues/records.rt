@@ -52,7 +52,7 @@ fn save_three(rec: &mut Record) -> Result<(), NoMemory>
 
 // The state of a process that may make 1000 steps.
 fn fresh_state(alloc: Global) -> Result<Small, NoMemory> {
-    let Process { small, .. } = Process::root(alloc, Pid(16), 1, &[], 1000, 3, 0)?;
+    let Process { small, .. } = Process::root(alloc, Pid(16), 0x10000, 1, &[], 1000, 3, 0)?;
     Ok(small)
 }
 

@@ -316,7 +316,7 @@ fn one_kept(alloc: Global) -> Result<Records, NoMemory>
 }
 
 fn fresh_state(alloc: Global) -> Result<Small, NoMemory> {
-    let Process { small, .. } = Process::root(alloc, Pid(16), 1, &[], 1000, 3, 0)?;
+    let Process { small, .. } = Process::root(alloc, Pid(16), 0x10000, 1, &[], 1000, 3, 0)?;
     Ok(small)
 }
 

@@ -40,7 +40,7 @@ use Rattle.checkpoint_laws.proofs.batches.OtherSenders.{others_between}
 
 -- a program that stores to its page and then jumps to itself, by a name; its process is to synchronise after 64 steps
 abbrev named : System
-named = record store_system { images = record { name = 115 ∷ []; pages = 1; words = store_words } ∷ [] }
+named = record store_system { images = record { name = 115 ∷ []; pages = 1; entry = 65536; words = store_words } ∷ [] }
 
 -- process 16
 abbrev it : Pid
@@ -48,7 +48,7 @@ it = record { 0 = 16 }
 
 -- the process after so many steps
 abbrev there : ProcState
-there = option_map_or (λ s. s) (silent_upto named [] it 64) (root_state it 1 [] 0 0 0)
+there = option_map_or (λ s. s) (silent_upto named [] it 64) (root_state it 65536 1 [] 0 0 0)
 
 -- its batch is under way, with its page left
 begins : BatchMay named [] (cluster 0) it there [] None (0 ∷ [])
@@ -99,7 +99,7 @@ abbrev signal : ℕ → Letter
 signal g = record { from = record { 0 = 17 }; out = 0; to = Proc it 0; body = Signal g }
 
 abbrev root : ProcState
-root = root_state it 1 [] 0 0 0
+root = root_state it 65536 1 [] 0 0 0
 
 abbrev signalled : ProcState
 signalled = delivered root (signal 9)

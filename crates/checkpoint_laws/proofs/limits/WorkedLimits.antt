@@ -27,7 +27,7 @@ it = record { 0 = 16 }
 
 -- it has made so many steps, ten of them before its last synchronisation, and has read these letters since
 abbrev counted : ℕ → List ℕ → Process
-counted n read = record { small = record (root_state it 1 [] 0 0 0).small { steps = n }; ram = record { bytes = []; dirty = [] }; mail = record { letters = []; next = 0 }; read = read; since = 10 }
+counted n read = record { small = record (root_state it 65536 1 [] 0 0 0).small { steps = n }; ram = record { bytes = []; dirty = [] }; mail = record { letters = []; next = 0 }; read = read; since = 10 }
 
 below : is_due_by (counted 15 (1 ∷ [])) 2 6 ≡ false
 below = refl
@@ -71,10 +71,10 @@ fetch_kept : KeepsLimits (limited 5) [] (Fetch it 0)
 fetch_kept = refl
 
 -- a synchronisation is within the limits by the steps before it, whether a signal is taken or not
-sync_kept : (took : Option ℕ) → KeepsLimits (limited 5) [] (Sync it (record (root_state it 1 [] 0 0 0).small { steps = 5 }) [] took)
+sync_kept : (took : Option ℕ) → KeepsLimits (limited 5) [] (Sync it (record (root_state it 65536 1 [] 0 0 0).small { steps = 5 }) [] took)
 unfolding boot one_step steps silently plain_after silent_upto
 sync_kept took = refl
 
-sync_beyond : (took : Option ℕ) → is_within_limits (limited 4) [] (Sync it (record (root_state it 1 [] 0 0 0).small { steps = 5 }) [] took) it ≡ false
+sync_beyond : (took : Option ℕ) → is_within_limits (limited 4) [] (Sync it (record (root_state it 65536 1 [] 0 0 0).small { steps = 5 }) [] took) it ≡ false
 unfolding boot one_step steps silently plain_after silent_upto
 sync_beyond took = refl

@@ -27,14 +27,14 @@ use Rattle.checkpoint_laws.proofs.marks.StepMarks.{step_runs}
 
 -- a program that stores to its page and then jumps to itself, by a name
 abbrev named : System
-named = record store_system { images = record { name = 115 ∷ []; pages = 1; words = store_words } ∷ [] }
+named = record store_system { images = record { name = 115 ∷ []; pages = 1; entry = 65536; words = store_words } ∷ [] }
 
 -- process 16
 abbrev it : Pid
 it = record { 0 = 16 }
 
 abbrev there : ℕ → ProcState
-there n = option_map_or (λ s. s) (silent_upto named [] it n) (root_state it 1 [] 0 0 0)
+there n = option_map_or (λ s. s) (silent_upto named [] it n) (root_state it 65536 1 [] 0 0 0)
 
 -- the process after so many steps, with the marks of its pages
 abbrev process : ℕ → List Bool → Process

@@ -38,7 +38,7 @@ use Rattle.checkpoint_laws.proofs.posts.BatchIsNew.{batch_is_new}
 
 -- a program that stores to its page and then jumps to itself, by a name; its process is to synchronise after 64 steps
 abbrev named : System
-named = record store_system { images = record { name = 115 ∷ []; pages = 1; words = store_words } ∷ [] }
+named = record store_system { images = record { name = 115 ∷ []; pages = 1; entry = 65536; words = store_words } ∷ [] }
 
 -- process 16
 abbrev it : Pid
@@ -46,7 +46,7 @@ it = record { 0 = 16 }
 
 -- the process after so many steps
 abbrev there : ProcState
-there = option_map_or (λ s. s) (silent_upto named [] it 64) (root_state it 1 [] 0 0 0)
+there = option_map_or (λ s. s) (silent_upto named [] it 64) (root_state it 65536 1 [] 0 0 0)
 
 -- its page is marked
 abbrev process : Process
@@ -84,7 +84,7 @@ fresh : AllNew named [] (batch process (cluster 0))
 fresh = batch_is_new named [] it process (cluster 0) runs
 
 -- a step earlier it was not due
-not_due : is_due_since named [] it (option_map_or (λ s. s) (silent_upto named [] it 63) (root_state it 1 [] 0 0 0)) ≡ false
+not_due : is_due_since named [] it (option_map_or (λ s. s) (silent_upto named [] it 63) (root_state it 65536 1 [] 0 0 0)) ≡ false
 unfolding boot one_step steps silently plain_after silent_upto
 not_due = refl
 
@@ -95,7 +95,7 @@ abbrev signal : ℕ → ℕ → Arrived
 signal number g = record { number = number; letter = record { from = record { 0 = 17 }; out = 0; to = Proc it 0; body = Signal g } }
 
 abbrev signalled : ProcState
-signalled = record (root_state it 1 [] 0 0 0) { mail = signal 4 9 ∷ signal 5 10 ∷ []; next = 6 }
+signalled = record (root_state it 65536 1 [] 0 0 0) { mail = signal 4 9 ∷ signal 5 10 ∷ []; next = 6 }
 
 takes : TakesTo (Some 9) signalled (record signalled { small = with_status signalled.small (Closing (Killed 9)); mail = signal 5 10 ∷ [] })
 takes = record { can = refl; after = refl }

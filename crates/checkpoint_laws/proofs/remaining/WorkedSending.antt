@@ -28,7 +28,7 @@ it = record { 0 = 16 }
 
 -- the process after three steps
 abbrev there : ProcState
-there = option_map_or (λ s. s) (silent_upto short [] it 3) (root_state it 1 [] 0 0 0)
+there = option_map_or (λ s. s) (silent_upto short [] it 3) (root_state it 65536 1 [] 0 0 0)
 
 abbrev entry : ℕ → What → Entry
 entry place what = record { place = place; post = record { by = Cluster (cluster 0); what = what }; dests = record { clusters = 3; tty = None } }

@@ -19,7 +19,7 @@ use test_asserts::same;
 fn begun(alloc: Global) -> Result<Process, NoMemory>
     ensures { IfOk result (λ p. p.mail.next ≡ 0) }
 {
-    Process::root(alloc, Pid(16), 3, &[], 1000, 0, 0)
+    Process::root(alloc, Pid(16), 0x10000, 3, &[], 1000, 0, 0)
 }
 
 // A letter has come for it, and it has written to its second page.

@@ -34,7 +34,7 @@ fn arrive(alloc: Global, p: &mut Process, end: u8, bytes: &[u8]) -> Result<(), N
 
 // Ends 1 and 2 are linked, and a letter has come for each.
 fn begun(alloc: Global) -> Result<Process, NoMemory> {
-    let mut p = Process::root(alloc, Pid(16), 3, &READER, 1000, 0, 0)?;
+    let mut p = Process::root(alloc, Pid(16), 0x10000, 3, &READER, 1000, 0, 0)?;
     arrive(alloc, &mut p, 1, b"a\n")?;
     arrive(alloc, &mut p, 2, b"b\n")?;
     p.link(Pid(17), 1);

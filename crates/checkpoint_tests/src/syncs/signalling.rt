@@ -35,7 +35,7 @@ fn arrive(p: &mut Process, end: u8, body: Body) -> Result<(), NoMemory>
 fn begun(alloc: Global, handler: u32) -> Result<Process, NoMemory>
     ensures { IfOk result (λ p. p.mail.next ≡ 1) }
 {
-    let mut p = Process::root(alloc, Pid(16), 1, &RETURNER, 1000, 0, 0)?;
+    let mut p = Process::root(alloc, Pid(16), 0x10000, 1, &RETURNER, 1000, 0, 0)?;
     arrive(&mut p, 1, Body::Said(SharedBytes::copy_of(alloc, b"a\n")?))?;
     p.small.handler = handler;
     Ok(p)

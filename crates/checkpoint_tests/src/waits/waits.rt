@@ -27,7 +27,7 @@ const TWO: [u8; 52] = [
 
 // A process of three pages that sent nothing.
 fn three_pages(alloc: Global) -> Result<Waiting, NoMemory> {
-    let process = Process::root(alloc, Pid(16), 3, &[], 1000, 0, 0)?;
+    let process = Process::root(alloc, Pid(16), 0x10000, 3, &[], 1000, 0, 0)?;
     let Process { small, .. } = process;
     Waiting::begin(alloc, Record::new(alloc, Pid(16), Some(small)))
 }
@@ -175,7 +175,7 @@ fn line_recorded(alloc: Global, state: Small) -> Result<Record, NoMemory>
 
 // A process that wrote a line, which is its sixth step, and then was moved with its page.
 fn two_moved(alloc: Global) -> Result<Rolling, NoMemory> {
-    let two = Process::root(alloc, Pid(16), 1, &TWO, 1000, 0, 0)?;
+    let two = Process::root(alloc, Pid(16), 0x10000, 1, &TWO, 1000, 0, 0)?;
     let Process { small, ram, .. } = two;
     let mut waiting = Waiting::begin(alloc, line_recorded(alloc, small)?)?;
     waiting.come(0, &ram.page(0));

@@ -61,7 +61,7 @@ by_cluster n = Cluster (cluster n)
 
 -- one page with a program at its front
 abbrev pub image : List ℕ → Image
-image words = record { name = []; pages = 1; words = words }
+image words = record { name = []; pages = 1; entry = 65536; words = words }
 
 abbrev pub image_page : List ℕ → List ℕ
 image_page words = page_at (bytes_of_words words ++ replicate 256 0) 0
@@ -75,7 +75,7 @@ abbrev pub entry : ℕ → By → ℕ → What → Entry
 entry place by clusters what = record { place = place; post = record { by = by; what = what }; dests = record { clusters = clusters; tty = None } }
 
 abbrev pub no_process : ProcState
-no_process = root_state (pid 0) 1 [] 0 0 0
+no_process = root_state (pid 0) 65536 1 [] 0 0 0
 
 -- reads two bytes of end 1, writes them to its terminal, and exits
 abbrev pub reader_words : List ℕ

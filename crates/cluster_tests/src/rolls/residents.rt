@@ -79,7 +79,7 @@ fn stands(resident: &Resident) -> Stands {
 fn begun(alloc: Global) -> Result<(Stands, Stands, (u32, bool)), NoMemory> {
     let mut resident = Resident::waiting(Waiting::for_fork(alloc, child_record(alloc)?));
     let before = stands(&resident);
-    let born = Process::root(alloc, Pid(16), 1, &TWO, 1000, 0, 0)?;
+    let born = Process::root(alloc, Pid(16), 0x10000, 1, &TWO, 1000, 0, 0)?;
     resident.begin_again(alloc, born);
     let after = stands(&resident);
     let made = resident.roll(64)?;

@@ -28,6 +28,7 @@ fn image(alloc: Global, name: &str, pages: u16, words: &[u32]) -> Result<Image, 
     Ok(Image {
         name: Bytes::copy_of(alloc, name.as_bytes())?,
         pages,
+        entry: 0x10000,
         words: List::from_vec(words.to_vec(alloc)?),
     })
 }

@@ -41,7 +41,7 @@ all_three = refl
 
 -- the child's child synchronises
 abbrev one_synced : List Entry
-one_synced = entry 0 (Birth root_it 5 first 3) ∷ entry 1 (Birth first 2 below 3) ∷ entry 2 (Birth root_it 9 second 4) ∷ entry 3 (Sync below (root_state below 1 [] 0 0 0).small [] None) ∷ []
+one_synced = entry 0 (Birth root_it 5 first 3) ∷ entry 1 (Birth first 2 below 3) ∷ entry 2 (Birth root_it 9 second 4) ∷ entry 3 (Sync below (root_state below 65536 1 [] 0 0 0).small [] None) ∷ []
 
 two_left : unsynced_births hi_system one_synced ≡ (root_it, first) ∷ (root_it, second) ∷ []
 unfolding placement

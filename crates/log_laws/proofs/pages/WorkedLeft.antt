@@ -23,7 +23,7 @@ two_pages = record {
   pager = (cluster 0, cluster 1);
   syncreads = 32;
   syncsteps = 4096;
-  images = record { name = []; pages = 2; words = 0x0000006f ∷ [] } ∷ [];
+  images = record { name = []; pages = 2; entry = 65536; words = 0x0000006f ∷ [] } ∷ [];
   roots = root 0 1 Quarter 1000 ∷ [];
   chans = [];
 }

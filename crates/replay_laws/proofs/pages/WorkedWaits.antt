@@ -31,7 +31,7 @@ two_pages = record {
   pager = (cluster 0, cluster 1);
   syncreads = 32;
   syncsteps = 4096;
-  images = record { name = []; pages = 2; words = 0x0000006f ∷ [] } ∷ [];
+  images = record { name = []; pages = 2; entry = 65536; words = 0x0000006f ∷ [] } ∷ [];
   roots = root 0 1 Quarter 1000 ∷ [];
   chans = [];
 }
@@ -40,7 +40,7 @@ abbrev it : Pid
 it = record { 0 = 16 }
 
 abbrev its_record : BackRec
-its_record = record { pid = it; state = Some (root_small it 2 1000 0 0); saved = []; next = 0; counts = no_counts; births = [] }
+its_record = record { pid = it; state = Some (root_small it 65536 2 1000 0 0); saved = []; next = 0; counts = no_counts; births = [] }
 
 abbrev entry : ℕ → By → What → Entry
 entry place by what = record { place = place; post = record { by = by; what = what }; dests = record { clusters = 2; tty = None } }

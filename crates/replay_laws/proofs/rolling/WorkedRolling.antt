@@ -33,7 +33,7 @@ use Rattle.replay_laws.proofs.rolling.ByRule.{built_caught_up}
 
 -- the system of two letters, with a name for its image
 abbrev named_system : System
-named_system = record two_system { images = record { name = 97 ∷ []; pages = 1; words = two_words } ∷ [] }
+named_system = record two_system { images = record { name = 97 ∷ []; pages = 1; entry = 65536; words = two_words } ∷ [] }
 
 abbrev writer : Pid
 writer = record { 0 = 16 }
@@ -61,7 +61,7 @@ legal = (
 -- ---- its way
 
 abbrev no_process : ProcState
-no_process = root_state writer 1 [] 0 0 0
+no_process = root_state writer 65536 1 [] 0 0 0
 
 abbrev at_start : ProcState
 at_start = refilled log writer (option_map_or (λ s. s) (process_after named_system [] writer) no_process)

@@ -26,7 +26,7 @@ pub const REFUSED_ADDRESS: u32 = 0xfffffff2;
 fn root(alloc: Global) -> Result<Process, NoMemory>
     ensures { IfOk result (λ p. p.mail.next ≡ 0) }
 {
-    Process::root(alloc, Pid(16), 1, &ECALL, 1000, 0, 0)
+    Process::root(alloc, Pid(16), 0x10000, 1, &ECALL, 1000, 0, 0)
 }
 
 fn set(small: &mut Small, register: u8, value: u32)

@@ -16,10 +16,10 @@ pub returns-then-len-before-clause-refused : goal.returns-then-len-before-clause
 returns-then-len-before-clause-refused c =
     rw (no_fields c.args.words.now c.fields.words (fields_of c.args.fields.now) c.args.pages (read (goal.at.returns-then-len-before-clause-refused c).In_default) (omega (arith, c.if-len-before.true, c.len.ensures, c.len-before.ensures))) c.refused-then-len-before.ensures
 
-pub returns-then-len-from-clause-refused : goal.returns-then-len-from-clause-refused
-returns-then-len-from-clause-refused c =
-    rw (no_room c.args.words.now c.fields.words (fields_of c.args.fields.now) c.args.pages (read (goal.at.returns-then-len-from-clause-refused c).In_default) (λ e. absurd (omega (arith, e, c.if-len-before.false, c.len.ensures, c.len-before.ensures))) (omega (arith, c.if-len-from.true, c.len-2.ensures, c.from.ensures))) c.refused-then-len-from.ensures
+pub returns-then-not-fit_limit-clause-refused : goal.returns-then-not-fit_limit-clause-refused
+returns-then-not-fit_limit-clause-refused c =
+    rw (no_room c.args.words.now c.fields.words (fields_of c.args.fields.now) c.args.pages (read (goal.at.returns-then-not-fit_limit-clause-refused c).In_default) (λ e. absurd (omega (arith, e, c.if-len-before.false, c.len.ensures, c.len-before.ensures))) (search rules)) c.refused-then-not-fit_limit.ensures
 
 pub returns-clause-kept : goal.returns-clause-kept
 returns-clause-kept c =
-    in_room c.args.words.now c.fields.words (fields_of c.args.fields.now) c.args.pages (read (goal.at.returns-clause-kept c).In_default) (λ e. absurd (omega (arith, e, c.if-len-before.false, c.len.ensures, c.len-before.ensures))) (omega (arith, c.if-len-from.false, c.len-2.ensures, c.from.ensures))
+    in_room c.args.words.now c.fields.words (fields_of c.args.fields.now) c.args.pages (read (goal.at.returns-clause-kept c).In_default) (λ e. absurd (omega (arith, e, c.if-len-before.false, c.len.ensures, c.len-before.ensures))) (search rules)
