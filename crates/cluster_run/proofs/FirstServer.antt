@@ -21,7 +21,7 @@ use Rattle.script_laws.proofs.ServersLeft.{server_left}
 pub first_lives : (system : System) (log : List Entry) (k : ClusterNo) → IsLegalBy MayStand system log → first_of (servers_in (placement system log)) ≡ Some k → was_lost_in log k ≡ false
 first_lives system log k legal first =
     let never = first_server (placement system log) k (ap (is_by (Cluster k)) first ∙ eq-eqb k.0 k.0 refl) in
-    not_off_not_lost system log k legal (living_not_off system log k legal (servers_live system log k legal never))
+    not_off_not_lost system log k legal (living_not_off system log k legal (servers_live system log k never))
 
 -- the first of the servers that are left
 pub record FirstServer (system : System) (log : List Entry) : Type 0 where
