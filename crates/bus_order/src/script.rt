@@ -48,8 +48,20 @@ pub fn turn_by(places: &Placement, word: ScriptWord) -> Option<Turn>
     ensures { given_by places.now word ≡ option_map told_by result }
 {
     match word {
-        ScriptWord::CrashAt { k, .. } => { if places.living(k) { Some(Turn::Lost(k)) } else { None } }
-        ScriptWord::ReturnAt { k, .. } => { if is_lost(places, k) { Some(Turn::Back(k)) } else { None } }
+        ScriptWord::CrashAt { k, .. } => {
+            if places.living(k) {
+                Some(Turn::Lost(k))
+            } else {
+                None
+            }
+        }
+        ScriptWord::ReturnAt { k, .. } => {
+            if is_lost(places, k) {
+                Some(Turn::Back(k))
+            } else {
+                None
+            }
+        }
         ScriptWord::CrashStep { .. } | ScriptWord::DiskAt { .. } => None,
     }
 }

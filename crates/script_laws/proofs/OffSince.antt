@@ -242,8 +242,8 @@ silent_more system k n log e before stands = by_length (compared n (length log))
         let rest : drop n (log ++ e ∷ []) ≡ drop n log ++ e ∷ [] = drop-append-le n log (e ∷ []) short in
         let was : is_some (off_at (take n (log ++ e ∷ [])) k) ≡ true → is_some (off_at (take n log) k) ≡ true = λ off. sym (ap (λ l. is_some (off_at l k)) first) ∙ off in
         let parts : has_returned_in (drop n (log ++ e ∷ [])) k ≡ false → (has_returned_in (drop n log) k ≡ false) × (comes_back k (what e) ≡ false) =
-            λ none. or_parts (has_returned_in (drop n log) k) (comes_back k (what e))
-            (sym (ap (λ l. has_returned_in l k) rest ∙ list_any-append (λ (e : Entry). comes_back k (what e)) (drop n log) (e ∷ []) ∙ or_one (has_returned_in (drop n log) k) (comes_back k (what e))) ∙ none) in
+        λ none. or_parts (has_returned_in (drop n log) k) (comes_back k (what e))
+        (sym (ap (λ l. has_returned_in l k) rest ∙ list_any-append (λ (e : Entry). comes_back k (what e)) (drop n log) (e ∷ []) ∙ or_one (has_returned_in (drop n log) k) (comes_back k (what e))) ∙ none) in
         record {
           legal = legal;
           off = λ off none. ap is_some (off_at-snoc log e k) ∙ stays_off k (what e) e.place (off_at log k) (parts none).1 (before.off (was off) (parts none).0);
