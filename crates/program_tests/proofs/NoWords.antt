@@ -1,8 +1,7 @@
 -- A script of no words loses no cluster.
-use Rattle.std.proofs.Common.{◌≡◌, ◌≤◌, arith, List, [], length, true}
+use Rattle.std.proofs.Common.{◌≡◌, arith, [], true}
 use Rattle.sys_text.specs.declared.system.System.{System}
 use Rattle.sys_text.specs.Valid.{is_system}
-use Rattle.cert_sched.specs.declared.script.ScriptWord.{ScriptWord}
 use Rattle.cert_sched.specs.Scripted.{is_spread}
 use Rattle.script_laws.proofs.SpreadLosses.{one_word_spread}
 

@@ -1,5 +1,5 @@
 -- A script that is built has one word at most, so its losses are spread in each valid system.
-use Rattle.std.proofs.Common.{◌≡◌, ℕ, ◌≤◌, ◌∙◌, ap, sym, arith, List, length, Bool, true, nat_le, leb-true}
+use Rattle.std.proofs.Common.{◌≡◌, ◌∙◌, ap, List, length, true, nat_le, leb-true}
 use Rattle.std.specs.List.{list_all}
 use Rattle.std.proofs.lemmas.Bool.{and_parts}
 use Rattle.sys_text.specs.declared.system.System.{System}
