@@ -16,15 +16,14 @@ use Rattle.rv_cpu.proofs.Marks.{length-exec_marks}
 use Rattle.proc_state.specs.Ends.{free_end, leads_at}
 use Rattle.proc_state.specs.Mail.{without_first}
 use Rattle.proc_state.specs.State.{ProcState, with_small}
-use Rattle.sys_calls.specs.Small.{spent}
+use Rattle.sys_calls.specs.Small.{spent, lowest_linked}
 use Rattle.sys_calls.specs.declared.steps.Emission.TheVariants.{Mail}
 use Rattle.sys_calls.specs.declared.reading.Reading.{Reading}
 use Rattle.sys_calls.specs.declared.reading.Reading.TheVariants.{Refused, AtEnd, Wants}
 use Rattle.sys_calls.specs.declared.reading.Wanted.{Wanted}
 use Rattle.sys_calls.specs.Calls.{Next, Silent, Blocked, Forks, Emits, Over, Call, ExitCall, Write, Read, ReadAny, ForkCall, GetPid, Handler, Kill, SigReturn, Close, Unknown, answers, arg, called, call_of, close_to, first_wanted, is_wanted, letter_called, letter_to, marks_called, marks_found, marks_read, read_any_checked, read_call, read_checked, read_found, refused, said_within, wanted_letter, write_to, handled_at, is_aligned, is_signal_number, signalled, sigreturn_call}
-use Rattle.sys_calls.specs.Next.{next_step, live_step, after_exec, closing_step, letter_executed, letter_live, letter_taken, marks_by, marks_executed, marks_live, step_marks}
+use Rattle.sys_calls.specs.Next.{next_step, step_by, live_step, after_exec, closing_step, letter_by, letter_executed, letter_live, letter_taken, marks_by, marks_executed, marks_live, step_marks}
 use Rattle.checkpoint_laws.proofs.posts.TakenNumbers.{TakesOut}
-use Rattle.sys_calls.proofs.Taking.{by_status}
 
 -- what a silent step does
 abbrev Takes : ProcState → Next → Option Arrived → Type 0
@@ -116,6 +115,11 @@ lived s false = executed s (exec (s.small).regs s.memory)
 closed : (s : ProcState) (end : End) (o : Option (ℕ × To)) → Takes s (closing_step o end s) None
 closed s end None = tt
 closed s end (Some f) = tt
+
+by_status : (s : ProcState) (status : Status) → Takes s (step_by status s) (letter_by status s)
+by_status s Live = lived s (eqb (s.small).left 0)
+by_status s (Closing end) = closed s end (lowest_linked (s.small).ends)
+by_status s (Ended end) = tt
 
 pub silent_takes_out : (s t : ProcState) → next_step s ≡ Silent t → TakesOut (letter_taken s) s.mail t.mail
 silent_takes_out s t is = subst (λ next. Takes s next (letter_taken s)) is (by_status s (s.small).status)
