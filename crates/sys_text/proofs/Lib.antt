@@ -1,7 +1,7 @@
 mod BlockLines
 mod Blocks
 pub mod Bounds
-mod ElfBlocks
+pub mod ElfBlocks
 mod ElfMemory
 mod Examples
 mod Fields
