@@ -1,5 +1,6 @@
 mod Channels
 mod Delivery
+mod ElfBooting
 mod Examples
 pub mod AtBoot
 pub mod Entries

@@ -3,5 +3,6 @@ pub mod Apply
 pub mod Still
 pub mod Maps
 pub mod Starts
+pub mod ElfBoot
 pub mod Answers
 pub mod Candidates

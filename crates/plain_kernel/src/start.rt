@@ -1,5 +1,5 @@
 //! A root at its start, whose memory was not made yet.
-ghost use Rattle.std.specs.Prelude.{◌≡◌, ◌≤◌, ◌<◌, ◌*◌, ◌+◌, ◌++◌, IfOk, drop, length, take};
+ghost use Rattle.std.specs.Prelude.{◌≡◌, ◌≤◌, ◌<◌, ◌*◌, ◌+◌, ◌++◌, ℕ, List, Ok, IfOk, drop, length, take};
 ghost use Rattle.rv_mem.specs.Memory.{page_at};
 ghost use Rattle.sys_text.specs.Boot.{bytes_of_words};
 ghost use Rattle.proc_state.specs.Ends.{free_end as free_end_in};
@@ -7,6 +7,12 @@ ghost use Rattle.proc_state.specs.State.{linked_to, state_of, IsFresh};
 ghost use Rattle.plain_kernel.specs.Kernel.{root_process};
 ghost use Rattle.plain_kernel.specs.Starts.{page_of_words, state_load};
 ghost use Rattle.plain_kernel.specs.Maps.{CanBoot, IsImageOf};
+ghost use Rattle.plain_kernel.specs.ElfBoot.{BootsFile};
+ghost use Rattle.sys_text.specs.ElfBlocks.{HasElfBlock};
+ghost use Rattle.sys_text.specs.Reading.{reading_of};
+ghost use Rattle.sys_text.specs.declared.system.System.{System as Described};
+ghost use Rattle.sys_text.specs.declared.system.Root.{Root as ARoot};
+ghost use Rattle.t32_base.specs.declared.process.Pid.{Pid as APid};
 
 use byteorder::{ByteOrder, LittleEndian};
 use proc_state::process::{Process, first_small, free_end, link_lowest};
@@ -151,3 +157,11 @@ fn put_words(page: &mut [u8; 256], words: &[u32])
 {
     LittleEndian::write_u32_into(words, &mut page[..4 * words.len()]);
 }
+
+/// A law and no code: a root whose image the block `elf` of a text gives begins with exactly the memory of the file, at the
+/// entry of the file.
+pub fn elf_blocks_boot()
+    ensures { (text : List ℕ) (before number : ℕ) (file : List ℕ) (pages : ℕ) (system : Described) (p : APid) (root : ARoot)
+        → HasElfBlock text before number file pages → reading_of text ≡ Ok system → root.image ≡ number
+        → BootsFile file pages (root_process system p root) }
+{}

@@ -25,7 +25,7 @@ length-before_trimmed word [] = by_zero (eqb word 0) refl
     by_zero false e = rw e (omega arith)
 length-before_trimmed word (next ∷ words) = omega arith
 
-length-trimmed : (words : List ℕ) → length (trimmed words) ≤ length words
+pub length-trimmed : (words : List ℕ) → length (trimmed words) ≤ length words
 length-trimmed [] = omega arith
 length-trimmed (word ∷ words) = omega (arith, length-before_trimmed word (trimmed words), length-trimmed words)
 

@@ -1,6 +1,8 @@
 mod BlockLines
 mod Blocks
 pub mod Bounds
+pub mod ElfBlocks
+mod ElfMemory
 mod Examples
 mod Fields
 mod FileRules

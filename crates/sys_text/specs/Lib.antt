@@ -15,3 +15,4 @@ pub mod Answers
 pub mod Numbers
 pub mod Types
 pub mod RuleByRule
+pub mod ElfBlocks

@@ -18,5 +18,5 @@ mod types;
 pub mod valid;
 mod word_lines;
 
-pub use reading::{read_system, systems_read_back};
+pub use reading::{elf_blocks_load, read_system, systems_read_back};
 pub use refusal::{Rule, SystemRefused};

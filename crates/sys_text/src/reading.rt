@@ -1,5 +1,5 @@
 //! From a text to its system.
-ghost use Rattle.std.specs.Prelude.{◌≡◌, ◌+◌, ◌≤◌, ◌<◌, ◌^◌, true, Ok, OnOk, IfOk, IfErr, is_some, length};
+ghost use Rattle.std.specs.Prelude.{◌≡◌, ◌+◌, ◌≤◌, ◌<◌, ◌^◌, ℕ, List, true, Ok, OnOk, IfOk, IfErr, is_some, length};
 ghost use Rattle.text_parts.specs.Lines.{lines_of, fields_of};
 ghost use Rattle.sys_text.specs.declared.stage.Keyword.TheVariants.{Words as WordsOf};
 ghost use Rattle.sys_text.specs.Rules.{HasRoom};
@@ -11,6 +11,7 @@ ghost use Rattle.sys_text.specs.Valid.{is_system};
 ghost use Rattle.sys_text.specs.Text.{system_text};
 ghost use Rattle.sys_text.specs.Answers.{Answers, ClosesBlock, TakesLine, TakesLines};
 ghost use Rattle.sys_text.specs.RuleByRule.{IsSystemOf, HasCause};
+ghost use Rattle.sys_text.specs.ElfBlocks.{HasElfBlock, HasLoaded};
 
 use crate::adding::add_line;
 use crate::block::take_block;
@@ -251,4 +252,11 @@ pub fn read_system(alloc: Global, text: &[u8]) -> Result<System, SystemRefused>
 /// system is one that some text has.
 pub fn systems_read_back()
     ensures { (s : Described) → is_system s ≡ true → reading_of (system_text s) ≡ Ok s }
+{}
+
+/// A law and no code: the end of a block `elf` adds the image of its file, which stays where it is: the loaded memory without
+/// the zero words at its end, and the file's entry.
+pub fn elf_blocks_load()
+    ensures { (text : List ℕ) (before number : ℕ) (file : List ℕ) (pages : ℕ) (s : Described)
+        → HasElfBlock text before number file pages → reading_of text ≡ Ok s → HasLoaded s number file pages }
 {}
