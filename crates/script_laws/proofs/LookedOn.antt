@@ -1,32 +1,37 @@
--- The looks at the words of a script add losses alone, and leave the log legal and one of the script.
-use Rattle.std.proofs.Common.{◌≡◌, ℕ, zero, suc, refl, sym, ◌∙◌, ap, subst, arith, List, [], ◌∷◌, ◌++◌, append_assoc, append-nil, length, length-append, Bool, true, false, cond, ◌||◌, eq-eqb, nat_le, Option, Some, None, unwrap_or, true≢false}
+-- The looks at the words of a script add losses and returns alone, and leave the log legal and one of the script.
+use Rattle.std.proofs.Common.{◌≡◌, ℕ, zero, suc, refl, sym, ◌∙◌, ap, subst, arith, List, [], ◌∷◌, ◌++◌, append_assoc, append-nil, length, length-append, Bool, true, false, cond, ◌||◌, ◌⊎◌, inl, inr, eq-eqb, nat_le, Option, Some, None, unwrap_or, true≢false}
 use Rattle.std.specs.Prelude.{find}
 use Rattle.std.specs.List.{list_any, list_all}
-use Rattle.std.proofs.lemmas.Bool.{and_from, or_parts}
+use Rattle.std.proofs.lemmas.Bool.{and_from, and_parts, or_parts}
 use Rattle.std.proofs.lemmas.List.Folds.{list_all-append}
 use Rattle.t32_base.specs.declared.process.ClusterNo.{ClusterNo}
 use Rattle.proc_state.specs.Mail.{without_first}
 use Rattle.bus_msg.specs.declared.entry.What.{What}
-use Rattle.bus_msg.specs.declared.entry.What.TheVariants.{Crash}
+use Rattle.bus_msg.specs.declared.entry.What.TheVariants.{Crash, Return}
 use Rattle.bus_msg.specs.declared.entry.Cause.TheVariants.{Place}
-use Rattle.bus_msg.specs.Places.{lives_in, same_cluster}
+use Rattle.bus_msg.specs.declared.entry.Entry.{Entry}
+use Rattle.bus_msg.specs.Places.{is_lost_in, lives_in, same_cluster}
+use Rattle.bus_msg.specs.PlacedAfter.{what}
 use Rattle.cert_sched.specs.declared.script.ScriptWord.{ScriptWord}
 use Rattle.cert_sched.specs.declared.script.ScriptWord.TheVariants.{CrashAt, CrashStep, DiskAt, ReturnAt}
 use Rattle.cert_sched.specs.Schedule.{placement}
-use Rattle.cert_sched.specs.Rules.{is_over}
+use Rattle.cert_sched.specs.Rules.{is_bus, is_over}
 use Rattle.cert_sched.specs.Legal.{IsLegalBy}
 use Rattle.cert_sched.specs.Built.{MayStand, is_built_word}
-use Rattle.cert_sched.specs.Looked.{first_reached, given_by, is_reached, without_reached}
+use Rattle.cert_sched.specs.Looked.{first_reached, given_by, is_given, is_reached, without_reached}
+use Rattle.cert_sched.specs.Losses.{is_crash_of}
 use Rattle.cert_sched.specs.Simulation.{crash_entry}
 use Rattle.cert_sched.proofs.ListLaws.{list_all-weaker}
 use Rattle.cert_sched.proofs.LogLaws.{IsLegal-snoc}
 use Rattle.bus_order.specs.Script.{is_word_for}
-use Rattle.bus_order.specs.View.{BusView, KeepsScript, after_words, look_once, looks, no_marks, with_given}
+use Rattle.bus_order.specs.View.{BusView, KeepsScript, after_words, look_once, looks, no_marks, return_entry, with_given}
 use Rattle.bus_order.proofs.WordsLaws.{all-found, all-without, length-without}
 use Rattle.bus_order.proofs.Looking.{look_over, look_some, settled_stays}
 use Rattle.bus_order.proofs.Keeping.{IsMore, reached_no_word, scripted_more, scripted_passed}
 use Rattle.bus_order.proofs.Losing.{given_loses, loss_more}
-use Rattle.script_laws.specs.Added.{AddsLosses, is_bus_loss, is_its_word}
+use Rattle.bus_order.proofs.Returning.{given_returns, return_more}
+use Rattle.script_laws.specs.Added.{AddsTurns, is_bus_loss, is_bus_turn, is_its_word}
+use Rattle.script_laws.specs.Crashes.{is_loss}
 
 -- ---- lists
 
@@ -77,26 +82,26 @@ none_first t (x ∷ xs) none =
 
 -- ---- what is added
 
-adds_nothing : (b : BusView) → AddsLosses b b
+adds_nothing : (b : BusView) → AddsTurns b b
 adds_nothing b = record {
   system = refl;
   script = refl;
   more = [];
   added = sym (append-nil b.log);
-  losses = refl;
+  turns = refl;
   by_words = refl;
   fewer = omega arith;
   within = λ test some. some;
   unused = λ k cause. refl;
 }
 
-adds_on : (a b c : BusView) → AddsLosses a b → AddsLosses b c → AddsLosses a c
+adds_on : (a b c : BusView) → AddsTurns a b → AddsTurns b c → AddsTurns a c
 adds_on a b c first next = record {
   system = next.system ∙ first.system;
   script = next.script ∙ first.script;
   more = first.more ++ next.more;
   added = next.added ∙ ap (λ l. l ++ next.more) first.added ∙ append_assoc a.log first.more next.more;
-  losses = list_all-append is_bus_loss first.more next.more ∙ and_from (list_all is_bus_loss first.more) (list_all is_bus_loss next.more) first.losses next.losses;
+  turns = list_all-append is_bus_turn first.more next.more ∙ and_from (list_all is_bus_turn first.more) (list_all is_bus_turn next.more) first.turns next.turns;
   by_words =
       list_all-append (λ e. list_any (is_its_word e) a.left) first.more next.more
       ∙ and_from (list_all (λ e. list_any (is_its_word e) a.left) first.more) (list_all (λ e. list_any (is_its_word e) a.left) next.more) first.by_words
@@ -107,13 +112,13 @@ adds_on a b c first next = record {
 }
 
 -- a word that gives nothing
-adds_passed : (b : BusView) (w : ScriptWord) → first_reached b.log b.left ≡ Some w → AddsLosses b (record b { left = without_reached b.log b.left })
+adds_passed : (b : BusView) (w : ScriptWord) → first_reached b.log b.left ≡ Some w → AddsTurns b (record b { left = without_reached b.log b.left })
 adds_passed b w first = record {
   system = refl;
   script = refl;
   more = [];
   added = sym (append-nil b.log);
-  losses = refl;
+  turns = refl;
   by_words = refl;
   fewer = let one = length-without (is_reached (length b.log)) b.left w first in omega (arith, one);
   within = λ test some. any-within (is_reached (length b.log)) test b.left some;
@@ -125,13 +130,13 @@ abbrev looked_at : BusView → Option What → BusView
 looked_at b o = record (with_given b o) { left = without_reached b.log b.left }
 
 -- a word that gives a loss
-adds_loss : (b : BusView) (j : ClusterNo) (place : ℕ) → first_reached b.log b.left ≡ Some (CrashAt j place) → nat_le place (length b.log) ≡ true → AddsLosses b (looked_at b (Some (Crash j Place)))
+adds_loss : (b : BusView) (j : ClusterNo) (place : ℕ) → first_reached b.log b.left ≡ Some (CrashAt j place) → nat_le place (length b.log) ≡ true → AddsTurns b (looked_at b (Some (Crash j Place)))
 adds_loss b j place first reached = record {
   system = refl;
   script = refl;
   more = crash_entry b.system b.log j Place ∷ [];
   added = refl;
-  losses = refl;
+  turns = refl;
   by_words =
       and_from (list_any (is_its_word (crash_entry b.system b.log j Place)) b.left) true
       (found_any (is_reached (length b.log)) (is_its_word (crash_entry b.system b.log j Place)) b.left (CrashAt j place) first (and_from (same_cluster j j) (nat_le place (length b.log)) (eq-eqb j.0 j.0 refl) reached)) refl;
@@ -140,32 +145,55 @@ adds_loss b j place first reached = record {
   unused = λ k cause. any-without (is_reached (length b.log)) (is_word_for k cause) (reached_no_word (length b.log) k cause) b.left;
 }
 
+-- a word that gives a return
+adds_return : (b : BusView) (j : ClusterNo) (place : ℕ) → first_reached b.log b.left ≡ Some (ReturnAt j place) → nat_le place (length b.log) ≡ true → AddsTurns b (looked_at b (Some (Return j)))
+adds_return b j place first reached = record {
+  system = refl;
+  script = refl;
+  more = return_entry b.system b.log j ∷ [];
+  added = refl;
+  turns = refl;
+  by_words =
+      and_from (list_any (is_its_word (return_entry b.system b.log j)) b.left) true
+      (found_any (is_reached (length b.log)) (is_its_word (return_entry b.system b.log j)) b.left (ReturnAt j place) first (and_from (same_cluster j j) (nat_le place (length b.log)) (eq-eqb j.0 j.0 refl) reached)) refl;
+  fewer = let one = length-without (is_reached (length b.log)) b.left (ReturnAt j place) first in omega (arith, one);
+  within = λ test some. any-within (is_reached (length b.log)) test b.left some;
+  unused = λ k cause. any-without (is_reached (length b.log)) (is_word_for k cause) (reached_no_word (length b.log) k cause) b.left;
+}
+
 -- ---- one look
 
--- what a built word gives is a loss at a place
-given_loss : (P : BusView → Type 0) (b : BusView) (w : ScriptWord) (v : What) → is_built_word w ≡ true → given_by (placement b.system b.log) w ≡ Some v
-    → ((j : ClusterNo) (place : ℕ) → w ≡ CrashAt j place → v ≡ Crash j Place → P (looked_at b (Some (Crash j Place)))) → P (looked_at b (Some v))
-given_loss P b (CrashAt j place) v built given more = by_test (lives_in (placement b.system b.log) j) given
+-- what a word gives is a loss at a place, or a return
+given_turn : (P : BusView → Type 0) (b : BusView) (w : ScriptWord) (v : What) → given_by (placement b.system b.log) w ≡ Some v
+    → ((j : ClusterNo) (place : ℕ) → w ≡ CrashAt j place → v ≡ Crash j Place → P (looked_at b (Some (Crash j Place))))
+    → ((j : ClusterNo) (place : ℕ) → w ≡ ReturnAt j place → v ≡ Return j → P (looked_at b (Some (Return j)))) → P (looked_at b (Some v))
+given_turn P b (CrashAt j place) v given lost back = by_test (lives_in (placement b.system b.log) j) given
   where
     by_test : (c : Bool) → cond c (Some (Crash j Place)) None ≡ Some v → P (looked_at b (Some v))
-    by_test true e = let same : Crash j Place ≡ v = ap (λ o. unwrap_or o v) e in subst (λ v. P (looked_at b (Some v))) same (more j place refl (sym same))
+    by_test true e = let same : Crash j Place ≡ v = ap (λ o. unwrap_or o v) e in subst (λ v. P (looked_at b (Some v))) same (lost j place refl (sym same))
     by_test false e = cc
-given_loss P b (CrashStep j step) v built given more = cc
-given_loss P b (DiskAt j call) v built given more = cc
-given_loss P b (ReturnAt j place) v built given more = absurd (true≢false (sym built))
+given_turn P b (CrashStep j step) v given lost back = cc
+given_turn P b (DiskAt j call) v given lost back = cc
+given_turn P b (ReturnAt j place) v given lost back = by_test (is_lost_in (placement b.system b.log) j) given
+  where
+    by_test : (c : Bool) → cond c (Some (Return j)) None ≡ Some v → P (looked_at b (Some v))
+    by_test true e = let same : Return j ≡ v = ap (λ o. unwrap_or o v) e in subst (λ v. P (looked_at b (Some v))) same (back j place refl (sym same))
+    by_test false e = cc
 
--- a look changes nothing, passes a word that gives nothing, or adds a loss
-by_look : (P : BusView → Type 0) (b : BusView) → list_all is_built_word b.left ≡ true → P b
+-- a look changes nothing, passes a word that gives nothing, or adds a loss or a return
+by_look : (P : BusView → Type 0) (b : BusView) → P b
     → ((w : ScriptWord) → first_reached b.log b.left ≡ Some w → given_by (placement b.system b.log) w ≡ None → P (looked_at b None))
     → ((j : ClusterNo) (place : ℕ) → is_over b.system b.log ≡ false → first_reached b.log b.left ≡ Some (CrashAt j place) → given_by (placement b.system b.log) (CrashAt j place) ≡ Some (Crash j Place) → P (looked_at b (Some (Crash j Place))))
+    → ((j : ClusterNo) (place : ℕ) → is_over b.system b.log ≡ false → first_reached b.log b.left ≡ Some (ReturnAt j place) → given_by (placement b.system b.log) (ReturnAt j place) ≡ Some (Return j) → P (looked_at b (Some (Return j))))
     → P (look_once b)
-by_look P b built same passed lost = by_end (is_over b.system b.log) refl
+by_look P b same passed lost back = by_end (is_over b.system b.log) refl
   where
     by_given : (w : ScriptWord) (o : Option What) → is_over b.system b.log ≡ false → first_reached b.log b.left ≡ Some w → given_by (placement b.system b.log) w ≡ o → P (looked_at b o)
     by_given w None goes_on first given = passed w first given
     by_given w (Some v) goes_on first given =
-        given_loss P b w v (all-found (is_reached (length b.log)) is_built_word b.left w built first).1 given
+        given_turn P b w v given
         (λ j place word is. lost j place goes_on (first ∙ ap Some word) (ap (given_by (placement b.system b.log)) (sym word) ∙ given ∙ ap Some is))
+        (λ j place word is. back j place goes_on (first ∙ ap Some word) (ap (given_by (placement b.system b.log)) (sym word) ∙ given ∙ ap Some is))
 
     by_first : (o : Option ScriptWord) → is_over b.system b.log ≡ false → first_reached b.log b.left ≡ o → P (look_once b)
     by_first None goes_on first = subst P (sym (look_some b None goes_on first)) same
@@ -177,23 +205,65 @@ by_look P b built same passed lost = by_end (is_over b.system b.log) refl
 
 built_once : (b : BusView) → list_all is_built_word b.left ≡ true → list_all is_built_word (look_once b).left ≡ true
 built_once b built =
-    by_look (λ new. list_all is_built_word new.left ≡ true) b built built
+    by_look (λ new. list_all is_built_word new.left ≡ true) b built
     (λ w first given. all-without (is_reached (length b.log)) is_built_word b.left built)
     (λ j place goes_on first given. all-without (is_reached (length b.log)) is_built_word b.left built)
+    (λ j place goes_on first given. all-without (is_reached (length b.log)) is_built_word b.left built)
 
-adds_once : (b : BusView) → list_all is_built_word b.left ≡ true → AddsLosses b (look_once b)
-adds_once b built =
-    by_look (AddsLosses b) b built (adds_nothing b) (λ w first given. adds_passed b w first)
-    (λ j place goes_on first given. adds_loss b j place first (all-found (is_reached (length b.log)) is_built_word b.left (CrashAt j place) built first).0)
+-- what is found passes
+found_passes : (t : ScriptWord → Bool) (ws : List ScriptWord) (w : ScriptWord) → find t ws ≡ Some w → t w ≡ true
+found_passes t ws w found = (all-found t (λ w. true) ws w (all_true ws) found).0
+  where
+    all_true : (ws : List ScriptWord) → list_all (λ w. true) ws ≡ true
+    all_true [] = refl
+    all_true (w ∷ ws) = all_true ws
+
+adds_once : (b : BusView) → AddsTurns b (look_once b)
+adds_once b =
+    by_look (AddsTurns b) b (adds_nothing b) (λ w first given. adds_passed b w first)
+    (λ j place goes_on first given. adds_loss b j place first (found_passes (is_reached (length b.log)) b.left (CrashAt j place) first))
+    (λ j place goes_on first given. adds_return b j place first (found_passes (is_reached (length b.log)) b.left (ReturnAt j place) first))
 
 -- ---- many
 
-pub adds_losses : (n : ℕ) (b : BusView) → list_all is_built_word b.left ≡ true → AddsLosses b (looks n b)
-adds_losses zero b built = adds_nothing b
-adds_losses (suc n) b built = adds_on b (look_once b) (looks n (look_once b)) (adds_once b built) (adds_losses n (look_once b) (built_once b built))
+pub adds_turns : (n : ℕ) (b : BusView) → AddsTurns b (looks n b)
+adds_turns zero b = adds_nothing b
+adds_turns (suc n) b = adds_on b (look_once b) (looks n (look_once b)) (adds_once b) (adds_turns n (look_once b))
 
-pub adds_after : (b : BusView) → list_all is_built_word b.left ≡ true → AddsLosses b (after_words b)
-adds_after b built = adds_losses (length b.left) b built
+pub adds_after : (b : BusView) → AddsTurns b (after_words b)
+adds_after b = adds_turns (length b.left) b
+
+-- by words that are built they are losses
+no_return : (e : Entry) (j : ClusterNo) (ws : List ScriptWord) → list_all is_built_word ws ≡ true → what e ≡ Return j → list_any (is_its_word e) ws ≡ true → ⊥
+no_return e j [] built is some = absurd (true≢false (sym some))
+no_return e j (w ∷ ws) built is some = by_word w (and_parts (is_built_word w) (list_all is_built_word ws) built).0 (or_parts_of (is_its_word e w) some) (no_return e j ws (and_parts (is_built_word w) (list_all is_built_word ws) built).1 is)
+  where
+    or_parts_of : (a : Bool) → (a || list_any (is_its_word e) ws) ≡ true → (a ≡ true) ⊎ (list_any (is_its_word e) ws ≡ true)
+    or_parts_of true h = inl refl
+    or_parts_of false h = inr h
+
+    by_word : (w : ScriptWord) → is_built_word w ≡ true → (is_its_word e w ≡ true) ⊎ (list_any (is_its_word e) ws ≡ true) → (list_any (is_its_word e) ws ≡ true → ⊥) → ⊥
+    by_word w built (inr later) none = none later
+    by_word (CrashAt k place) built (inl here) none = true≢false (sym (and_parts (is_crash_of k (what e)) (nat_le place e.place) here).0 ∙ ap (is_crash_of k) is)
+    by_word (CrashStep k step) built (inl here) none = true≢false (sym here)
+    by_word (DiskAt k call) built (inl here) none = true≢false (sym here)
+    by_word (ReturnAt k place) built (inl here) none = true≢false (sym built)
+
+pub adds_losses : (old new : BusView) → list_all is_built_word old.left ≡ true → (adds : AddsTurns old new) → list_all is_bus_loss adds.more ≡ true
+adds_losses old new built adds = all_losses adds.more adds.turns adds.by_words
+  where
+    by_what : (e : Entry) (w : What) → what e ≡ w → is_given w ≡ true → list_any (is_its_word e) old.left ≡ true → is_loss w ≡ true
+    by_what e (Crash k cause) is given word = refl
+    by_what e (Return j) is given word = absurd (no_return e j old.left built is word)
+    by_what e _ is given word = absurd (true≢false (sym given))
+
+    all_losses : (more : List Entry) → list_all is_bus_turn more ≡ true → list_all (λ e. list_any (is_its_word e) old.left) more ≡ true → list_all is_bus_loss more ≡ true
+    all_losses [] turns words = refl
+    all_losses (e ∷ more) turns words =
+        let here = and_parts (is_bus_turn e) (list_all is_bus_turn more) turns in
+        let word = and_parts (list_any (is_its_word e) old.left) (list_all (λ e. list_any (is_its_word e) old.left) more) words in
+        let given = (and_parts (is_bus (e.post).by) (is_given (what e)) here.0).1 in
+        and_from (is_bus_loss e) (list_all is_bus_loss more) (and_from (is_bus_turn e) (is_loss (what e)) here.0 (by_what e (what e) refl given word.0)) (all_losses more here.1 word.1)
 
 -- where no word was reached they change nothing
 pub none_is_reached : (n : ℕ) (b : BusView) → list_any (is_reached (length b.log)) b.left ≡ false → looks n b ≡ b
@@ -212,7 +282,7 @@ record Stays (b : BusView) : Type 0 where
 
 stays_once : (b : BusView) → Stays b → Stays (look_once b)
 stays_once b stays =
-    by_look Stays b stays.words stays
+    by_look Stays b stays
     (λ w first given. record {
       legal = stays.legal;
       words = all-without (is_reached (length b.log)) is_built_word b.left stays.words;
@@ -225,6 +295,14 @@ stays_once b stays =
       legal = IsLegal-snoc MayStand b.system b.log (crash_entry b.system b.log j Place) stays.legal more.may;
       words = more.words;
       scripted = scripted_more b (crash_entry b.system b.log j Place) (without_reached b.log b.left) (no_marks b.marks) stays.scripted more;
+    })
+    (λ j place goes_on first given.
+    let may = given_returns b (ReturnAt j place) j stays.scripted stays.words goes_on first given in
+    let more : IsMore b (return_entry b.system b.log j) (without_reached b.log b.left) = return_more b j (without_reached b.log b.left) stays.legal may in
+    record {
+      legal = IsLegal-snoc MayStand b.system b.log (return_entry b.system b.log j) stays.legal more.may;
+      words = more.words;
+      scripted = scripted_more b (return_entry b.system b.log j) (without_reached b.log b.left) (no_marks b.marks) stays.scripted more;
     })
 
 all_stays : (n : ℕ) (b : BusView) → Stays b → Stays (looks n b)

@@ -5,14 +5,16 @@ ghost use Rattle.cert_sched.specs.Legal.{IsLegalBy};
 ghost use Rattle.cert_sched.specs.Built.{MayStand, is_built_word};
 ghost use Rattle.cert_sched.specs.Looked.{is_reached};
 ghost use Rattle.bus_order.specs.View.{BusView, KeepsScript, after_words, looks};
-ghost use Rattle.script_laws.specs.Added.{AddsLosses};
+ghost use Rattle.script_laws.specs.Added.{AddsTurns, is_bus_loss};
 
-/// A law and no code: the looks at the words of a script add losses alone, each by a word that was left.
-pub fn looks_add_losses()
+/// A law and no code: the looks at the words of a script add losses and returns alone, each by a word that was left.
+pub fn looks_add_turns()
     // Some of them,
-    ensures some { (n : ℕ) (b : BusView) → list_all is_built_word b.left ≡ true → AddsLosses b (looks n b) }
+    ensures some { (n : ℕ) (b : BusView) → AddsTurns b (looks n b) }
     // and all that are due.
-    ensures after { (b : BusView) → list_all is_built_word b.left ≡ true → AddsLosses b (after_words b) }
+    ensures after { (b : BusView) → AddsTurns b (after_words b) }
+    // Where the words that are left are built they are losses.
+    ensures losses { (old new : BusView) → list_all is_built_word old.left ≡ true → (adds : AddsTurns old new) → list_all is_bus_loss adds.more ≡ true }
     // Where the log has reached no word that is left they change nothing.
     ensures none_reached { (n : ℕ) (b : BusView) → list_any (is_reached (length b.log)) b.left ≡ false → looks n b ≡ b }
 {}
