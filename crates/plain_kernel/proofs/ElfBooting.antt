@@ -1,9 +1,7 @@
 -- A root of the image that a block `elf` gives begins with the memory of its file.
-use Rattle.std.proofs.Common.{◌≡◌, ℕ, ◌-◌, ◌*◌, List, ◌++◌, length, Option, Some, Ok, refl, ap, ◌∙◌}
+use Rattle.std.proofs.Common.{◌≡◌, ℕ, ◌-◌, ◌*◌, List, ◌++◌, length, Option, Some, Ok, ap, ◌∙◌}
 use Rattle.std.specs.Prelude.{replicate, slice_get, unwrap_or}
 use Rattle.t32_base.specs.declared.process.Pid.{Pid}
-use Rattle.rv_elf.specs.File.{entry}
-use Rattle.rv_elf.specs.Loaded.{loaded}
 use Rattle.sys_text.specs.declared.system.System.{System}
 use Rattle.sys_text.specs.declared.system.Image.{Image}
 use Rattle.sys_text.specs.declared.system.Root.{Root}
