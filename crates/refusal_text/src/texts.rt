@@ -15,19 +15,22 @@ pub fn system_rule_text(rule: u8) -> &'static str
         5 => "a number is outside its limit",
         6 => "its two clusters or its two roots are the same",
         7 => "its image name is used twice, or its image or root is not there",
-        8 => "it has more words, processes or ends than there is room for, or not the words of its file",
+        8 =>
+            "it has more words, processes or ends than there is room for, or not the words of its file",
         9 => "the assembler refuses it",
         10 => "the text ends before its first root, or inside a block",
         11 => "its file is too short, or does not begin as an ELF file",
         12 => "its file has numbers that are not of 32 bits, lowest byte first",
         13 => "its file is no executable for RISC-V",
         14 => "its file has compressed code",
-        15 => "the table of program headers is not in its file, or has rows that are not of 32 bytes",
+        15 =>
+            "the table of program headers is not in its file, or has rows that are not of 32 bytes",
         16 => "its file is to be linked when it is loaded",
         17 => "a segment of its file has more bytes than memory, or bytes that are not in the file",
         18 => "a segment of its file is not in memory",
         19 => "two segments of its file have a byte of memory in common",
-        _ => "the first instruction of its file is not in memory, or has an address that is no multiple of 4",
+        _ =>
+            "the first instruction of its file is not in memory, or has an address that is no multiple of 4",
     }
 }
 

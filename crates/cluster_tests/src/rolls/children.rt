@@ -62,7 +62,16 @@ fn a_process_stays_before_its_end_for_its_child(rt: HostRuntime) -> Result<(), F
 
 // Whether it runs, and how many posts it synchronises by: no page of it changed, so its state alone.
 fn synchronised(alloc: Global) -> Result<(bool, usize), NoMemory> {
-    let mut resident = Resident::running(Process::root(alloc, Pid(16), 0x10000, 1, &EXIT, 1000, 0, 0)?);
+    let mut resident = Resident::running(Process::root(
+        alloc,
+        Pid(16),
+        0x10000,
+        1,
+        &EXIT,
+        1000,
+        0,
+        0,
+    )?);
     let runs = resident.runs();
     let posts = resident.synchronise(alloc, ClusterNo(0))?;
     Ok((runs, posts.len()))

@@ -34,7 +34,10 @@ fn run_four(alloc: Global, mut p: Process) -> Result<Stops, NoMemory> {
 }
 
 fn two_ran(alloc: Global, limit: u32) -> Result<Stops, NoMemory> {
-    run_four(alloc, Process::root(alloc, Pid(16), 0x10000, 1, &TWO, limit, 0, 0)?)
+    run_four(
+        alloc,
+        Process::root(alloc, Pid(16), 0x10000, 1, &TWO, limit, 0, 0)?,
+    )
 }
 
 const STOPS: Result<Stops, NoMemory> = Ok([
