@@ -3,6 +3,8 @@
 #[cfg(test)]
 mod assembler;
 #[cfg(test)]
+mod elf_blocks;
+#[cfg(test)]
 mod load;
 #[cfg(test)]
 mod printing;
