@@ -5,6 +5,7 @@ ghost use Rattle.backup_mode.specs.Posts.{renewed_record, standing_post};
 ghost use Rattle.backup_mode.specs.Renewal.{cleared, renewal, AreInOrder};
 
 use bus_msg::entry::{By, Post, What};
+use bus_msg::shared::Shared;
 use proc_state::process::Process;
 use std::alloc::Global;
 use sync_point::batch::page_posts;
@@ -35,7 +36,7 @@ pub fn fresh(
         what: What::Rebackup {
             to,
             fresh: true,
-            recs,
+            recs: Shared::new(alloc, recs)?,
         },
     })?;
     process.ram.clear_dirty();
@@ -62,7 +63,7 @@ fn record_as_it_is(alloc: Global, process: &Process) -> Result<BackRec, NoMemory
 /// The post by which a process that was moved and has not run, with its family that never synchronised, gets its
 /// backup in the cluster `to`, as the cluster `by` sends it: their records as they are, that of the process first and
 /// the others by rising pid. Takes no memory.
-pub fn standing(recs: List<BackRec>, to: ClusterNo, by: ClusterNo) -> Post
+pub fn standing(recs: Shared<List<BackRec>>, to: ClusterNo, by: ClusterNo) -> Post
     requires { AreInOrder recs }
     ensures { result ≡ standing_post by to recs }
 {

@@ -108,13 +108,17 @@ fn copied_answer(pid: Pid, index: u16, bytes: &Shared<[u8; 256]>) -> Result<What
     })
 }
 
-fn copied_rebackup(to: ClusterNo, fresh: bool, recs: &List<BackRec>) -> Result<What, NoMemory>
+fn copied_rebackup(
+    to: ClusterNo,
+    fresh: bool,
+    recs: &Shared<List<BackRec>>,
+) -> Result<What, NoMemory>
     ensures { IfOk result (λ c. c ≡ What.Rebackup to fresh recs.now) }
 {
     Ok(What::Rebackup {
         to,
         fresh,
-        recs: copied_records(recs.allocator(), recs.as_slice())?,
+        recs: recs.copy()?,
     })
 }
 
@@ -155,16 +159,6 @@ fn copied_numbers(numbers: &List<u64>) -> Result<List<u64>, NoMemory>
     ensures { IfOk result (λ c. c ≡ numbers.now) }
 {
     Ok(List::from_vec(numbers.as_slice().to_vec(numbers.allocator())?))
-}
-
-fn copied_records(alloc: Global, recs: &[BackRec]) -> Result<List<BackRec>, NoMemory>
-    ensures { IfOk result (λ c. c ≡ recs.now) }
-{
-    let mut copies = List::new(alloc);
-    for record in recs {
-        copies.push(record.copy()?)?;
-    }
-    Ok(copies)
 }
 
 fn copied_rests(alloc: Global, rests: &[(Pid, u64)]) -> Result<List<(Pid, u64)>, NoMemory>

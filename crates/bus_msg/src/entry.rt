@@ -74,7 +74,7 @@ pub enum What {
     Rebackup {
         to: ClusterNo,
         fresh: bool,
-        recs: List<BackRec>,
+        recs: Shared<List<BackRec>>,
     },
     /// Nothing can move any more. For each process that has not ended, its count of steps.
     Done {

@@ -114,7 +114,7 @@ fn said(alloc: Global, what: &What) -> Result<String, AllocError>
             let cluster = k.0;
             format!(in alloc; "return {cluster}")
         }
-        What::Rebackup { to, fresh, recs } => new_backup(alloc, *to, *fresh, recs.as_slice()),
+        What::Rebackup { to, fresh, recs } => new_backup(alloc, *to, *fresh, recs.get().as_slice()),
         What::Done { .. } => String::from_str(alloc, "done"),
         What::Stop => String::from_str(alloc, "stop"),
     }

@@ -134,7 +134,7 @@ fn push_items(items: &mut Vec<Item>, done: &BTreeMap<u32, u64>, what: &What) -> 
         }
         What::Rebackup { fresh, recs, .. } => {
             if *fresh {
-                push_first(items, done, recs.as_slice())
+                push_first(items, done, recs.get().as_slice())
             } else {
                 Ok(())
             }
@@ -160,7 +160,7 @@ fn count_of(what: &What) -> Option<(Pid, u64)>
         What::Sync { pid, small, .. } => Some((*pid, steps_made(small.get()))),
         What::Rebackup { fresh, recs, .. } => {
             if *fresh {
-                count_in_first(recs.as_slice())
+                count_in_first(recs.get().as_slice())
             } else {
                 None
             }

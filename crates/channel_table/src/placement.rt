@@ -319,7 +319,7 @@ impl Placement {
             What::Sync { pid, .. } => self.processes.sync(*pid),
             What::Crash { k, .. } => self.move_after_crash(*k),
             What::Return { k } => self.come_back(*k),
-            What::Rebackup { to, fresh, recs } => self.rebackup(*to, *fresh, recs.as_slice()),
+            What::Rebackup { to, fresh, recs } => self.rebackup(*to, *fresh, recs.get().as_slice()),
             What::Birth { .. }
             | What::Mail { .. }
             | What::Page { .. }

@@ -60,7 +60,7 @@ fn take_in<D: PageDisk>(
             Ok(())
         }
         What::Rebackup { fresh, recs, .. } => {
-            commit_first(pager, *fresh, recs.as_slice());
+            commit_first(pager, *fresh, recs.get().as_slice());
             Ok(())
         }
         What::PageIs { pid, index, .. } => {

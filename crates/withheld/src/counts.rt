@@ -39,7 +39,7 @@ pub fn note(counts: &mut Counts, entry: &Entry) -> Result<(), NoMemory>
             Ok(())
         }
         What::Rebackup { fresh, recs, .. } => {
-            clear_first(counts, *fresh, recs.as_slice());
+            clear_first(counts, *fresh, recs.get().as_slice());
             Ok(())
         }
         What::Exit { .. }

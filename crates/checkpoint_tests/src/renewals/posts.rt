@@ -5,6 +5,7 @@ ghost use Rattle.backup_mode.specs.Renewal.{AreInOrder};
 use backup_mode::posts::{fresh, standing};
 use backup_queue::record::Record;
 use bus_msg::entry::{By, Post, What};
+use bus_msg::shared::Shared;
 use proc_state::process::Process;
 use std::alloc::Global;
 use std::test::Fail;
@@ -61,6 +62,7 @@ fn told_of(post: &Post) -> (By, Shown) {
     let told = match &post.what {
         What::Page { index, bytes, .. } => Shown::Page(*index, bytes.get()[0]),
         What::Rebackup { to, fresh, recs } => {
+            let recs = recs.get();
             Shown::Backup(to.0, *fresh, recs.len(), kept(recs.as_slice()))
         }
         _ => Shown::Other,
@@ -151,7 +153,8 @@ fn family(alloc: Global) -> Result<List<BackRec>, NoMemory>
 }
 
 fn handed_on(alloc: Global) -> Result<(By, Shown), NoMemory> {
-    Ok(told_of(&standing(family(alloc)?, ClusterNo(2), ClusterNo(1))))
+    let recs = Shared::new(alloc, family(alloc)?)?;
+    Ok(told_of(&standing(recs, ClusterNo(2), ClusterNo(1))))
 }
 
 #[test]

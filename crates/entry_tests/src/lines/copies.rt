@@ -93,7 +93,7 @@ fn held(rec: &BackRec) -> Held {
 // What the records hold, where it is a new backup of just two.
 fn both_held(post: &Post) -> Option<(Held, Held)> {
     match &post.what {
-        What::Rebackup { recs, .. } => match recs.as_slice() {
+        What::Rebackup { recs, .. } => match recs.get().as_slice() {
             [first, second] => Some((held(first), held(second))),
             _ => None,
         },

@@ -100,7 +100,7 @@ pub fn sync_of(alloc: Global, took: Option<u8>) -> Result<What, NoMemory> {
 }
 
 pub fn rebackup_of(alloc: Global, fresh: bool) -> Result<What, NoMemory> {
-    let recs = records_of(alloc)?;
+    let recs = Shared::new(alloc, records_of(alloc)?)?;
     Ok(What::Rebackup {
         to: ClusterNo(0),
         fresh,

@@ -102,7 +102,7 @@ pub fn small(pid: Pid) -> Small {
     }
 }
 
-pub fn records(alloc: Global, pids: &[u32]) -> Result<List<BackRec>, NoMemory> {
+pub fn records(alloc: Global, pids: &[u32]) -> Result<Shared<List<BackRec>>, NoMemory> {
     let mut recs = List::new(alloc);
     for pid in pids {
         recs.push(BackRec {
@@ -117,7 +117,7 @@ pub fn records(alloc: Global, pids: &[u32]) -> Result<List<BackRec>, NoMemory> {
             births: List::new(alloc),
         })?;
     }
-    Ok(recs)
+    Shared::new(alloc, recs)
 }
 
 pub fn exit(places: &mut Placement, pid: Pid) -> Result<(), NoMemory> {
@@ -157,7 +157,7 @@ pub fn rebackup(
     places: &mut Placement,
     to: ClusterNo,
     fresh: bool,
-    recs: List<BackRec>,
+    recs: Shared<List<BackRec>>,
 ) -> Result<(), NoMemory> {
     absorbs(places, What::Rebackup { to, fresh, recs })
 }

@@ -101,7 +101,7 @@ fn rebackup(alloc: Global, fresh: bool, pid: u32, steps: u32) -> Result<What, No
     Ok(What::Rebackup {
         to: ClusterNo(1),
         fresh,
-        recs,
+        recs: Shared::new(alloc, recs)?,
     })
 }
 
