@@ -7,18 +7,14 @@ use Rattle.sys_text.specs.declared.system.System.{System}
 use Rattle.sys_text.specs.Boot.{roots_of}
 use Rattle.bus_msg.specs.declared.entry.By.TheVariants.{Cluster}
 use Rattle.bus_msg.specs.declared.entry.What.{What}
-use Rattle.bus_msg.specs.declared.entry.What.TheVariants.{Birth, Crash, Return, Rebackup}
+use Rattle.bus_msg.specs.declared.entry.What.TheVariants.{Birth, Crash, Return}
 use Rattle.bus_msg.specs.declared.entry.Entry.{Entry}
 use Rattle.bus_msg.specs.declared.placed.Placed.{Placed}
 use Rattle.bus_msg.specs.Places.{ClusterPlace, Places, boot_cluster, lives_in, never_lost, placed_at, servers_in}
-use Rattle.bus_msg.specs.PlacedAfter.{what, placed_after, changed_at, lost_cluster, raised_serial, with_birth}
+use Rattle.bus_msg.specs.PlacedAfter.{what, placed_after, placement_after, changed_at, lost_cluster, raised_serial, returned_cluster, with_birth}
 use Rattle.cert_sched.specs.Parts.{first_of}
 use Rattle.cert_sched.specs.Schedule.{placement, placed_root}
 use Rattle.cert_sched.specs.Rules.{is_by}
-use Rattle.cert_sched.specs.Legal.{IsLegalBy}
-use Rattle.cert_sched.specs.Built.{MayStand, is_built}
-use Rattle.cert_sched.proofs.LogLaws.{placement-snoc}
-use Rattle.cert_sched.proofs.Induction.{legal_induction}
 use Rattle.cert_sched.proofs.FreshLaws.{kept_elsewhere, put_here}
 
 -- a cluster that was never lost lives
@@ -44,30 +40,36 @@ changed f keeps clusters j all n = by_number (eqb j n) refl
         elsewhere None = all n
         elsewhere (Some c) = ap serves (kept_elsewhere clusters j n (f c) (λ e. true≢false (sym (eq-eqb j n (sym e)) ∙ apart))) ∙ all n
 
-served_more : (places : Places) (w : What) → is_built w ≡ true → Served places.clusters → Served (placed_after places w).clusters
-served_more places (Birth parent at child end) built all = by_parent (placed_at places parent)
+served_more : (places : Places) (w : What) → Served places.clusters → Served (placed_after places w).clusters
+served_more places (Birth parent at child end) all = by_parent (placed_at places parent)
   where
     by_parent : (o : Option Placed) → Served (with_birth places child o).clusters
     by_parent None = all
     by_parent (Some q) = changed raised_serial (λ c h. h) places.clusters (q.home).0 all
-served_more places (Crash k cause) built all = changed lost_cluster (λ c h. refl) places.clusters k.0 all
-served_more places (Return k) built all = absurd (true≢false (sym built))
-served_more places (Rebackup to fresh recs) built all = absurd (true≢false (sym built))
-served_more places _ built all = all
+served_more places (Crash k cause) all = changed lost_cluster (λ c h. refl) places.clusters k.0 all
+served_more places (Return k) all = changed returned_cluster (λ c h. or_true c.was_lost) places.clusters k.0 all
+  where
+    or_true : (b : Bool) → (b || true) ≡ true
+    or_true true = refl
+    or_true false = refl
+served_more places _ all = all
+
+served_after : (log : List Entry) (places : Places) → Served places.clusters → Served (placement_after places log).clusters
+served_after [] places all = all
+served_after (e ∷ log) places all = served_after log (placed_after places (what e)) (served_more places (what e) all)
 
 served_at_boot : (placed : List Placed) (numbers : List ℕ) → Served (map (boot_cluster placed) numbers)
 served_at_boot placed [] n = refl
 served_at_boot placed (m ∷ numbers) zero = refl
 served_at_boot placed (m ∷ numbers) (suc n) = served_at_boot placed numbers n
 
--- in a log of the kinds that are built, a cluster that was never lost lives
-pub servers_live : (system : System) (log : List Entry) (k : ClusterNo) → IsLegalBy MayStand system log → never_lost (placement system log) k ≡ true → lives_in (placement system log) k ≡ true
+-- in any log, a cluster that was never lost lives
+pub servers_live : (system : System) (log : List Entry) (k : ClusterNo) → never_lost (placement system log) k ≡ true → lives_in (placement system log) k ≡ true
 unfolding placement
-servers_live system log k legal = lives (slice_get (placement system log).clusters k.0) (all k.0)
+servers_live system log k = lives (slice_get (placement system log).clusters k.0) (all k.0)
   where
     all : Served (placement system log).clusters
-    all = legal_induction MayStand system (λ log. Served (placement system log).clusters) (served_at_boot (map placed_root (roots_of system)) _)
-        (λ log e before may. subst (λ (p : Places). Served p.clusters) (sym (placement-snoc system log e)) (served_more (placement system log) (what e) may.built before)) log legal
+    all = served_after log (placement system []) (served_at_boot (map placed_root (roots_of system)) _)
 
     lives : (o : Option ClusterPlace) → serves o ≡ true → option_map_or (λ (c : ClusterPlace). not c.was_lost) o false ≡ true → option_map_or (λ (c : ClusterPlace). c.lives) o false ≡ true
     lives None h never = never

@@ -136,7 +136,7 @@ module _ (system : System) (log : List Entry) (k : ClusterNo) (legal : IsLegalBy
   first_within = omega (arith, there_within (placement system log) k never, built_clusters-length system log legal)
 
   pub first_lives : was_lost_in log k ≡ false
-  first_lives = lived (was_lost_in log k) (sym (lives_unless_lost system log k legal first_within) ∙ servers_live system log k legal never)
+  first_lives = lived (was_lost_in log k) (sym (lives_unless_lost system log k legal first_within) ∙ servers_live system log k never)
     where
       lived : (b : Bool) → not b ≡ true → b ≡ false
       lived true h = absurd (true≢false (sym h))

@@ -191,7 +191,7 @@ lost_sends_not system log e k legal may lost = by_test (is_by_cluster k e) refl
   where
     by_test : (b : Bool) → is_by_cluster k e ≡ b → is_by_cluster k e ≡ false
     by_test true from =
-        let lives = sender_lives (placement system log) (λ k. servers_live system log k legal) (e.post).by k (what e) may.built (may.stands).by_right from in
+        let lives = sender_lives (placement system log) (λ k. servers_live system log k) (e.post).by k (what e) may.built (may.stands).by_right from in
         absurd (true≢false (sym lost ∙ not_off_not_lost system log k legal (living_not_off system log k legal lives)))
     by_test false other = other
 

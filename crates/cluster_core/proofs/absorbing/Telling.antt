@@ -27,7 +27,7 @@ use Rattle.cert_sched.specs.Built.{MayStand, TellingMayFollow, tells_or_closes}
 use Rattle.cert_sched.specs.Scripted.{closes}
 use Rattle.cert_sched.proofs.Induction.{is_over-snoc}
 use Rattle.cert_sched.proofs.StepLaws.{Tells, SentTo, is_sent}
-use Rattle.cert_sched.proofs.MailLaws.{built_is_plain, emission_at-receiver, process_after-sender, received, received-goes_on, with_arrival}
+use Rattle.cert_sched.proofs.MailLaws.{emission_at-receiver, process_after-sender, received, received-goes_on, with_arrival}
 use Rattle.cert_sched.proofs.EndedLaws.{letter_told, silent_upto-arrives}
 use Rattle.cluster_core.proofs.absorbing.ByKind.{by_kind}
 
@@ -144,4 +144,4 @@ sends_still system log e t q n m s apart sends = emission_at-receiver system log
 -- where silent steps lead another process that has not ended, they lead after the entry too
 pub silent_still : (system : System) (log : List Entry) (e : Entry) (t : Telling system log e) (q : Pid) (n : ℕ) (s : ProcState) → IsLegalBy MayStand system log → is_over system log ≡ false → q.0 ≢ (t.pid).0
     → is_some (unended_at (placement system log) q) ≡ true → silent_upto system log q n ≡ Some s → silent_upto system (log ++ e ∷ []) q n ≡ Some (with_arrival t.emission q s)
-silent_still system log e t q n s legal goes_on apart placed silent = silent_upto-arrives MayStand built_is_plain system log e t.pid t.at t.emission t.after legal goes_on t.is t.tells q n s apart placed silent
+silent_still system log e t q n s legal goes_on apart placed silent = silent_upto-arrives MayStand (λ system log e may. may.stands) system log e t.pid t.at t.emission t.after legal goes_on t.is t.tells q n s apart placed silent

@@ -11,10 +11,9 @@ use Rattle.roll_forward.specs.RunsOut.{nothing_left}
 use Rattle.cert_sched.specs.Built.{MayStand}
 use Rattle.cert_sched.specs.Legal.{IsLegalBy, Stands}
 use Rattle.cert_sched.specs.Simulation.{IsUnended}
-use Rattle.cert_sched.proofs.MailLaws.{built_is_plain}
 use Rattle.log_laws.proofs.records.Standing.{built_stands}
 use Rattle.replay_laws.specs.rolling.Behind.{RollsBehind}
-use Rattle.replay_laws.proofs.rolling.CaughtUp.{caught_up}
+use Rattle.replay_laws.proofs.rolling.ByRule.{built_caught_up}
 use Rattle.replay_laws.proofs.costs.CaughtLimits.{caught_keeps}
 use Rattle.cluster_core.specs.View.{Runs, Rolls, IsHeldWithin, limits_of}
 use Rattle.cluster_core.specs.Follows.{IsOpen}
@@ -27,7 +26,7 @@ module _ (system : System) (log : List Entry) (p : Pid) (process : Process) (cou
     (behind : RollsBehind system log p (state_of process) counts births) where
   -- with nothing left it has caught up
   runs_held : nothing_left counts births ≡ true → IsHeldAs system log [] p (Runs process)
-  runs_held none = at_once system log p (state_of process) (caught_up MayStand built_is_plain system log p (state_of process) counts births valid go.0 go.1 unended behind none)
+  runs_held none = at_once system log p (state_of process) (built_caught_up system log p (state_of process) counts births valid go.0 go.1 unended behind none)
 
   -- it is held as the log says
   pub going_is_held : IsHeldAs system log [] p (going_held process counts births)

@@ -27,7 +27,7 @@ use Rattle.cert_sched.specs.Steps.{page_count}
 use Rattle.cert_sched.specs.Kinds.{PageIsHolds}
 use Rattle.cert_sched.specs.Rules.{holds_of, awaits_pages, has_its_pages}
 use Rattle.cert_sched.specs.Built.{MayStand, KeepsWaits}
-use Rattle.cert_sched.specs.Legal.{IsLegalBy, IsLegalFrom, Stands}
+use Rattle.cert_sched.specs.Legal.{IsLegalBy, IsLegalFrom, MayFollow, Stands}
 use Rattle.cert_sched.specs.Simulation.{IsUnended}
 use Rattle.cert_sched.proofs.LogLaws.{placement-snoc}
 use Rattle.cert_sched.proofs.RecordLaws.{start_of-snoc}
@@ -207,6 +207,9 @@ page_in_log system before after e p i bytes start valid legal is none started =
 -- by this rule an entry stands, and keeps the waits for pages
 abbrev pub IsWaitingRule : (System → List Entry → Entry → Type 0) → Type 0
 IsWaitingRule May = (system : System) (log : List Entry) (e : Entry) → May system log e → Stands system log e × KeepsWaits system log e
+
+pub legal_waits : IsWaitingRule MayFollow
+legal_waits system log e may = (may.stands, may.pages)
 
 pub built_waits : IsWaitingRule MayStand
 built_waits system log e may = (may.stands, may.pages)

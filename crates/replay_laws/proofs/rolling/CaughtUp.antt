@@ -19,7 +19,6 @@ use Rattle.cert_sched.specs.Rules.{is_over}
 use Rattle.cert_sched.specs.Rolling.{refilled, RollsAs}
 use Rattle.cert_sched.specs.Legal.{IsLegalBy}
 use Rattle.cert_sched.specs.Simulation.{IsUnended}
-use Rattle.cert_sched.proofs.MailLaws.{IsPlainRule}
 use Rattle.cert_sched.proofs.CameLaws.{IsStandingRule}
 use Rattle.cert_sched.proofs.ReplayLaws.{Replays, Sharp, sharp_replays, replays_counts, replays_computes}
 use Rattle.cert_sched.proofs.RunsOutLaws.{AllFine, replays_fine, sharp_runs_out, start_ends}
@@ -88,11 +87,6 @@ standing_caught_up May standing system log p s counts births valid legal goes_on
     by_process (Some now) is there =
         is ∙ ap Some (caught_up_exact system log p now s counts births is (unended_open May standing system log p valid legal unended now is)
         (exact_unended May standing system log p now valid legal goes_on unended is) rolls none)
-
--- so by a rule of some kinds
-pub caught_up : (May : System → List Entry → Entry → Type 0) → IsPlainRule May → (system : System) (log : List Entry) (p : Pid) (s : ProcState) (counts : Counts) (births : List Pid) → is_system system ≡ true → IsLegalBy May system log
-    → is_over system log ≡ false → IsUnended system log p → RollsBehind system log p s counts births → nothing_left counts births ≡ true → process_after system log p ≡ Some s
-caught_up May plain = standing_caught_up May (λ system log e may. (plain system log e may).0)
 
 -- it stands in the log where its own steps are
 pub silent_here : (system : System) (log : List Entry) (p : Pid) (s : ProcState) → process_after system log p ≡ Some s → silent_upto system log p (s.small).steps ≡ Some s
