@@ -3,6 +3,7 @@ use Rattle.std.proofs.Common.{◌≡◌, ℕ, zero, suc, refl, sym, ◌∙◌, a
 use Rattle.std.specs.Prelude.{slice_get, filter}
 use Rattle.std.specs.Option.{option_map_or}
 use Rattle.t32_base.specs.declared.process.ClusterNo.{ClusterNo}
+use Rattle.t32_base.proofs.Facts.{or_true}
 use Rattle.sys_text.specs.declared.system.System.{System}
 use Rattle.sys_text.specs.Boot.{roots_of}
 use Rattle.bus_msg.specs.declared.entry.By.TheVariants.{Cluster}
@@ -48,10 +49,6 @@ served_more places (Birth parent at child end) all = by_parent (placed_at places
     by_parent (Some q) = changed raised_serial (λ c h. h) places.clusters (q.home).0 all
 served_more places (Crash k cause) all = changed lost_cluster (λ c h. refl) places.clusters k.0 all
 served_more places (Return k) all = changed returned_cluster (λ c h. or_true c.was_lost) places.clusters k.0 all
-  where
-    or_true : (b : Bool) → (b || true) ≡ true
-    or_true true = refl
-    or_true false = refl
 served_more places _ all = all
 
 served_after : (log : List Entry) (places : Places) → Served places.clusters → Served (placement_after places log).clusters

@@ -240,7 +240,7 @@ module _ (c : ClusterView) (log : List Entry) (e : Entry) (server : Option Pager
   alike_here w is none same =
       f.family ∙ filters_same (concerns places k) (concerns (placed_after places w) k) (unsynced_births c.system log) same
       ∙ (λ i. filter (concerns (placed_after places (sym is i)) k) (unsynced_births c.system log))
-      ∙ (λ i. filter (concerns (sym at_later i) k) (sym (others_leave c.system log e may.built (ap changes_unsynced is ∙ none)) i))
+      ∙ (λ i. filter (concerns (sym at_later i) k) (sym (others_leave c.system log e (ap changes_unsynced is ∙ none)) i))
 
   there : (w : What) → what e ≡ w → placement c.system later ≡ placed_after places w
   there w is = at_later ∙ ap (placed_after places) is

@@ -165,7 +165,7 @@ module _ (c : ClusterView) (log : List Entry) (e : Entry) (valid : is_system c.s
       → filter (concerns places k) (unsynced_births c.system log) ≡ filter (concerns (placement c.system later) k) (unsynced_births c.system later)
   births_left {w} is same none =
       (λ i. filter (concerns (sym same i) k) (unsynced_births c.system log)) ∙ (λ i. filter (concerns (placed_after places (sym is i)) k) (unsynced_births c.system log))
-      ∙ (λ i. filter (concerns (sym at_later i) k) (sym (others_leave c.system log e may.built (ap changes_unsynced is ∙ none)) i))
+      ∙ (λ i. filter (concerns (sym at_later i) k) (sym (others_leave c.system log e (ap changes_unsynced is ∙ none)) i))
 
   -- ---- what is kept as a page server
 

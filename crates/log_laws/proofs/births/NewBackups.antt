@@ -4,7 +4,7 @@ use Rattle.std.specs.Prelude.{filter, option_map}
 use Rattle.t32_base.specs.declared.process.Pid.{Pid}
 use Rattle.t32_base.specs.declared.process.ClusterNo.{ClusterNo}
 use Rattle.t32_base.specs.declared.letter.BackRec.{BackRec}
-use Rattle.t32_base.proofs.Facts.{eqb_turned}
+use Rattle.t32_base.proofs.Facts.{eqb_turned, or_false, or_true}
 use Rattle.sys_text.specs.declared.system.System.{System}
 use Rattle.bus_msg.specs.declared.entry.What.TheVariants.{Return, Rebackup}
 use Rattle.bus_msg.specs.declared.entry.Entry.{Entry}
@@ -17,27 +17,10 @@ use Rattle.cert_sched.proofs.UnendedLaws.{unended_map, unended_pid, backup_keeps
 use Rattle.cert_sched.proofs.FamilyLaws.{Pair}
 use Rattle.log_laws.specs.births.Unsynced.{unsynced_births}
 use Rattle.log_laws.proofs.births.Filters.{and_true, and_false}
-use Rattle.log_laws.proofs.births.OtherEntries.{never_synced, without_one, births_stay}
+use Rattle.log_laws.proofs.births.OtherEntries.{never_synced, unsynced_after_standing, without_one, births_stay}
 
 same_pid-sym : (p r : Pid) → same_pid p r ≡ same_pid r p
 same_pid-sym p r = eqb_turned p.0 r.0
-
--- a family that was moved goes on as it was
-unsynced_after_standing : (places : Places) (to : ClusterNo) (recs : List BackRec) (p : Pid) → is_unsynced (placed_after places (Rebackup to false recs)) p ≡ is_unsynced places p
-unsynced_after_standing places to recs p =
-    ap never_synced (unended_map (after_rebackup to false recs) (backup_keeps to false recs) places (placed_after places (Rebackup to false recs)) refl p) ∙ by_found (unended_at places p)
-  where
-    or_false : (b : Bool) → (b || false) ≡ b
-    or_false true = refl
-    or_false false = refl
-
-    by_name : (q : Placed) (x : Bool) → not (cond x (record q { backup = Some to; synced = q.synced || false }) q).synced ≡ not q.synced
-    by_name q true = ap not (or_false q.synced)
-    by_name q false = refl
-
-    by_found : (o : Option Placed) → never_synced (option_map (after_rebackup to false recs) o) ≡ never_synced o
-    by_found None = refl
-    by_found (Some q) = by_name q (is_named recs q)
 
 -- a process that has run has synchronised by its new backup
 unsynced_after_fresh : (places : Places) (to : ClusterNo) (r : BackRec) (p : Pid) → is_unsynced (placed_after places (Rebackup to true (r ∷ []))) p ≡ (is_unsynced places p && not (same_pid p r.pid))
@@ -45,14 +28,6 @@ unsynced_after_fresh places to r p =
     ap never_synced (unended_map (after_rebackup to true (r ∷ [])) (backup_keeps to true (r ∷ [])) places (placed_after places (Rebackup to true (r ∷ []))) refl p)
     ∙ by_found (unended_at places p) refl
   where
-    or_true : (b : Bool) → (b || true) ≡ true
-    or_true true = refl
-    or_true false = refl
-
-    or_false : (b : Bool) → (b || false) ≡ b
-    or_false true = refl
-    or_false false = refl
-
     by_name : (q : Placed) (x : Bool) → not (cond x (record q { backup = Some to; synced = q.synced || true }) q).synced ≡ (not q.synced && not x)
     by_name q true = ap not (or_true q.synced) ∙ sym (and_false (not q.synced))
     by_name q false = sym (and_true (not q.synced))

@@ -1,25 +1,26 @@
 -- What each entry that bears no child does to the births of children that never synchronised.
-use Rattle.std.proofs.Common.{◌≡◌, ℕ, refl, sym, ◌∙◌, ap, append-nil, List, [], ◌∷◌, ◌++◌, Bool, true, false, cond, not, ◌&&◌, Option, Some, None, true≢false}
+use Rattle.std.proofs.Common.{◌≡◌, ℕ, refl, sym, ◌∙◌, ap, append-nil, List, [], ◌∷◌, ◌++◌, Bool, true, false, cond, not, ◌&&◌, ◌||◌, Option, Some, None, true≢false}
 use Rattle.std.specs.Prelude.{filter, option_map}
 use Rattle.std.specs.Option.{option_map_or}
 use Rattle.t32_base.specs.declared.process.Pid.{Pid}
 use Rattle.t32_base.specs.declared.process.End.{End}
 use Rattle.t32_base.specs.declared.process.ClusterNo.{ClusterNo}
+use Rattle.t32_base.specs.declared.letter.BackRec.{BackRec}
+use Rattle.t32_base.proofs.Facts.{or_false}
 use Rattle.t32_base.specs.Small.{SmallState}
 use Rattle.sys_text.specs.declared.system.System.{System}
 use Rattle.bus_msg.specs.declared.entry.What.{What}
-use Rattle.bus_msg.specs.declared.entry.What.TheVariants.{Birth, Exit, Sync, Crash, Return, Rebackup}
+use Rattle.bus_msg.specs.declared.entry.What.TheVariants.{Birth, Exit, Sync, Crash, Rebackup}
 use Rattle.bus_msg.specs.declared.entry.Cause.{Cause}
 use Rattle.bus_msg.specs.declared.entry.Entry.{Entry}
 use Rattle.bus_msg.specs.declared.placed.Placed.{Placed}
 use Rattle.bus_msg.specs.Places.{Places, same_pid, unended_at}
-use Rattle.bus_msg.specs.PlacedAfter.{what, placed_after, after_sync, after_loss}
+use Rattle.bus_msg.specs.PlacedAfter.{what, placed_after, after_sync, after_loss, after_rebackup, is_named}
 use Rattle.cert_sched.specs.Schedule.{placement}
 use Rattle.cert_sched.specs.Family.{is_unsynced, born, births_of}
-use Rattle.cert_sched.specs.Built.{is_built}
 use Rattle.cert_sched.proofs.LogLaws.{placement-snoc}
 use Rattle.cert_sched.proofs.PidsBorn.{births_of-snoc}
-use Rattle.cert_sched.proofs.UnendedLaws.{unended_map, unended_pid, sync_keeps, loss_keeps}
+use Rattle.cert_sched.proofs.UnendedLaws.{unended_map, unended_pid, backup_keeps, sync_keeps, loss_keeps}
 use Rattle.cert_sched.proofs.FamilyLaws.{Pair, loss_synced, exit_there, exit_elsewhere}
 use Rattle.log_laws.specs.births.Unsynced.{unsynced_births, changes_unsynced}
 use Rattle.log_laws.proofs.births.Filters.{and_true, and_false, filter_alike, filter_both}
@@ -60,6 +61,19 @@ unsynced_after_loss places k cause p =
     by_found None = refl
     by_found (Some q) = ap not (loss_synced k q)
 
+-- a family that was moved goes on as it was
+pub unsynced_after_standing : (places : Places) (to : ClusterNo) (recs : List BackRec) (p : Pid) → is_unsynced (placed_after places (Rebackup to false recs)) p ≡ is_unsynced places p
+unsynced_after_standing places to recs p =
+    ap never_synced (unended_map (after_rebackup to false recs) (backup_keeps to false recs) places (placed_after places (Rebackup to false recs)) refl p) ∙ by_found (unended_at places p)
+  where
+    by_name : (q : Placed) (x : Bool) → not (cond x (record q { backup = Some to; synced = q.synced || false }) q).synced ≡ not q.synced
+    by_name q true = ap not (or_false q.synced)
+    by_name q false = refl
+
+    by_found : (o : Option Placed) → never_synced (option_map (after_rebackup to false recs) o) ≡ never_synced o
+    by_found None = refl
+    by_found (Some q) = by_name q (is_named recs q)
+
 -- ---- the births
 
 -- after an entry the same question is asked of the placement after it, and of the birth that it tells too
@@ -94,14 +108,14 @@ births_stay system log e w is none same =
     ∙ ap (filter (λ (b : Pair). is_unsynced (placed_after (placement system log) w) b.1)) (ap (λ bs. births_of log ++ bs) none ∙ append-nil (births_of log))
     ∙ filter_alike (λ b. is_unsynced (placed_after (placement system log) w) b.1) (λ b. is_unsynced (placement system log) b.1) (births_of log) (λ b m. same b.1)
 
-pub others_leave : (system : System) (log : List Entry) (e : Entry) → is_built (what e) ≡ true → changes_unsynced (what e) ≡ false → unsynced_births system (log ++ e ∷ []) ≡ unsynced_births system log
+pub others_leave : (system : System) (log : List Entry) (e : Entry) → changes_unsynced (what e) ≡ false → unsynced_births system (log ++ e ∷ []) ≡ unsynced_births system log
 others_leave system log e = by_what (what e) refl
   where
-    by_what : (w : What) → what e ≡ w → is_built w ≡ true → changes_unsynced w ≡ false → unsynced_births system (log ++ e ∷ []) ≡ unsynced_births system log
-    by_what (Birth parent at child end) is built other = absurd (true≢false other)
-    by_what (Exit pid at end) is built other = absurd (true≢false other)
-    by_what (Sync pid small read took) is built other = absurd (true≢false other)
-    by_what (Crash k cause) is built other = births_stay system log e (Crash k cause) is refl (unsynced_after_loss (placement system log) k cause)
-    by_what (Return k) is built other = absurd (true≢false (sym built))
-    by_what (Rebackup to fresh recs) is built other = absurd (true≢false (sym built))
-    by_what w is built other = births_stay system log e w is refl (λ p. refl)
+    by_what : (w : What) → what e ≡ w → changes_unsynced w ≡ false → unsynced_births system (log ++ e ∷ []) ≡ unsynced_births system log
+    by_what (Birth parent at child end) is other = absurd (true≢false other)
+    by_what (Exit pid at end) is other = absurd (true≢false other)
+    by_what (Sync pid small read took) is other = absurd (true≢false other)
+    by_what (Crash k cause) is other = births_stay system log e (Crash k cause) is refl (unsynced_after_loss (placement system log) k cause)
+    by_what (Rebackup to true recs) is other = absurd (true≢false other)
+    by_what (Rebackup to false recs) is other = births_stay system log e (Rebackup to false recs) is refl (unsynced_after_standing (placement system log) to recs)
+    by_what w is other = births_stay system log e w is refl (λ p. refl)

@@ -14,7 +14,6 @@ ghost use Rattle.bus_msg.specs.Places.{same_pid};
 ghost use Rattle.bus_msg.specs.PlacedAfter.{what};
 ghost use Rattle.birth_notice.specs.Family.{stands_in, are_births, is_of};
 ghost use Rattle.cert_sched.specs.Family.{has_unsynced_child};
-ghost use Rattle.cert_sched.specs.Built.{is_built};
 ghost use Rattle.cert_sched.specs.Legal.{IsLegalBy, Stands};
 ghost use Rattle.log_laws.specs.births.Unsynced.{unsynced_births, changes_unsynced};
 
@@ -48,9 +47,9 @@ pub fn synced_and_ended_go()
         → unsynced_births system (log ++ e ∷ []) ≡ filter (λ b. not (same_pid b.1 pid)) (unsynced_births system log) }
 {}
 
-/// A law and no code: in any log, every other entry of a kind that is built leaves them as they are.
+/// A law and no code: in any log, every other entry leaves them as they are.
 pub fn others_leave_births()
-    ensures { (system : System) (log : List Entry) (e : Entry) → is_built (what e) ≡ true → changes_unsynced (what e) ≡ false
+    ensures { (system : System) (log : List Entry) (e : Entry) → changes_unsynced (what e) ≡ false
         → unsynced_births system (log ++ e ∷ []) ≡ unsynced_births system log }
 {}
 
