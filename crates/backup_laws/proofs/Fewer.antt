@@ -25,7 +25,7 @@ use Rattle.cert_sched.proofs.LogLaws.{IsLegal-last, placement-snoc}
 use Rattle.cert_sched.proofs.BirthsFew.{few_births}
 use Rattle.cert_sched.proofs.UnendedLaws.{unended_open_at, unended_pid}
 use Rattle.backup_laws.specs.Owed.{is_unbacked, left_of_backups}
-use Rattle.backup_laws.proofs.Named.{named_in_log}
+use Rattle.log_laws.proofs.records.Named.{named_in_log}
 
 -- ---- sums
 

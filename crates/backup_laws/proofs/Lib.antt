@@ -1,5 +1,3 @@
-pub mod Named
-pub mod RenewedRecords
 pub mod Since
 pub mod Follows
 pub mod Modes

@@ -41,7 +41,7 @@ use Rattle.cert_sched.proofs.PidLaws.{placed_pids}
 use Rattle.cert_sched.proofs.ThereLaws.{found_among}
 use Rattle.std.proofs.lemmas.List.Folds.{list_all-append}
 use Rattle.backup_laws.specs.LostBy.{AllLostBy}
-use Rattle.backup_laws.proofs.Named.{named_unbacked}
+use Rattle.log_laws.proofs.records.Named.{named_unbacked}
 
 -- ---- clusters that change
 

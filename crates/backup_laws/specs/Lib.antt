@@ -1,4 +1,3 @@
-pub mod Renewed
 pub mod Posts
 pub mod Owed
 pub mod LostBy

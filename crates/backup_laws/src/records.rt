@@ -12,8 +12,8 @@ ghost use Rattle.bus_msg.specs.Places.{same_pid};
 ghost use Rattle.bus_msg.specs.PlacedAfter.{what};
 ghost use Rattle.cert_sched.specs.Schedule.{placement};
 ghost use Rattle.cert_sched.specs.Legal.{IsLegalBy, Stands};
-ghost use Rattle.log_laws.specs.records.Kept.{KeepsRecords};
-ghost use Rattle.backup_laws.specs.Renewed.{Unbacked, records_renewed};
+ghost use Rattle.backup_records.specs.Records.{records_renewed};
+ghost use Rattle.log_laws.specs.records.Kept.{KeepsRecords, Unbacked};
 
 /// A law and no code: a new backup of either form, beside the records of a cluster.
 pub fn new_backups_keep_records()

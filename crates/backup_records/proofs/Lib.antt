@@ -1,3 +1,4 @@
 pub mod ByPidLaws
 pub mod RecordLaws
 pub mod BirthLaws
+pub mod RenewedLaws

@@ -1,18 +1,20 @@
 -- The records that a cluster keeps of the processes whose backup it has, by rising pid, and what an entry makes of them.
-use Rattle.std.specs.Prelude.{ℕ, ◌≡◌, ◌+◌, ◌-◌, ◌^◌, ◌<◌, Bool, true, false, not, ◌&&◌, nat_lt, if◌then◌else◌, List, [], ◌∷◌, ◌++◌, map, filter, find, Option, Some, None, is_some}
+use Rattle.std.specs.Prelude.{ℕ, ◌≡◌, ◌+◌, ◌-◌, ◌^◌, ◌<◌, Bool, true, false, not, ◌&&◌, nat_lt, if◌then◌else◌, List, [], ◌∷◌, ◌++◌, All, map, filter, find, fold, Option, Some, None, is_some}
 use Rattle.std.specs.List.{list_all}
 use Rattle.t32_base.specs.declared.process.Pid.{Pid}
+use Rattle.t32_base.specs.declared.process.ClusterNo.{ClusterNo}
 use Rattle.t32_base.specs.declared.letter.Letter.{Letter}
 use Rattle.t32_base.specs.declared.letter.To.{To}
 use Rattle.t32_base.specs.declared.letter.To.TheVariants.{Proc, Tty}
 use Rattle.t32_base.specs.declared.letter.BackRec.{BackRec}
 use Rattle.t32_base.specs.Small.{SmallState}
 use Rattle.write_count.specs.Counting.{count_for, no_counts, raised}
+use Rattle.proc_state.specs.Mail.{RiseTo}
 use Rattle.backup_queue.specs.Queue.{saved_with, unread}
 use Rattle.backup_queue.specs.Fronts.{AreFronts, AreOnEnds}
 use Rattle.bus_msg.specs.declared.entry.What.{What}
 use Rattle.bus_msg.specs.declared.entry.What.TheVariants.{Mail, Birth, Exit, Page, Sync, Fetch, PageIs, Crash, Return, Rebackup, Done, Stop}
-use Rattle.bus_msg.specs.Places.{same_pid}
+use Rattle.bus_msg.specs.Places.{same_cluster, same_pid}
 
 -- ---- the list
 
@@ -85,6 +87,25 @@ cut_of_synced p small read r = if same_pid p r.pid then with_cut small read r el
 abbrev pub CanCut : Pid → List ℕ → List BackRec → Type 0
 CanCut p read recs = (r : BackRec) → record_in recs p ≡ Some r → AreFronts read r.saved × AreOnEnds read r.saved
 
+-- ---- a new backup
+
+-- each of these records more, in its place by rising pid
+abbrev pub with_records : List BackRec → List BackRec → List BackRec
+with_records more recs = fold (λ recs r. with_record r recs) recs more
+
+-- a new backup in the cluster k brings the records that it carries there, and one elsewhere brings none
+abbrev pub records_renewed : ClusterNo → ClusterNo → List BackRec → List BackRec → List BackRec
+records_renewed to k more recs = if same_cluster to k then with_records more recs else recs
+
+-- the records of these processes go
+abbrev pub without_each : List BackRec → List BackRec → List BackRec
+without_each gone recs = fold (λ recs (r : BackRec). filter (λ (s : BackRec). not (same_pid s.pid r.pid)) recs) recs gone
+
+-- of none of these processes is there a record yet, and the numbers of the letters that each has saved rise to the count of those that came
+pub record CanBring (more recs : List BackRec) : Type 0 where
+  pub new : All (λ (r : BackRec). record_in recs r.pid ≡ None) more
+  pub numbered : All (λ (r : BackRec). RiseTo 0 r.saved r.next) more
+
 -- ---- an entry
 
 -- what an entry makes of the record of a process that goes on
@@ -94,22 +115,21 @@ record_after (Birth parent at child end) r = with_child_of parent child r
 record_after (Sync pid small read took) r = cut_of_synced pid small read r
 record_after w r = r
 
--- What an entry makes of the records: a letter is saved and counted, a child is born, a synchronisation cuts the record of its process, and the record of
--- a process that ended is there no more. The other kinds that change records leave them as they are here: new backups, which no cluster sends yet, and
--- losses, at which records leave.
-abbrev pub records_after : What → List BackRec → List BackRec
-records_after (Mail at letter) recs = map (record_after (Mail at letter)) recs
-records_after (Exit pid at end) recs = filter (λ (r : BackRec). not (same_pid r.pid pid)) recs
-records_after (Birth parent at child end) recs = after_birth parent child recs
-records_after (Page pid at index bytes) recs = recs
-records_after (Sync pid small read took) recs = map (record_after (Sync pid small read took)) recs
-records_after (Fetch pid index) recs = recs
-records_after (PageIs pid index bytes) recs = recs
-records_after (Crash k cause) recs = recs
-records_after (Return k) recs = recs
-records_after (Rebackup to fresh more) recs = recs
-records_after (Done rests) recs = recs
-records_after Stop recs = recs
+-- What an entry makes of the records of the cluster with a number: a letter is saved and counted, a child is born, a synchronisation cuts the record of its
+-- process, the record of a process that ended is there no more, and a new backup brings records. A loss, at which records leave, leaves them as they are here.
+abbrev pub records_after : ClusterNo → What → List BackRec → List BackRec
+records_after number (Mail at letter) recs = map (record_after (Mail at letter)) recs
+records_after number (Exit pid at end) recs = filter (λ (r : BackRec). not (same_pid r.pid pid)) recs
+records_after number (Birth parent at child end) recs = after_birth parent child recs
+records_after number (Page pid at index bytes) recs = recs
+records_after number (Sync pid small read took) recs = map (record_after (Sync pid small read took)) recs
+records_after number (Fetch pid index) recs = recs
+records_after number (PageIs pid index bytes) recs = recs
+records_after number (Crash k cause) recs = recs
+records_after number (Return k) recs = recs
+records_after number (Rebackup to fresh more) recs = records_renewed to number more recs
+records_after number (Done rests) recs = recs
+records_after number Stop recs = recs
 
 -- ---- when an entry may be noted
 
@@ -122,8 +142,10 @@ abbrev pub CanCount : Letter → List BackRec → Type 0
 CanCount letter recs = (r : BackRec) → record_in recs letter.from ≡ Some r → (letter.out < 32) × (count_for r.counts letter < 2 ^ 32 - 1)
 
 -- Of a letter both. Of a birth: the child has no record yet. Of a synchronisation: its process read the letters of its record from the fronts of its ends.
+-- Of a new backup: no process that it names has a record yet.
 abbrev pub CanNote : What → List BackRec → Type 0
 CanNote (Mail at letter) recs = CanSave letter recs × CanCount letter recs
 CanNote (Birth parent at child end) recs = record_in recs child ≡ None
 CanNote (Sync pid small read took) recs = CanCut pid read recs
+CanNote (Rebackup to fresh more) recs = CanBring more recs
 CanNote w recs = Unit {0}

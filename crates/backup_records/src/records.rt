@@ -1,10 +1,11 @@
 //! The records of a cluster, and what an entry changes in them.
-ghost use Rattle.std.specs.Prelude.{◌≡◌, ◌-◌, ◌^◌, ◌<◌, None, Some, [], IfOk, OnOk, OnErr, filter, length, map, not, true, if◌then◌else◌};
+ghost use Rattle.std.specs.Prelude.{◌≡◌, ◌-◌, ◌^◌, ◌<◌, ℕ, None, Some, [], All, IfOk, OnOk, OnErr, filter, length, map, not, take, true, if◌then◌else◌};
 ghost use Rattle.std.specs.Option.{option_copied};
 ghost use Rattle.t32_base.specs.declared.letter.BackRec.{BackRec};
+ghost use Rattle.proc_state.specs.Mail.{RiseTo};
 ghost use Rattle.bus_msg.specs.Places.{same_pid};
 ghost use Rattle.crash_notice.specs.Splitting.{moves_here, stays};
-ghost use Rattle.backup_records.specs.Records.{CanCount, CanCut, CanNote, CanSave, after_birth, are_rising, counted_by_sender, cut_of_synced, record_in, records_after, saved_by_receiver, with_child_of, with_record, with_saved};
+ghost use Rattle.backup_records.specs.Records.{CanBring, CanCount, CanCut, CanNote, CanSave, after_birth, are_rising, counted_by_sender, cut_of_synced, record_in, records_after, records_renewed, saved_by_receiver, with_child_of, with_record, with_records, with_saved, without_each};
 
 use crate::by_pid::{bear_at, count_at, cut_at, moved_pids, save_at, take_out};
 use backup_queue::record::Record;
@@ -13,7 +14,7 @@ use channel_table::placement::Placement;
 use std::alloc::Global;
 use std::collections::BTreeMap;
 use std::marker::Model;
-use t32_base::letter::{Letter, To};
+use t32_base::letter::{BackRec, Letter, To};
 use t32_base::lists::List;
 use t32_base::process::{ClusterNo, Pid, Small};
 use t32_base::streams::NoMemory;
@@ -76,13 +77,14 @@ impl Records {
         self.by_pid.len()
     }
 
-    /// What an entry changes: a letter is saved by the record of its receiver and counted by that of its
-    /// sender, a child gets a record where that of its parent is here, which then has it last in its births, the
-    /// record of a process that synchronised is cut, and that of one that ended goes. A cluster calls
-    /// it for each entry that goes to it. After want of memory the records are as they were.
-    pub fn note(&mut self, what: &What) -> Result<(), NoMemory>
+    /// What an entry changes in the records of the cluster with a number: a letter is saved by the record of its
+    /// receiver and counted by that of its sender, a child gets a record where that of its parent is here, which then
+    /// has it last in its births, the record of a process that synchronised is cut, that of one that ended goes, and
+    /// those of a new backup here come. A cluster calls it for each entry that goes to it. After want of memory the
+    /// records are as they were.
+    pub fn note(&mut self, number: ClusterNo, what: &What) -> Result<(), NoMemory>
         requires { CanNote what.now self.old }
-        ensures ok { OnOk result (self.new ≡ records_after what.now self.old) }
+        ensures ok { OnOk result (self.new ≡ records_after number what.now self.old) }
         ensures err { OnErr result (self.new ≡ self.old) }
     {
         match what {
@@ -101,8 +103,9 @@ impl Records {
                 self.cut(*pid, small.get(), read.as_slice());
                 Ok(())
             }
-            // Records come, and one that has run is cut.
-            What::Rebackup { .. } => Ok(()),
+            What::Rebackup { to, recs, .. } => {
+                self.note_backup(number, *to, recs.get().as_slice())
+            }
             // The records of processes that move here leave by `take_moved`.
             What::Crash { .. } => Ok(()),
             What::Page { .. } => Ok(()),
@@ -170,6 +173,58 @@ impl Records {
             self.let_go(child);
         }
         born
+    }
+
+    // Processes get a new backup in the cluster `to`: where that is the one with the number, their records come.
+    fn note_backup(
+        &mut self,
+        number: ClusterNo,
+        to: ClusterNo,
+        recs: &[BackRec],
+    ) -> Result<(), NoMemory>
+        requires { CanBring recs.now self.old }
+        ensures ok { OnOk result (self.new ≡ records_renewed to number recs.now self.old) }
+        ensures err { OnErr result (self.new ≡ self.old) }
+    {
+        if to == number {
+            self.bring(recs)
+        } else {
+            Ok(())
+        }
+    }
+
+    // Records come of processes that have none here. Where memory is refused, those that came go again.
+    fn bring(&mut self, recs: &[BackRec]) -> Result<(), NoMemory>
+        requires { CanBring recs.now self.old }
+        ensures ok { OnOk result (self.new ≡ with_records recs.now self.old) }
+        ensures err { OnErr result (self.new ≡ self.old) }
+    {
+        let brought = self.add_each(recs);
+        if brought.is_err() {
+            self.let_go_each(recs);
+        }
+        brought
+    }
+
+    // Each of these records comes. After want of memory the first of them have come.
+    fn add_each(&mut self, recs: &[BackRec]) -> Result<(), NoMemory>
+        requires { All (λ (r : BackRec). RiseTo 0 r.saved r.next) recs.now }
+        ensures ok { OnOk result (self.new ≡ with_records recs.now self.old) }
+        ensures err { OnErr result ((k : ℕ) × (self.new ≡ with_records (take k recs.now) self.old)) }
+    {
+        for rec in recs {
+            self.add(Record::of(rec)?)?;
+        }
+        Ok(())
+    }
+
+    // The records of these processes go, if they are here. Takes no memory.
+    fn let_go_each(&mut self, recs: &[BackRec])
+        ensures { self.new ≡ without_each recs.now self.old }
+    {
+        for rec in recs {
+            self.let_go(rec.pid);
+        }
     }
 
     // The record of a parent has a child last in its births.

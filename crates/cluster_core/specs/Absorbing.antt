@@ -30,7 +30,7 @@ ComesHere k e here = (p : Pid) (h : Held) → held_of here p ≡ Some h → is_l
 
 -- where an entry does not go to this cluster it leaves the records as they are
 abbrev pub IsNotedHere : ClusterNo → Entry → List BackRec → Type 0
-IsNotedHere k e recs = goes_to e.dests k ≡ false → records_after (what e) recs ≡ recs
+IsNotedHere k e recs = goes_to e.dests k ≡ false → records_after k (what e) recs ≡ recs
 
 -- a page that an entry tells of may come to its process, if that is here
 abbrev pub CanCome : What → List (Pid × Held) → Type 0

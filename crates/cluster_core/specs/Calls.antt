@@ -106,8 +106,8 @@ abbrev pub absorbed : ClusterView → Entry → ClusterView
 absorbed c e = record c {
   cursor = c.cursor + 1;
   places = placed_after c.places (what e);
-  here = with_all_waiting (moved_by c.places c.number (what e) (records_after (what e) c.records)) (here_after (what e) c.here);
-  records = left_by c.places c.number (what e) (records_after (what e) c.records);
+  here = with_all_waiting (moved_by c.places c.number (what e) (records_after c.number (what e) c.records)) (here_after (what e) c.here);
+  records = left_by c.places c.number (what e) (records_after c.number (what e) c.records);
   family = family_after (what e) c.family;
   steps = next_count c.steps;
 }

@@ -64,11 +64,11 @@ pub fn note(number: ClusterNo, records: &mut Records, entry: &Entry) -> Result<(
     requires number { number.0 < 16 }
     requires can { CanNote (what entry.now) records.old }
     requires here { IsNotedHere number entry.now records.old }
-    ensures ok { OnOk result (records.new ≡ records_after (what entry.now) records.old) }
+    ensures ok { OnOk result (records.new ≡ records_after number (what entry.now) records.old) }
     ensures err { OnErr result (records.new ≡ records.old) }
 {
     if goes_to(&entry.dests, number) {
-        records.note(&entry.post.what)
+        records.note(number, &entry.post.what)
     } else {
         Ok(())
     }

@@ -53,7 +53,7 @@ pub fn heard_entries_are_followed()
     ensures { (c : ClusterView) (log : List Entry) (e : Entry) (server : Option PagerState) → is_system c.system ≡ true
         → IsOpen MayStand c.system log → IsOpen MayStand c.system (log ++ e ∷ []) → goes_to e.dests c.number ≡ true
         → is_by_cluster c.number e ≡ false → is_crash_of c.number (what e) ≡ false
-        → are_rising (moved_by c.places c.number (what e) (records_after (what e) c.records)) ≡ true
+        → are_rising (moved_by c.places c.number (what e) (records_after c.number (what e) c.records)) ≡ true
         → Serves (placement c.system log) e c.server server → FollowsHeard c.system log c
         → FollowsHeard c.system (log ++ e ∷ []) (with_server server (with_heard c e)) }
 {}

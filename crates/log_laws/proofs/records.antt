@@ -3,6 +3,9 @@ pub mod Standing
 pub mod Counts
 pub mod Backed
 pub mod BirthRecords
+pub mod Named
+pub mod RenewedRecords
+pub mod Brought
 pub mod KeptLaws
 pub mod LossLaws
 pub mod BuiltLaws

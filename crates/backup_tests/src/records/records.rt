@@ -72,7 +72,7 @@ fn note(records: &mut Records, letter: Letter) -> Result<(), Fail> {
     if !can_save(records, &letter) || !can_count(records, &letter) {
         return Err("the letter may not be noted".into());
     }
-    records.note(&What::Mail { at: 1, letter })?;
+    records.note(ClusterNo(1), &What::Mail { at: 1, letter })?;
     Ok(())
 }
 
@@ -164,12 +164,15 @@ fn there(records: &Records) -> (usize, [bool; 3]) {
 // After an exit, and after the end of a run, which is no process's.
 fn ended(alloc: Global) -> Result<(usize, [bool; 3]), NoMemory> {
     let mut kept = records(alloc, &[16, 17, 32])?;
-    kept.note(&What::Exit {
-        pid: Pid(17),
-        at: 9,
-        end: End::Exit(0),
-    })?;
-    kept.note(&What::Stop)?;
+    kept.note(
+        ClusterNo(1),
+        &What::Exit {
+            pid: Pid(17),
+            at: 9,
+            end: End::Exit(0),
+        },
+    )?;
+    kept.note(ClusterNo(1), &What::Stop)?;
     Ok(there(&kept))
 }
 
@@ -351,7 +354,7 @@ type Cut = (Option<(u32, u64, u32)>, Option<u64>);
 fn cut_by_entry(alloc: Global) -> Result<Cut, Fail> {
     let what = first_read(alloc)?;
     let mut kept = one_kept(alloc)?;
-    kept.note(&what)?;
+    kept.note(ClusterNo(1), &what)?;
     let told = state_told(&kept);
     let before = placed(alloc)?;
     let moved = kept.take_moved(alloc, ClusterNo(0), ClusterNo(1), &before)?;
@@ -372,12 +375,15 @@ fn note_birth(records: &mut Records) -> Result<(), Fail> {
     if records.get(Pid(80)).is_some() {
         return Err("the birth may not be noted".into());
     }
-    records.note(&What::Birth {
-        parent: Pid(16),
-        at: 1,
-        child: Pid(80),
-        end: 1,
-    })?;
+    records.note(
+        ClusterNo(1),
+        &What::Birth {
+            parent: Pid(16),
+            at: 1,
+            child: Pid(80),
+            end: 1,
+        },
+    )?;
     Ok(())
 }
 
@@ -409,7 +415,7 @@ fn with_child(alloc: Global) -> Result<(Records, [Option<(bool, u64)>; 3]), Fail
     let letter = line(alloc, 17, To::Proc(Pid(80), 1))?;
     note(&mut kept, letter)?;
     let sent = child_told(&kept);
-    kept.note(&none_read(alloc)?)?;
+    kept.note(ClusterNo(1), &none_read(alloc)?)?;
     let told = [born, sent, child_told(&kept)];
     Ok((kept, told))
 }

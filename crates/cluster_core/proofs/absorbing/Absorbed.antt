@@ -68,7 +68,7 @@ use Rattle.cert_sched.specs.Deeds.{letter_for}
 -- ---- an entry of another cluster
 
 -- beside what is queued the cluster follows the log with it, whichever kind it is of
-beside_next : (which : Pid → Bool) (c : ClusterView) (log : List Entry) (e : Entry) (server : Option PagerState) → is_system c.system ≡ true → AllOwn c.cursor c.here → are_rising (moved_by c.places c.number (what e) (records_after (what e) c.records)) ≡ true
+beside_next : (which : Pid → Bool) (c : ClusterView) (log : List Entry) (e : Entry) (server : Option PagerState) → is_system c.system ≡ true → AllOwn c.cursor c.here → are_rising (moved_by c.places c.number (what e) (records_after c.number (what e) c.records)) ≡ true
     → IsOpen MayStand c.system log → IsOpen MayStand c.system (log ++ e ∷ []) → Serves (placement c.system log) e c.server server → FollowsBeside which c.system log c → is_by_cluster c.number e ≡ false → is_crash_of c.number (what e) ≡ false
     → FollowsBeside which c.system (log ++ e ∷ []) (with_server server (absorbed c e))
 beside_next which c log e server valid own order now later serves f foreign spared = by_kind_of (one_of c.system log e later)
@@ -80,7 +80,7 @@ beside_next which c log e server valid own order now later serves f foreign spar
     by_kind_of (inr (inl of)) = follows_page c.system valid log e of now later which c server serves f foreign
     by_kind_of (inr (inr (inl l))) =
         let moved : are_rising (filter (moves_here (placement c.system log) l.lost c.number) c.records) ≡ true =
-        ap (λ places. are_rising (filter (moves_here places l.lost c.number) c.records)) (sym (f.log).places) ∙ sym (ap (λ w. are_rising (moved_by c.places c.number w (records_after w c.records))) l.same) ∙ order in
+        ap (λ places. are_rising (filter (moves_here places l.lost c.number) c.records)) (sym (f.log).places) ∙ sym (ap (λ w. are_rising (moved_by c.places c.number w (records_after c.number w c.records))) l.same) ∙ order in
         follows_lost c.system valid log e l.lost l.cause (loss_of c.system log e l now later) c.number (other_lost c e l spared) which c server serves refl refl own f foreign moved
     by_kind_of (inr (inr (inr (inl of)))) = follows_sync c.system valid log e of now later which c server own serves f foreign
     by_kind_of (inr (inr (inr (inr b)))) = follows_birth c.system valid log e b.parent b.at b.child b.end b.same now later which c server (records_kept c.system log e c.number c.records valid (built_stands c.system (log ++ e ∷ []) later.0) (ap changes_in_place b.same) f.records) own serves f foreign
@@ -88,7 +88,7 @@ beside_next which c log e server valid own order now later serves f foreign spar
 -- ---- beside a batch, or a birth
 
 module _ (c : ClusterView) (log : List Entry) (e : Entry) (p : Pid) (process : Process) (there : held_at c p ≡ Some (Runs process)) (valid : is_system c.system ≡ true) (now : IsOpen MayStand c.system log) (later : IsOpen MayStand c.system (log ++ e ∷ []))
-    (f : FollowsBuilt c.system log c) (foreign : is_by_cluster c.number e ≡ false) (spared : is_crash_of c.number (what e) ≡ false) (order : are_rising (moved_by c.places c.number (what e) (records_after (what e) c.records)) ≡ true) where
+    (f : FollowsBuilt c.system log c) (foreign : is_by_cluster c.number e ≡ false) (spared : is_crash_of c.number (what e) ≡ false) (order : are_rising (moved_by c.places c.number (what e) (records_after c.number (what e) c.records)) ≡ true) where
   home : HomeHere (placement c.system log) p c.number
   home = home_here (placement c.system log) c.number (pids_in c.here) p (differ_built c.system log valid now.0) (f.processes).each_once (is_among c.here p (Runs process) there)
 
@@ -123,10 +123,10 @@ module _ (c : ClusterView) (log : List Entry) (e : Entry) (p : Pid) (process : P
           let before = was_paged (what e) c.here p h of (ap (λ (v : ClusterView). held_at v p) (sym (page_taken c e of)) ∙ at) in
           subst (RunsStill (letter_for p (what e)) process) (sym (before.same ∙ ap (page_at (what e) p) (same_process before.was before.there))) (still_paged (what e) p process of)
       by_kind_of (inr (inr (inl l))) =
-          let here : with_all_waiting (moved_by c.places c.number (what e) (records_after (what e) c.records)) (here_after (what e) c.here) ≡ with_all_waiting (filter (moves_here (placement c.system log) l.lost c.number) c.records) c.here =
-          ap (λ w. with_all_waiting (moved_by c.places c.number w (records_after w c.records)) (here_after w c.here)) l.same ∙ ap (λ places. with_all_waiting (filter (moves_here places l.lost c.number) c.records) c.here) (f.log).places in
+          let here : with_all_waiting (moved_by c.places c.number (what e) (records_after c.number (what e) c.records)) (here_after (what e) c.here) ≡ with_all_waiting (filter (moves_here (placement c.system log) l.lost c.number) c.records) c.here =
+          ap (λ w. with_all_waiting (moved_by c.places c.number w (records_after c.number w c.records)) (here_after w c.here)) l.same ∙ ap (λ places. with_all_waiting (filter (moves_here places l.lost c.number) c.records) c.here) (f.log).places in
           let moved : are_rising (filter (moves_here (placement c.system log) l.lost c.number) c.records) ≡ true =
-          ap (λ places. are_rising (filter (moves_here places l.lost c.number) c.records)) (sym (f.log).places) ∙ sym (ap (λ w. are_rising (moved_by c.places c.number w (records_after w c.records))) l.same) ∙ order in
+          ap (λ places. are_rising (filter (moves_here places l.lost c.number) c.records)) (sym (f.log).places) ∙ sym (ap (λ w. are_rising (moved_by c.places c.number w (records_after c.number w c.records))) l.same) ∙ order in
           let still = still_here c.system valid log e l.lost l.cause (loss_of c.system log e l now later) c.number (other_lost c e l spared) c.records c.here p h f.records moved home (ap (λ here. held_of here p) (sym here) ∙ at) in
           subst (RunsStill (letter_for p (what e)) process) (sym (same_process h still)) (still_itself process (letter_for p (what e)) (ap (letter_for p) l.same))
       by_kind_of (inr (inr (inr (inl of)))) = subst (RunsStill (letter_for p (what e)) process) (sym (same_process h (ap (λ (v : ClusterView). held_at v p) (sym (sync_taken c e of)) ∙ at))) (still_itself process (letter_for p (what e)) (by_sync (λ w. letter_for p w ≡ []) (λ pid at index bytes. refl) (λ pid small read took. refl) (what e) of))
@@ -135,7 +135,7 @@ module _ (c : ClusterView) (log : List Entry) (e : Entry) (p : Pid) (process : P
 -- ---- the whole
 
 -- a cluster that takes in an entry for which it is ready
-pub absorbs : (c : ClusterView) (e : Entry) (server : Option PagerState) → is_system c.system ≡ true → AllOwn c.cursor c.here → are_rising (moved_by c.places c.number (what e) (records_after (what e) c.records)) ≡ true
+pub absorbs : (c : ClusterView) (e : Entry) (server : Option PagerState) → is_system c.system ≡ true → AllOwn c.cursor c.here → are_rising (moved_by c.places c.number (what e) (records_after c.number (what e) c.records)) ≡ true
     → Serves c.places e c.server server → Absorbs e c (with_server server (absorbed c e))
 absorbs c e server valid own order serves log now later ready = by_ready ready
   where
@@ -181,31 +181,31 @@ absorbs c e server valid own order serves log now later ready = by_ready ready
 -- ---- what it brings
 
 -- the processes that a loss moves here can wait for their pages, and none of them is here yet
-pub may_wait : (c : ClusterView) (e : Entry) → is_system c.system ≡ true → ReadyFor e c → CanWait (moved_by c.places c.number (what e) (records_after (what e) c.records)) (here_after (what e) c.here)
+pub may_wait : (c : ClusterView) (e : Entry) → is_system c.system ≡ true → ReadyFor e c → CanWait (moved_by c.places c.number (what e) (records_after c.number (what e) c.records)) (here_after (what e) c.here)
 may_wait c e valid r = by_loss (one_of c.system r.log e r.open_next)
   where
-    none : (w : What) → tells_or_closes w ≡ true → moved_by c.places c.number w (records_after w c.records) ≡ []
-    none = by_kind (λ w. moved_by c.places c.number w (records_after w c.records) ≡ []) (λ at letter. refl) (λ pid at end. refl) (λ rests. refl) refl
+    none : (w : What) → tells_or_closes w ≡ true → moved_by c.places c.number w (records_after c.number w c.records) ≡ []
+    none = by_kind (λ w. moved_by c.places c.number w (records_after c.number w c.records) ≡ []) (λ at letter. refl) (λ pid at end. refl) (λ rests. refl) refl
 
-    none_by_page : (w : What) → is_of_page w ≡ true → moved_by c.places c.number w (records_after w c.records) ≡ []
-    none_by_page = by_page (λ w. moved_by c.places c.number w (records_after w c.records) ≡ []) (λ pid index. refl) (λ pid index bytes. refl)
+    none_by_page : (w : What) → is_of_page w ≡ true → moved_by c.places c.number w (records_after c.number w c.records) ≡ []
+    none_by_page = by_page (λ w. moved_by c.places c.number w (records_after c.number w c.records) ≡ []) (λ pid index. refl) (λ pid index bytes. refl)
 
-    lost : (l : IsLoss (what e)) → IsReady r.log e c → CanWait (moved_by c.places c.number (what e) (records_after (what e) c.records)) (here_after (what e) c.here)
+    lost : (l : IsLoss (what e)) → IsReady r.log e c → CanWait (moved_by c.places c.number (what e) (records_after c.number (what e) c.records)) (here_after (what e) c.here)
     lost l (inl f) =
-        subst (λ w. CanWait (moved_by c.places c.number w (records_after w c.records)) (here_after w c.here)) (sym l.same)
+        subst (λ w. CanWait (moved_by c.places c.number w (records_after c.number w c.records)) (here_after w c.here)) (sym l.same)
         (subst (λ places. CanWait (filter (moves_here places l.lost c.number) c.records) c.here) (sym (((f.0).log).places))
         (can_wait c.system valid r.log e l.lost l.cause (loss_of c.system r.log e l r.open_log r.open_next) c.number (other_lost c e l f.2) c.records c.here (f.0).records ((f.0).processes).each_once))
     lost l (inr s) = absurd (own_no_loss c r.log e l s)
 
-    nobody : moved_by c.places c.number (what e) (records_after (what e) c.records) ≡ [] → CanWait (moved_by c.places c.number (what e) (records_after (what e) c.records)) (here_after (what e) c.here)
+    nobody : moved_by c.places c.number (what e) (records_after c.number (what e) c.records) ≡ [] → CanWait (moved_by c.places c.number (what e) (records_after c.number (what e) c.records)) (here_after (what e) c.here)
     nobody empty p x at = let no : None ≡ Some x = ap (λ recs. record_in recs p) (sym empty) ∙ at in cc
 
-    by_loss : OneOf (what e) → CanWait (moved_by c.places c.number (what e) (records_after (what e) c.records)) (here_after (what e) c.here)
+    by_loss : OneOf (what e) → CanWait (moved_by c.places c.number (what e) (records_after c.number (what e) c.records)) (here_after (what e) c.here)
     by_loss (inl tells) = nobody (none (what e) tells)
     by_loss (inr (inl of)) = nobody (none_by_page (what e) of)
     by_loss (inr (inr (inl l))) = lost l r.ready
-    by_loss (inr (inr (inr (inl of)))) = nobody (by_sync (λ w. moved_by c.places c.number w (records_after w c.records) ≡ []) (λ pid at index bytes. refl) (λ pid small read took. refl) (what e) of)
-    by_loss (inr (inr (inr (inr b)))) = nobody (ap (λ w. moved_by c.places c.number w (records_after w c.records)) b.same)
+    by_loss (inr (inr (inr (inl of)))) = nobody (by_sync (λ w. moved_by c.places c.number w (records_after c.number w c.records) ≡ []) (λ pid at index bytes. refl) (λ pid small read took. refl) (what e) of)
+    by_loss (inr (inr (inr (inr b)))) = nobody (ap (λ w. moved_by c.places c.number w (records_after c.number w c.records)) b.same)
 
 -- a page that comes may come to its process
 pub may_come : (c : ClusterView) (e : Entry) → is_system c.system ≡ true → ReadyFor e c → CanCome (what e) c.here

@@ -361,13 +361,13 @@ rolls_arrived system log e n queue p s counts births valid unended other none ro
 
 -- a cluster with an entry taken in that is no loss
 abbrev pub taken_in : ClusterView → Entry → ClusterView
-taken_in c e = record c { cursor = c.cursor + 1; places = placed_after c.places (what e); here = here_after (what e) c.here; records = records_after (what e) c.records; family = family_after (what e) c.family; steps = next_count c.steps }
+taken_in c e = record c { cursor = c.cursor + 1; places = placed_after c.places (what e); here = here_after (what e) c.here; records = records_after c.number (what e) c.records; family = family_after (what e) c.family; steps = next_count c.steps }
 
 -- that is what the cluster is then
 pub told_taken : (c : ClusterView) (e : Entry) → tells_or_closes (what e) ≡ true → absorbed c e ≡ taken_in c e
 told_taken c e tells =
-    let here = by_kind (λ w. with_all_waiting (moved_by c.places c.number w (records_after w c.records)) (here_after w c.here) ≡ here_after w c.here) (λ at letter. refl) (λ pid at end. refl) (λ rests. refl) refl (what e) tells in
-    let recs = by_kind (λ w. left_by c.places c.number w (records_after w c.records) ≡ records_after w c.records) (λ at letter. refl) (λ pid at end. refl) (λ rests. refl) refl (what e) tells in
+    let here = by_kind (λ w. with_all_waiting (moved_by c.places c.number w (records_after c.number w c.records)) (here_after w c.here) ≡ here_after w c.here) (λ at letter. refl) (λ pid at end. refl) (λ rests. refl) refl (what e) tells in
+    let recs = by_kind (λ w. left_by c.places c.number w (records_after c.number w c.records) ≡ records_after c.number w c.records) (λ at letter. refl) (λ pid at end. refl) (λ rests. refl) refl (what e) tells in
     λ i. record c { cursor = c.cursor + 1; places = placed_after c.places (what e); here = here i; records = recs i; family = family_after (what e) c.family; steps = next_count c.steps }
 
 -- what is held stays what the log says
@@ -491,7 +491,7 @@ counted_foreign c log e foreign h =
     capped_less (least_steps (log ++ e ∷ []) (log ++ e ∷ []) c.number + cond c.tried 1 0) (least_steps log log c.number + cond c.tried 1 0 + 1) (next_count c.steps) (omega (arith, more)) next
 
 -- the records of the log are those of the log with the entry
-records_after_entry : (system : System) (log : List Entry) (e : Entry) (n : Next system log e) (k : ClusterNo) (recs : List BackRec) → is_system system ≡ true → KeepsRecords system log k recs → KeepsRecords system (log ++ e ∷ []) k (records_after (what e) recs)
+records_after_entry : (system : System) (log : List Entry) (e : Entry) (n : Next system log e) (k : ClusterNo) (recs : List BackRec) → is_system system ≡ true → KeepsRecords system log k recs → KeepsRecords system (log ++ e ∷ []) k (records_after k (what e) recs)
 records_after_entry system log e n k recs valid keeps =
     records_kept system log e k recs valid (legal_stands MayStand (λ system log e may. may.stands) system (log ++ e ∷ []) n.more)
     (by_kind (λ w. changes_in_place w ≡ true) (λ at letter. refl) (λ pid at end. refl) (λ rests. refl) refl (what e) (n.may).built) keeps

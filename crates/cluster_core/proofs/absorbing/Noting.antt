@@ -186,14 +186,14 @@ letter_left system log k recs at letter live keeps elsewhere = all_left (has_bac
 
 -- an exit goes to each cluster that lives, and one that does not has no records
 exit_left : (system : System) (log : List Entry) (k : ClusterNo) (recs : List BackRec) (pid : Pid) (at : ℕ) (end : End) → BackupsLive (placement system log) → KeepsRecords system log k recs
-    → goes_to (to_all (placement system log)) k ≡ false → records_after (Exit pid at end) recs ≡ recs
+    → goes_to (to_all (placement system log)) k ≡ false → records_after k (Exit pid at end) recs ≡ recs
 exit_left system log k recs pid at end live keeps elsewhere = by_first recs refl
   where
     places : Places
     places = placement system log
 
-    by_first : (rs : List BackRec) → recs ≡ rs → records_after (Exit pid at end) recs ≡ recs
-    by_first [] is = ap (records_after (Exit pid at end)) is ∙ sym is
+    by_first : (rs : List BackRec) → recs ≡ rs → records_after k (Exit pid at end) recs ≡ recs
+    by_first [] is = ap (records_after k (Exit pid at end)) is ∙ sym is
     by_first (r ∷ rest) is =
         let there : is_some (record_in recs r.pid) ≡ true = ap (λ rs. is_some (record_in rs r.pid)) is ∙ ap (λ b. is_some (cond b (Some r) (record_in rest r.pid))) (same_itself r.pid) in
         let lives = backup_lives system log k r.pid live (backed system log k recs keeps r.pid there) in
@@ -235,7 +235,7 @@ birth_left system log k recs parent child live keeps elsewhere = by_record (reco
 pub noted_here : (system : System) (log : List Entry) (e : Entry) (k : ClusterNo) (recs : List BackRec) → e.dests ≡ route (placement system log) (what e) → tells_or_closes (what e) ≡ true → BackupsLive (placement system log)
     → KeepsRecords system log k recs → IsNotedHere k e recs
 noted_here system log e k recs routed tells live keeps elsewhere =
-    by_kind (λ w. goes_to (route (placement system log) w) k ≡ false → records_after w recs ≡ recs)
+    by_kind (λ w. goes_to (route (placement system log) w) k ≡ false → records_after k w recs ≡ recs)
     (λ at letter away. letter_left system log k recs at letter live keeps away)
     (λ pid at end away. exit_left system log k recs pid at end live keeps away)
     (λ rests away. refl) (λ away. refl) (what e) tells (ap (λ dests. goes_to dests k) (sym routed) ∙ elsewhere)
@@ -270,15 +270,15 @@ noted_next c e valid r elsewhere = by_loss (kind_is (what e) may.built)
     may : MayStand c.system r.log e
     may = IsLegal-last MayStand c.system r.log e (r.open_next).0
 
-    by_loss : OneOf (what e) → records_after (what e) c.records ≡ c.records
+    by_loss : OneOf (what e) → records_after c.number (what e) c.records ≡ c.records
     by_loss (inl tells) = noted_here c.system r.log e c.number c.records (((may.stands).placed).1) tells (backups_live c.system r.log valid (r.open_log).0) (kept_of c r.log e r.ready).records elsewhere
-    by_loss (inr (inl page)) = by_page (λ w. records_after w c.records ≡ c.records) (λ pid index. refl) (λ pid index bytes. refl) (what e) page
-    by_loss (inr (inr (inl loss))) = ap (λ w. records_after w c.records) loss.same
+    by_loss (inr (inl page)) = by_page (λ w. records_after c.number w c.records ≡ c.records) (λ pid index. refl) (λ pid index bytes. refl) (what e) page
+    by_loss (inr (inr (inl loss))) = ap (λ w. records_after c.number w c.records) loss.same
     by_loss (inr (inr (inr (inr b)))) =
-        ap (λ w. records_after w c.records) b.same
+        ap (λ w. records_after c.number w c.records) b.same
         ∙ birth_left c.system r.log c.number c.records b.parent b.child (backups_live c.system r.log valid (r.open_log).0) (kept_of c r.log e r.ready).records
         (sym (ap (λ w. goes_to (route (placement c.system r.log) w) c.number) b.same) ∙ ap (λ dests. goes_to dests c.number) (sym (((may.stands).placed).1)) ∙ elsewhere)
     by_loss (inr (inr (inr (inl of)))) =
-        by_sync (λ w. goes_to (route (placement c.system r.log) w) c.number ≡ false → records_after w c.records ≡ c.records) (λ pid at index bytes away. refl)
+        by_sync (λ w. goes_to (route (placement c.system r.log) w) c.number ≡ false → records_after c.number w c.records ≡ c.records) (λ pid at index bytes away. refl)
         (λ pid small read took away. cut_left c.system r.log c.number c.records pid small read took (backups_live c.system r.log valid (r.open_log).0) (kept_of c r.log e r.ready).records away) (what e) of
         (ap (λ dests. goes_to dests c.number) (sym (((may.stands).placed).1)) ∙ elsewhere)

@@ -112,7 +112,7 @@ pub record BringsNothing (system : System) (log : List Entry) (e : Entry) : Type
 
 -- what the cluster is then
 abbrev pub passed : ClusterView → Entry → ClusterView
-passed c e = record c { cursor = c.cursor + 1; places = placed_after c.places (what e); records = records_after (what e) c.records; family = family_after (what e) c.family; steps = next_count c.steps }
+passed c e = record c { cursor = c.cursor + 1; places = placed_after c.places (what e); records = records_after c.number (what e) c.records; family = family_after (what e) c.family; steps = next_count c.steps }
 
 module _ (system : System) (valid : is_system system ≡ true) (log : List Entry) (e : Entry) (now : IsOpen MayStand system log) (next : IsOpen MayStand system (log ++ e ∷ [])) (n : BringsNothing system log e) where
   abbrev later : List Entry
@@ -224,7 +224,7 @@ module _ (system : System) (valid : is_system system ≡ true) (log : List Entry
   -- ---- the whole
 
   pub follows_passed : (which : Pid → Bool) (c : ClusterView) (server : Option PagerState) → absorbed c e ≡ passed c e → ((p : Pid) → HomeHere places p c.number → Spares system log e p)
-      → pids_home c.number (placement system later).placed ≡ pids_home c.number places.placed → KeepsRecords system later c.number (records_after (what e) c.records) → ForksLeft (family_after (what e) c.family) c.here → AllOwn c.cursor c.here → Serves places e c.server server → FollowsBeside which system log c
+      → pids_home c.number (placement system later).placed ≡ pids_home c.number places.placed → KeepsRecords system later c.number (records_after c.number (what e) c.records) → ForksLeft (family_after (what e) c.family) c.here → AllOwn c.cursor c.here → Serves places e c.server server → FollowsBeside which system log c
       → is_by_cluster c.number e ≡ false → FollowsBeside which system later (with_server server (absorbed c e))
   follows_passed which c server taken spares pids records forks own serves f foreign = subst (λ v. FollowsBeside which system later (with_server server v)) (sym taken) (record {
     log = record {

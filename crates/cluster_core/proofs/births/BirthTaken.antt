@@ -142,7 +142,7 @@ module _ (system : System) (valid : is_system system ≡ true) (log : List Entry
 
   -- the cluster with the fork made
   abbrev born_view : ClusterView
-  born_view = record v { cursor = v.cursor + 1; places = placed_after v.places (what e); here = with_born p child v.here; records = records_after (what e) v.records; family = family_after (what e) v.family; queue = []; tried = false; steps = next_count v.steps }
+  born_view = record v { cursor = v.cursor + 1; places = placed_after v.places (what e); here = with_born p child v.here; records = records_after v.number (what e) v.records; family = family_after (what e) v.family; queue = []; tried = false; steps = next_count v.steps }
 
   same_whole : with_queue system log v.queue ≡ later
   same_whole = ap (with_queue system log) b.posts ∙ ap (λ (x : Entry). log ++ x ∷ []) whole
@@ -194,8 +194,8 @@ module _ (system : System) (valid : is_system system ≡ true) (log : List Entry
       taken w = record v {
         cursor = v.cursor + 1;
         places = placed_after v.places w;
-        here = with_all_waiting (moved_by v.places v.number w (records_after w v.records)) (here_after w v.here);
-        records = left_by v.places v.number w (records_after w v.records);
+        here = with_all_waiting (moved_by v.places v.number w (records_after v.number w v.records)) (here_after w v.here);
+        records = left_by v.places v.number w (records_after v.number w v.records);
         family = family_after w v.family;
         queue = [];
         tried = false;
@@ -203,7 +203,7 @@ module _ (system : System) (valid : is_system system ≡ true) (log : List Entry
       }
 
       made : What → ClusterView
-      made w = record v { cursor = v.cursor + 1; places = placed_after v.places w; here = with_born p child v.here; records = records_after w v.records; family = family_after w v.family; queue = []; tried = false; steps = next_count v.steps }
+      made w = record v { cursor = v.cursor + 1; places = placed_after v.places w; here = with_born p child v.here; records = records_after v.number w v.records; family = family_after w v.family; queue = []; tried = false; steps = next_count v.steps }
 
 -- a cluster that takes in the birth that it had queued
 pub follows_own_birth : (c : ClusterView) (log : List Entry) (e : Entry) (server : Option PagerState) → is_system c.system ≡ true → AllOwn c.cursor c.here → IsOpen MayStand c.system log → IsOpen MayStand c.system (log ++ e ∷ [])

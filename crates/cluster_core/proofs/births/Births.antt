@@ -68,14 +68,14 @@ birth_taken c e parent at child end is away = ap taken is ∙ ap (λ o. record (
     taken w = record c {
       cursor = c.cursor + 1;
       places = placed_after c.places w;
-      here = with_all_waiting (moved_by c.places c.number w (records_after w c.records)) (here_after w c.here);
-      records = left_by c.places c.number w (records_after w c.records);
+      here = with_all_waiting (moved_by c.places c.number w (records_after c.number w c.records)) (here_after w c.here);
+      records = left_by c.places c.number w (records_after c.number w c.records);
       family = family_after w c.family;
       steps = next_count c.steps;
     }
 
     spared : What → ClusterView
-    spared w = record c { cursor = c.cursor + 1; places = placed_after c.places w; records = records_after w c.records; family = family_after w c.family; steps = next_count c.steps }
+    spared w = record c { cursor = c.cursor + 1; places = placed_after c.places w; records = records_after c.number w c.records; family = family_after w c.family; steps = next_count c.steps }
 
 module _ (system : System) (valid : is_system system ≡ true) (log : List Entry) (e : Entry) (parent : Pid) (at : ℕ) (child : Pid) (end : ℕ) (is : what e ≡ Birth parent at child end) (now : IsOpen MayStand system log) (next : IsOpen MayStand system (log ++ e ∷ [])) where
   abbrev later : List Entry
@@ -173,7 +173,7 @@ module _ (system : System) (valid : is_system system ≡ true) (log : List Entry
     living = λ by. ap (λ places. is_living places by) places_later ∙ birth_living places child (placed_at places parent) by;
   }
 
-  pub follows_birth : (which : Pid → Bool) (c : ClusterView) (server : Option PagerState) → KeepsRecords system later c.number (records_after (what e) c.records) → AllOwn c.cursor c.here → Serves places e c.server server → FollowsBeside which system log c → is_by_cluster c.number e ≡ false
+  pub follows_birth : (which : Pid → Bool) (c : ClusterView) (server : Option PagerState) → KeepsRecords system later c.number (records_after c.number (what e) c.records) → AllOwn c.cursor c.here → Serves places e c.server server → FollowsBeside which system log c → is_by_cluster c.number e ≡ false
       → FollowsBeside which system later (with_server server (absorbed c e))
   follows_birth which c server records own serves f foreign =
       follows_passed system valid log e now next brings_nothing which c server (birth_taken c e parent at child end is (parent_not_here c.number foreign c.here (f.processes).each_once)) (spares_here c.number foreign) (pids_same c.number foreign) records

@@ -131,7 +131,7 @@ sync_keeps_concerns places k pid small read took b =
 
 module _ (c : ClusterView) (log : List Entry) (e : Entry) (server : Option PagerState) (valid : is_system c.system ≡ true) (now : IsOpen MayStand c.system log)
     (next : IsOpen MayStand c.system (log ++ e ∷ [])) (comes : goes_to e.dests c.number ≡ true) (foreign : is_by_cluster c.number e ≡ false) (spared : is_crash_of c.number (what e) ≡ false)
-    (order : are_rising (moved_by c.places c.number (what e) (records_after (what e) c.records)) ≡ true) (serves : Serves (placement c.system log) e c.server server)
+    (order : are_rising (moved_by c.places c.number (what e) (records_after c.number (what e) c.records)) ≡ true) (serves : Serves (placement c.system log) e c.server server)
     (f : FollowsHeard c.system log c) where
   abbrev k : ClusterNo
   k = c.number
@@ -152,7 +152,7 @@ module _ (c : ClusterView) (log : List Entry) (e : Entry) (server : Option Pager
   ready = record { log = log; open_log = now; open_next = next; ready = inl (built, foreign, spared) }
 
   abbrev recs : List BackRec
-  recs = records_after (what e) c.records
+  recs = records_after c.number (what e) c.records
 
   same_moved : moved_by c.places k (what e) recs ≡ moved_by places k (what e) recs
   same_moved = moved_alike c.system k c.places places (what e) recs (f.log).places
@@ -395,7 +395,7 @@ module _ (c : ClusterView) (log : List Entry) (e : Entry) (server : Option Pager
 
 pub taken_in_heard : (c : ClusterView) (log : List Entry) (e : Entry) (server : Option PagerState) → is_system c.system ≡ true → IsOpen MayStand c.system log
     → IsOpen MayStand c.system (log ++ e ∷ []) → goes_to e.dests c.number ≡ true → is_by_cluster c.number e ≡ false
-    → is_crash_of c.number (what e) ≡ false → are_rising (moved_by c.places c.number (what e) (records_after (what e) c.records)) ≡ true → Serves (placement c.system log) e c.server server
+    → is_crash_of c.number (what e) ≡ false → are_rising (moved_by c.places c.number (what e) (records_after c.number (what e) c.records)) ≡ true → Serves (placement c.system log) e c.server server
     → FollowsHeard c.system log c
     → FollowsHeard c.system (log ++ e ∷ []) (with_server server (with_heard c e))
 taken_in_heard c log e server valid now next comes foreign spared order serves f = heard_follows c log e server valid now next comes foreign spared order serves f

@@ -101,7 +101,7 @@ module _ (c : ClusterView) (log : List Entry) (e : Entry) (valid : is_system c.s
           absurd (true≢false (sym (page_goes places k pid index bytes f.lives home) ∙ ap (λ w. goes_to (route places w) k) (sym is) ∙ elsewhere c log e valid now next away f))
       apart_from pid index bytes is p h there false same = refl
 
-  recs_stay : records_after (what e) c.records ≡ c.records
+  recs_stay : records_after c.number (what e) c.records ≡ c.records
   recs_stay = noted_next (shadow log left) e valid ready away
 
   abbrev taken : ClusterView
@@ -116,8 +116,8 @@ module _ (c : ClusterView) (log : List Entry) (e : Entry) (valid : is_system c.s
   as_left = λ i. record left {
     cursor = taken.cursor;
     places = taken.places;
-    here = ((λ j. with_all_waiting (none_moved c log e valid now next away f (records_after (what e) c.records) j) (here_after (what e) c.here)) ∙ here_stays) i;
-    records = (all_left c log e valid now next away f (records_after (what e) c.records) ∙ recs_stay) i;
+    here = ((λ j. with_all_waiting (none_moved c log e valid now next away f (records_after c.number (what e) c.records) j) (here_after (what e) c.here)) ∙ here_stays) i;
+    records = (all_left c log e valid now next away f (records_after c.number (what e) c.records) ∙ recs_stay) i;
     family = taken.family;
     steps = taken.steps;
   }

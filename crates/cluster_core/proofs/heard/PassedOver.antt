@@ -202,7 +202,7 @@ module _ (c : ClusterView) (log : List Entry) (e : Entry) (valid : is_system c.s
     ready : ReadyFor e (shadow log c)
     ready = record { log = log; open_log = now; open_next = next; ready = inl (built, foreign, no_loss) }
 
-    recs_stay : records_after (what e) c.records ≡ c.records
+    recs_stay : records_after c.number (what e) c.records ≡ c.records
     recs_stay = noted_next (shadow log c) e valid ready away
 
     here_stays : here_after (what e) c.here ≡ c.here
@@ -310,10 +310,10 @@ module _ (c : ClusterView) (log : List Entry) (e : Entry) (valid : is_system c.s
         (inl (built, foreign, no_loss))
 
     here_is : taken.here ≡ c.here
-    here_is = (λ i. with_all_waiting (none_moved (records_after (what e) c.records) i) (here_after (what e) c.here)) ∙ here_stays
+    here_is = (λ i. with_all_waiting (none_moved (records_after c.number (what e) c.records) i) (here_after (what e) c.here)) ∙ here_stays
 
     recs_are : taken.records ≡ c.records
-    recs_are = all_left (records_after (what e) c.records) ∙ recs_stay
+    recs_are = all_left (records_after c.number (what e) c.records) ∙ recs_stay
 
     as_before : taken ≡ alike c taken.cursor taken.places taken.family taken.steps
     as_before = λ i. record c { cursor = taken.cursor; places = taken.places; here = here_is i; records = recs_are i; family = taken.family; steps = taken.steps }

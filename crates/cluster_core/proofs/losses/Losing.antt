@@ -393,8 +393,8 @@ module _ (system : System) (valid : is_system system ≡ true) (log : List Entry
           (λ i. record c {
             cursor = c.cursor + 1;
             places = placed_after (places_is i) (n.same i);
-            here = with_all_waiting (moved_by (places_is i) c.number (n.same i) (records_after (n.same i) c.records)) (here_after (n.same i) c.here);
-            records = left_by (places_is i) c.number (n.same i) (records_after (n.same i) c.records);
+            here = with_all_waiting (moved_by (places_is i) c.number (n.same i) (records_after c.number (n.same i) c.records)) (here_after (n.same i) c.here);
+            records = left_by (places_is i) c.number (n.same i) (records_after c.number (n.same i) c.records);
             family = family_after (n.same i) c.family;
             steps = next_count c.steps;
           })

@@ -70,19 +70,19 @@ own_longer n m p w fewer own = record { pid_is = own.pid_is; state = own.state; 
 -- ---- the whole
 
 -- the processes that a loss moves here are the cluster's own
-pub owns_waiting : (c : ClusterView) (e : Entry) → is_system c.system ≡ true → ReadyFor e c → are_rising (moved_by c.places c.number (what e) (records_after (what e) c.records)) ≡ true → (here : List (Pid × Held)) → AllOwn (c.cursor + 1) here
-    → AllOwn (c.cursor + 1) (with_all_waiting (moved_by c.places c.number (what e) (records_after (what e) c.records)) here)
+pub owns_waiting : (c : ClusterView) (e : Entry) → is_system c.system ≡ true → ReadyFor e c → are_rising (moved_by c.places c.number (what e) (records_after c.number (what e) c.records)) ≡ true → (here : List (Pid × Held)) → AllOwn (c.cursor + 1) here
+    → AllOwn (c.cursor + 1) (with_all_waiting (moved_by c.places c.number (what e) (records_after c.number (what e) c.records)) here)
 owns_waiting c e valid r order here own = by_loss (one_of c.system r.log e r.open_next)
   where
     moved : List BackRec
-    moved = moved_by c.places c.number (what e) (records_after (what e) c.records)
+    moved = moved_by c.places c.number (what e) (records_after c.number (what e) c.records)
 
     lost : (l : IsLoss (what e)) → IsReady r.log e c → AllOwn (c.cursor + 1) (with_all_waiting moved here)
     lost l (inr s) = absurd (own_no_loss c r.log e l s)
     lost l (inl f) = own_waiting (c.cursor + 1) moved here (all_recorded (λ (kept : BackRec). WaitsOwn (c.cursor + 1) kept.pid (first_wait kept)) moved order each) own
       where
         moved_is : moved ≡ filter (moves_here (placement c.system r.log) l.lost c.number) c.records
-        moved_is = ap (λ w. moved_by c.places c.number w (records_after w c.records)) l.same ∙ ap (λ places. filter (moves_here places l.lost c.number) c.records) (((f.0).log).places)
+        moved_is = ap (λ w. moved_by c.places c.number w (records_after c.number w c.records)) l.same ∙ ap (λ places. filter (moves_here places l.lost c.number) c.records) (((f.0).log).places)
 
         each : (kept : BackRec) → record_in moved kept.pid ≡ Some kept → WaitsOwn (c.cursor + 1) kept.pid (first_wait kept)
         each kept at =
@@ -98,15 +98,15 @@ owns_waiting c e valid r order here own = by_loss (one_of c.system r.log e r.ope
     nobody : moved ≡ [] → AllOwn (c.cursor + 1) (with_all_waiting moved here)
     nobody none = subst (λ recs. AllOwn (c.cursor + 1) (with_all_waiting recs here)) (sym none) own
 
-    none : (w : What) → tells_or_closes w ≡ true → moved_by c.places c.number w (records_after w c.records) ≡ []
-    none = by_kind (λ w. moved_by c.places c.number w (records_after w c.records) ≡ []) (λ at letter. refl) (λ pid at end. refl) (λ rests. refl) refl
+    none : (w : What) → tells_or_closes w ≡ true → moved_by c.places c.number w (records_after c.number w c.records) ≡ []
+    none = by_kind (λ w. moved_by c.places c.number w (records_after c.number w c.records) ≡ []) (λ at letter. refl) (λ pid at end. refl) (λ rests. refl) refl
 
-    none_by_page : (w : What) → is_of_page w ≡ true → moved_by c.places c.number w (records_after w c.records) ≡ []
-    none_by_page = by_page (λ w. moved_by c.places c.number w (records_after w c.records) ≡ []) (λ pid index. refl) (λ pid index bytes. refl)
+    none_by_page : (w : What) → is_of_page w ≡ true → moved_by c.places c.number w (records_after c.number w c.records) ≡ []
+    none_by_page = by_page (λ w. moved_by c.places c.number w (records_after c.number w c.records) ≡ []) (λ pid index. refl) (λ pid index bytes. refl)
 
     by_loss : OneOf (what e) → AllOwn (c.cursor + 1) (with_all_waiting moved here)
     by_loss (inl tells) = nobody (none (what e) tells)
     by_loss (inr (inl of)) = nobody (none_by_page (what e) of)
     by_loss (inr (inr (inl l))) = lost l r.ready
-    by_loss (inr (inr (inr (inl of)))) = nobody (by_sync (λ w. moved_by c.places c.number w (records_after w c.records) ≡ []) (λ pid at index bytes. refl) (λ pid small read took. refl) (what e) of)
-    by_loss (inr (inr (inr (inr b)))) = nobody (ap (λ w. moved_by c.places c.number w (records_after w c.records)) b.same)
+    by_loss (inr (inr (inr (inl of)))) = nobody (by_sync (λ w. moved_by c.places c.number w (records_after c.number w c.records) ≡ []) (λ pid at index bytes. refl) (λ pid small read took. refl) (what e) of)
+    by_loss (inr (inr (inr (inr b)))) = nobody (ap (λ w. moved_by c.places c.number w (records_after c.number w c.records)) b.same)

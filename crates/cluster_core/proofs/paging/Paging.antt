@@ -120,8 +120,8 @@ page_taken c e =
     by_page (λ w. record c {
       cursor = c.cursor + 1;
       places = placed_after c.places w;
-      here = with_all_waiting (moved_by c.places c.number w (records_after w c.records)) (here_after w c.here);
-      records = left_by c.places c.number w (records_after w c.records);
+      here = with_all_waiting (moved_by c.places c.number w (records_after c.number w c.records)) (here_after w c.here);
+      records = left_by c.places c.number w (records_after c.number w c.records);
       family = family_after w c.family;
       steps = next_count c.steps;
     } ≡ record c { cursor = c.cursor + 1; places = placed_after c.places w; here = here_after w c.here; family = family_after w c.family; steps = next_count c.steps }) (λ pid index. refl) (λ pid index bytes. refl) (what e)
@@ -315,7 +315,7 @@ module _ (system : System) (valid : is_system system ≡ true) (log : List Entry
 
   records_stay : (k : ClusterNo) (recs : List BackRec) → KeepsRecords system log k recs → KeepsRecords system later k recs
   records_stay k recs keeps =
-      subst (KeepsRecords system later k) (by_page (λ w. records_after w recs ≡ recs) (λ pid index. refl) (λ pid index bytes. refl) (what e) of)
+      subst (KeepsRecords system later k) (by_page (λ w. records_after k w recs ≡ recs) (λ pid index. refl) (λ pid index bytes. refl) (what e) of)
       (records_kept system log e k recs valid (built_stands system later next.0) (by_page (λ w. changes_in_place w ≡ true) (λ pid index. refl) (λ pid index bytes. refl) (what e) of) keeps)
 
   once_stays : (k : ClusterNo) (here : List (Pid × Held)) → rising (pids_in here) ≡ rising (home_pids system log k) → rising (pids_in (here_after (what e) here)) ≡ rising (home_pids system later k)

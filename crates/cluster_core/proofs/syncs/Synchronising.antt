@@ -67,11 +67,11 @@ sync_taken c e =
     by_sync (λ w. record c {
       cursor = c.cursor + 1;
       places = placed_after c.places w;
-      here = with_all_waiting (moved_by c.places c.number w (records_after w c.records)) (here_after w c.here);
-      records = left_by c.places c.number w (records_after w c.records);
+      here = with_all_waiting (moved_by c.places c.number w (records_after c.number w c.records)) (here_after w c.here);
+      records = left_by c.places c.number w (records_after c.number w c.records);
       family = family_after w c.family;
       steps = next_count c.steps;
-    } ≡ record c { cursor = c.cursor + 1; places = placed_after c.places w; records = records_after w c.records; family = family_after w c.family; steps = next_count c.steps }) (λ pid at index bytes. refl) (λ pid small read took. refl) (what e)
+    } ≡ record c { cursor = c.cursor + 1; places = placed_after c.places w; records = records_after c.number w c.records; family = family_after w c.family; steps = next_count c.steps }) (λ pid at index bytes. refl) (λ pid small read took. refl) (what e)
 
 module _ (system : System) (valid : is_system system ≡ true) (log : List Entry) (e : Entry) (of : is_of_sync (what e) ≡ true) (now : IsOpen MayStand system log) (next : IsOpen MayStand system (log ++ e ∷ [])) where
   abbrev later : List Entry
@@ -209,7 +209,7 @@ module _ (system : System) (valid : is_system system ≡ true) (log : List Entry
   pub held_still : (k : ClusterNo) (q : Queued) (p : Pid) (h : Held) → AreTogether q → HomeHere places p k → p.0 ≢ (s.pid).0 → ((waiting : WaitingState) → h ≡ Waits waiting → (waiting.kept).pid ≡ p) → IsHeldAs system log (posts_of q) p h → IsHeldAs system later (posts_of q) p h
   held_still k q p h together home other own held = held_stays system valid log e now next brings_nothing k q p h together home (spares_other p other) own held
 
-  pub records_stay : (k : ClusterNo) (recs : List BackRec) → KeepsRecords system log k recs → KeepsRecords system later k (records_after (what e) recs)
+  pub records_stay : (k : ClusterNo) (recs : List BackRec) → KeepsRecords system log k recs → KeepsRecords system later k (records_after k (what e) recs)
   records_stay k recs keeps = records_kept system log e k recs valid (built_stands system later next.0) (by_sync (λ w. changes_in_place w ≡ true) (λ pid at index bytes. refl) (λ pid small read took. refl) (what e) of) keeps
 
   pub follows_sync : (which : Pid → Bool) (c : ClusterView) (server : Option PagerState) → AllOwn c.cursor c.here → Serves places e c.server server → FollowsBeside which system log c → is_by_cluster c.number e ≡ false

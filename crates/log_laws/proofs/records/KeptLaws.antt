@@ -45,8 +45,10 @@ use Rattle.cert_sched.specs.Steps.{saved_of, start_steps, steps_since}
 use Rattle.log_laws.proofs.letters.SyncReads.{sync_ends, sync_fronts}
 use Rattle.log_laws.proofs.records.Backed.{with_backup_unended}
 use Rattle.log_laws.proofs.records.BirthRecords.{births_kept, none_yet}
+use Rattle.log_laws.proofs.records.Brought.{can_bring}
 use Rattle.log_laws.proofs.records.Counts.{count_below, next_fits, starts_from}
 use Rattle.log_laws.proofs.records.OneRecord.{letter_out, noted_unrenewed, record_follows}
+use Rattle.log_laws.proofs.records.RenewedRecords.{renewed_kept}
 use Rattle.log_laws.proofs.records.Standing.{itself, legal_stands}
 
 -- ---- what is found
@@ -107,13 +109,13 @@ module _ (system : System) (log : List Entry) (e : Entry) (k : ClusterNo) (recs 
 
   -- each record was changed in its place, and no process ended or has another backup
   in_place : (w : What) → what e ≡ w → is_noted w ≡ true → ((p : Pid) → backed (unended_at (placed_after (placement system log) w) p) ≡ backed (unended_at (placement system log) p))
-      → ((p : Pid) → record_in (records_after w recs) p ≡ option_map (record_after w) (record_in recs p)) → KeepsRecords system (log ++ e ∷ []) k (records_after w recs)
+      → ((p : Pid) → record_in (records_after k w recs) p ≡ option_map (record_after w) (record_in recs p)) → KeepsRecords system (log ++ e ∷ []) k (records_after k w recs)
   in_place w is none same found p = by_backup (has_backup_in system log k p) refl
     where
       placed : has_backup_in system (log ++ e ∷ []) k p ≡ has_backup_in system log k p
       placed = ap (λ places. backed (unended_at places p)) (placement-snoc system log e ∙ ap (placed_after (placement system log)) is) ∙ same p
 
-      by_backup : (b : Bool) → has_backup_in system log k p ≡ b → record_in (records_after w recs) p ≡ cond (has_backup_in system (log ++ e ∷ []) k p) (backup_record system (log ++ e ∷ []) p) None
+      by_backup : (b : Bool) → has_backup_in system log k p ≡ b → record_in (records_after k w recs) p ≡ cond (has_backup_in system (log ++ e ∷ []) k p) (backup_record system (log ++ e ∷ []) p) None
       by_backup true has =
           found p
           ∙ ap (option_map (record_after w)) (keeps p ∙ ap (λ b. cond b (backup_record system log p) None) has)
@@ -126,14 +128,14 @@ module _ (system : System) (log : List Entry) (e : Entry) (k : ClusterNo) (recs 
           ∙ ap (λ b. cond b (backup_record system (log ++ e ∷ []) p) None) (sym (placed ∙ has))
 
   -- a process ended
-  after_end : (q : Pid) (at : ℕ) (end : End) → what e ≡ Exit q at end → KeepsRecords system (log ++ e ∷ []) k (records_after (Exit q at end) recs)
+  after_end : (q : Pid) (at : ℕ) (end : End) → what e ≡ Exit q at end → KeepsRecords system (log ++ e ∷ []) k (records_after k (Exit q at end) recs)
   after_end q at end is p = by_pid (eqb p.0 q.0) refl
     where
       places_are : placement system (log ++ e ∷ []) ≡ placed_after (placement system log) (Exit q at end)
       places_are = placement-snoc system log e ∙ ap (placed_after (placement system log)) is
 
       by_backup : (b : Bool) → has_backup_in system log k p ≡ b → eqb p.0 q.0 ≡ false → has_backup_in system (log ++ e ∷ []) k p ≡ has_backup_in system log k p
-          → record_in (records_after (Exit q at end) recs) p ≡ cond (has_backup_in system (log ++ e ∷ []) k p) (backup_record system (log ++ e ∷ []) p) None
+          → record_in (records_after k (Exit q at end) recs) p ≡ cond (has_backup_in system (log ++ e ∷ []) k p) (backup_record system (log ++ e ∷ []) p) None
       by_backup true has apart same =
           others_found q p recs apart
           ∙ keeps p ∙ ap (λ b. cond b (backup_record system log p) None) has
@@ -150,11 +152,11 @@ module _ (system : System) (log : List Entry) (e : Entry) (k : ClusterNo) (recs 
           ∙ keeps p ∙ ap (λ b. cond b (backup_record system log p) None) has
           ∙ ap (λ b. cond b (backup_record system (log ++ e ∷ []) p) None) (sym (same ∙ has))
 
-      by_pid : (b : Bool) → eqb p.0 q.0 ≡ b → record_in (records_after (Exit q at end) recs) p ≡ cond (has_backup_in system (log ++ e ∷ []) k p) (backup_record system (log ++ e ∷ []) p) None
+      by_pid : (b : Bool) → eqb p.0 q.0 ≡ b → record_in (records_after k (Exit q at end) recs) p ≡ cond (has_backup_in system (log ++ e ∷ []) k p) (backup_record system (log ++ e ∷ []) p) None
       by_pid true same =
           let pids : p ≡ q = pid_same p q same in
           let ended : unended_at (placement system (log ++ e ∷ [])) p ≡ None = ap (λ places. unended_at places p) places_are ∙ ap (unended_at (placed_after (placement system log) (Exit q at end))) pids ∙ exited q (placement system log).placed in
-          ap (record_in (records_after (Exit q at end) recs)) pids ∙ gone q recs ∙ ap (λ o. cond (backed o) (backup_record system (log ++ e ∷ []) p) None) (sym ended)
+          ap (record_in (records_after k (Exit q at end) recs)) pids ∙ gone q recs ∙ ap (λ o. cond (backed o) (backup_record system (log ++ e ∷ []) p) None) (sym ended)
       by_pid false apart =
           let stays : unended_at (placement system (log ++ e ∷ [])) p ≡ unended_at (placement system log) p =
           ap (λ places. unended_at places p) places_are ∙ unended_exit q p (placement system log).placed (λ same. true≢false (sym (eq-eqb p.0 q.0 same) ∙ apart)) in
@@ -172,18 +174,18 @@ module _ (system : System) (log : List Entry) (e : Entry) (k : ClusterNo) (recs 
       by_placed None = refl
       by_placed (Some r) = by_test r (same_pid r.pid q)
 
-  by_kind : (w : What) → what e ≡ w → changes_in_place w ≡ true → KeepsRecords system (log ++ e ∷ []) k (records_after w recs)
+  by_kind : (w : What) → what e ≡ w → changes_in_place w ≡ true → KeepsRecords system (log ++ e ∷ []) k (records_after k w recs)
   by_kind (Mail at letter) is h = in_place (Mail at letter) is refl (λ p. refl) (λ p. record_mapped (record_after (Mail at letter)) (letter_pid letter) recs p)
   by_kind (Birth parent at child end) is h = births_kept system log e valid legal parent at child end is k recs keeps
   by_kind (Exit q at end) is h = after_end q at end is
   by_kind (Sync q small read took) is h = in_place (Sync q small read took) is refl (synced_backed q small read took) (λ p. record_mapped (record_after (Sync q small read took)) (cut_pid q small read) recs p)
   by_kind (Crash k cause) is h = absurd (true≢false (sym h))
-  by_kind (Rebackup to fresh more) is h = absurd (true≢false (sym h))
+  by_kind (Rebackup to fresh more) is h = renewed_kept system log e k to fresh more recs valid legal is keeps
   by_kind w is h = in_place w is refl (λ p. refl) (λ p. all_same recs p)
 
 -- the records stay those of the log
 pub records_kept : (system : System) (log : List Entry) (e : Entry) (k : ClusterNo) (recs : List BackRec) → is_system system ≡ true → IsLegalBy Stands system (log ++ e ∷ []) → changes_in_place (what e) ≡ true → KeepsRecords system log k recs
-    → KeepsRecords system (log ++ e ∷ []) k (records_after (what e) recs)
+    → KeepsRecords system (log ++ e ∷ []) k (records_after k (what e) recs)
 records_kept system log e k recs valid legal h keeps = by_kind system log e k recs valid legal keeps (what e) refl h
 
 -- ---- when it may be noted
@@ -294,6 +296,7 @@ note_by system log e k recs valid legal room keeps can = by_what (what e) refl
     by_what (Mail at letter) is = letter_fits at letter is
     by_what (Birth parent at child end) is = none_yet system log e valid legal parent at child end is k recs keeps
     by_what (Sync q small read took) is = cut_fits q small read took is
+    by_what (Rebackup to fresh more) is = can_bring system log e k to fresh more recs valid legal is keeps
     by_what _ is = tt
 
 -- each entry of a legal log may be noted

@@ -12,7 +12,7 @@ use Rattle.bus_msg.specs.declared.entry.What.{What}
 use Rattle.bus_msg.specs.declared.entry.What.TheVariants.{Crash, Rebackup}
 use Rattle.bus_msg.specs.declared.entry.Entry.{Entry}
 use Rattle.bus_msg.specs.declared.placed.Placed.{Placed}
-use Rattle.bus_msg.specs.Places.{is_cluster, unended_at}
+use Rattle.bus_msg.specs.Places.{Places, is_cluster, unended_at}
 use Rattle.cert_sched.specs.Deeds.{is_cut}
 use Rattle.cert_sched.specs.Schedule.{placement}
 use Rattle.cert_sched.specs.Record.{backup_record}
@@ -43,12 +43,18 @@ abbrev pub is_noted : What → Bool
 is_noted (Rebackup to fresh recs) = false
 is_noted w = true
 
--- and no loss, at which records leave
+-- the kinds at which no record leaves a cluster but that of a process that ended: all but losses
 abbrev pub changes_in_place : What → Bool
 changes_in_place (Crash k cause) = false
-changes_in_place w = is_noted w
+changes_in_place w = true
 
 -- a new backup for the process, after it has run
 abbrev pub is_renewed : Pid → What → Bool
 is_renewed p (Rebackup to fresh recs) = is_cut p (Rebackup to fresh recs)
 is_renewed p w = false
+
+-- the process has not ended, and has no backup
+pub record Unbacked (places : Places) (p : Pid) : Type 0 where
+  pub at : Placed
+  pub found : unended_at places p ≡ Some at
+  pub none : at.backup ≡ None

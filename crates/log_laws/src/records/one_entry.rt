@@ -36,9 +36,9 @@ pub fn records_follow()
 {}
 
 /// A law and no code: where the records of a cluster are those of the log, what an entry makes of them are those
-/// of the log with it, if it is no new backup and no loss.
+/// of the log with it, if it is no loss.
 pub fn records_are_kept()
-    ensures { (system : System) (log : List Entry) (e : Entry) (k : ClusterNo) (recs : List BackRec) → is_system system ≡ true → IsLegalBy Stands system (log ++ e ∷ []) → changes_in_place (what e) ≡ true → KeepsRecords system log k recs → KeepsRecords system (log ++ e ∷ []) k (records_after (what e) recs) }
+    ensures { (system : System) (log : List Entry) (e : Entry) (k : ClusterNo) (recs : List BackRec) → is_system system ≡ true → IsLegalBy Stands system (log ++ e ∷ []) → changes_in_place (what e) ≡ true → KeepsRecords system log k recs → KeepsRecords system (log ++ e ∷ []) k (records_after k (what e) recs) }
 {}
 
 /// A law and no code: a child that was born has a record without a state, in which nothing was saved and counted.

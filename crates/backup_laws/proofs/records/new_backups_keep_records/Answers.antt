@@ -1,5 +1,5 @@
-use Rattle.backup_laws.proofs.Named.{named_in_log}
-use Rattle.backup_laws.proofs.RenewedRecords.{renewed_kept}
+use Rattle.log_laws.proofs.records.Named.{named_in_log}
+use Rattle.log_laws.proofs.records.RenewedRecords.{renewed_kept}
 use Rattle.backup_laws.proofs.records.new_backups_keep_records.Goals as goal
 
 pub returns-clause-named : goal.returns-clause-named

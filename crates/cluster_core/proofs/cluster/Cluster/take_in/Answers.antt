@@ -57,9 +57,9 @@ take_over-requires g c =
     let e = c.args.entry.now in
     let w = what e in
     let valid : is_system c.args.self.now.system ≡ true = subst (λ (v : ClusterView). is_system v.system ≡ true) c.self.view_is c.self.invariant.valid in
-    let can = subst (λ (v : ClusterView). CanWait (moved_by v.places v.number w (records_after w v.records)) (here_after w v.here)) (sym c.self.view_is) (may_wait c.args.self.now e valid c.requires.ready) in
+    let can = subst (λ (v : ClusterView). CanWait (moved_by v.places v.number w (records_after v.number w v.records)) (here_after w v.here)) (sym c.self.view_is) (may_wait c.args.self.now e valid c.requires.ready) in
     subst (λ recs. CanWait (moved_by c.self.inside.places c.self.inside.number w recs) c.tell.new.here.here) (sym c.in_ok-note.ensures.ok)
-    (subst (λ hs. CanWait (moved_by c.self.inside.places c.self.inside.number w (records_after w c.self.inside.records)) hs) (sym c.in_ok-tell.ensures.ok) can)
+    (subst (λ hs. CanWait (moved_by c.self.inside.places c.self.inside.number w (records_after c.self.inside.number w c.self.inside.records)) hs) (sym c.in_ok-tell.ensures.ok) can)
 
 pub tell-requires-clause-page : goal.tell-requires-clause-page
 tell-requires-clause-page g c =
@@ -105,11 +105,11 @@ invariant_of-self-in_err-absorb g c =
     let w = what e in
     let valid : is_system old.system ≡ true = subst (λ (v : ClusterView). is_system v.system ≡ true) c.self.view_is c.self.invariant.valid in
     let told = ready_own old e c.requires.ready (subst (λ (v : ClusterView). AllOwn v.cursor v.here) c.self.view_is c.self.invariant.residents) in
-    let order : are_rising (moved_by old.places old.number w (records_after w old.records)) ≡ true =
-    subst (λ (v : ClusterView). are_rising (moved_by v.places v.number w (records_after w v.records)) ≡ true) c.self.view_is
+    let order : are_rising (moved_by old.places old.number w (records_after old.number w old.records)) ≡ true =
+    subst (λ (v : ClusterView). are_rising (moved_by v.places v.number w (records_after v.number w v.records)) ≡ true) c.self.view_is
     (subst (λ recs. are_rising (moved_by c.self.inside.places c.self.inside.number w recs) ≡ true) c.in_ok-note.ensures.ok c.in_ok-take_over.ensures.rising) in
-    let mine : AllOwn (c.self.inside.cursor + 1) (with_all_waiting (moved_by c.self.inside.places c.self.inside.number w (records_after w c.self.inside.records)) (here_after w c.self.inside.here.here)) =
-    subst (λ (v : ClusterView). AllOwn (v.cursor + 1) (with_all_waiting (moved_by v.places v.number w (records_after w v.records)) (here_after w v.here))) (sym c.self.view_is)
+    let mine : AllOwn (c.self.inside.cursor + 1) (with_all_waiting (moved_by c.self.inside.places c.self.inside.number w (records_after c.self.inside.number w c.self.inside.records)) (here_after w c.self.inside.here.here)) =
+    subst (λ (v : ClusterView). AllOwn (v.cursor + 1) (with_all_waiting (moved_by v.places v.number w (records_after v.number w v.records)) (here_after w v.here))) (sym c.self.view_is)
     (owns_waiting old e valid c.requires.ready order (here_after w old.here) told) in
     let here = c.in_ok-take_over.ensures.here ∙ (λ i. with_all_waiting (moved_by c.self.inside.places c.self.inside.number w (c.in_ok-note.ensures.ok i)) (c.in_ok-tell.ensures.ok i)) in
     record {
@@ -128,11 +128,11 @@ invariant_of-self-2 g c =
     let w = what e in
     let valid : is_system old.system ≡ true = subst (λ (v : ClusterView). is_system v.system ≡ true) c.self.view_is c.self.invariant.valid in
     let told = ready_own old e c.requires.ready (subst (λ (v : ClusterView). AllOwn v.cursor v.here) c.self.view_is c.self.invariant.residents) in
-    let order : are_rising (moved_by old.places old.number w (records_after w old.records)) ≡ true =
-    subst (λ (v : ClusterView). are_rising (moved_by v.places v.number w (records_after w v.records)) ≡ true) c.self.view_is
+    let order : are_rising (moved_by old.places old.number w (records_after old.number w old.records)) ≡ true =
+    subst (λ (v : ClusterView). are_rising (moved_by v.places v.number w (records_after v.number w v.records)) ≡ true) c.self.view_is
     (subst (λ recs. are_rising (moved_by c.self.inside.places c.self.inside.number w recs) ≡ true) c.in_ok-note.ensures.ok c.in_ok-take_over.ensures.rising) in
-    let mine : AllOwn (c.self.inside.cursor + 1) (with_all_waiting (moved_by c.self.inside.places c.self.inside.number w (records_after w c.self.inside.records)) (here_after w c.self.inside.here.here)) =
-    subst (λ (v : ClusterView). AllOwn (v.cursor + 1) (with_all_waiting (moved_by v.places v.number w (records_after w v.records)) (here_after w v.here))) (sym c.self.view_is)
+    let mine : AllOwn (c.self.inside.cursor + 1) (with_all_waiting (moved_by c.self.inside.places c.self.inside.number w (records_after c.self.inside.number w c.self.inside.records)) (here_after w c.self.inside.here.here)) =
+    subst (λ (v : ClusterView). AllOwn (v.cursor + 1) (with_all_waiting (moved_by v.places v.number w (records_after v.number w v.records)) (here_after w v.here))) (sym c.self.view_is)
     (owns_waiting old e valid c.requires.ready order (here_after w old.here) told) in
     let here = c.in_ok-take_over.ensures.here ∙ (λ i. with_all_waiting (moved_by c.self.inside.places c.self.inside.number w (c.in_ok-note.ensures.ok i)) (c.in_ok-tell.ensures.ok i)) in
     record {
@@ -156,11 +156,11 @@ returns-clause-follows g c =
     c.count_step.ensures
     ∙ ap (λ (v : ClusterView). record v { cursor = v.cursor + 1; places = c.absorb.new.self; here = c.take_over.new.here.here; records = c.take_over.new.records; family = c.join.new.family; server = server; steps = next_count v.steps }) c.self.view_is
     ∙ (λ i. record old { cursor = old.cursor + 1; places = c.in_ok-absorb.ensures.ok i; here = here i; records = recs i; family = c.in_ok-join.ensures.ok i; server = server; steps = next_count old.steps })
-    ∙ ap (λ (v : ClusterView). record old { cursor = old.cursor + 1; places = placed_after v.places w; here = with_all_waiting (moved_by v.places v.number w (records_after w v.records)) (here_after w v.here); records = left_by v.places v.number w (records_after w v.records); family = family_after w v.family; server = server; steps = next_count old.steps }) c.self.view_is in
+    ∙ ap (λ (v : ClusterView). record old { cursor = old.cursor + 1; places = placed_after v.places w; here = with_all_waiting (moved_by v.places v.number w (records_after v.number w v.records)) (here_after w v.here); records = left_by v.places v.number w (records_after v.number w v.records); family = family_after w v.family; server = server; steps = next_count old.steps }) c.self.view_is in
     let valid : is_system old.system ≡ true = subst (λ (v : ClusterView). is_system v.system ≡ true) c.self.view_is c.self.invariant.valid in
     let own = subst (λ (v : ClusterView). AllOwn v.cursor v.here) c.self.view_is c.self.invariant.residents in
-    let order : are_rising (moved_by old.places old.number w (records_after w old.records)) ≡ true =
-    subst (λ (v : ClusterView). are_rising (moved_by v.places v.number w (records_after w v.records)) ≡ true) c.self.view_is
+    let order : are_rising (moved_by old.places old.number w (records_after old.number w old.records)) ≡ true =
+    subst (λ (v : ClusterView). are_rising (moved_by v.places v.number w (records_after v.number w v.records)) ≡ true) c.self.view_is
     (subst (λ recs. are_rising (moved_by c.self.inside.places c.self.inside.number w recs) ≡ true) c.in_ok-note.ensures.ok c.in_ok-take_over.ensures.rising) in
     let serves : Serves old.places e old.server server = subst (λ (v : ClusterView). Serves v.places e v.server server) c.self.view_is c.in_ok-serve.ensures.ok in
     subst (Absorbs e old) (sym whole) (absorbs old e server valid own order serves)

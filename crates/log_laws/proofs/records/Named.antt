@@ -27,10 +27,9 @@ use Rattle.cert_sched.proofs.LogLaws.{IsLegal-before, IsLegal-last}
 use Rattle.cert_sched.proofs.CameLaws.{same_of}
 use Rattle.cert_sched.proofs.FamilyLaws.{Pair, Member, among, all_family, Families, families, fresh_named, standing_named, one_record}
 use Rattle.backup_records.specs.Records.{record_after}
-use Rattle.log_laws.specs.records.Kept.{is_renewed}
+use Rattle.log_laws.specs.records.Kept.{Unbacked, is_renewed}
 use Rattle.log_laws.proofs.records.OneRecord.{record_follows}
 use Rattle.log_laws.proofs.records.Standing.{itself}
-use Rattle.backup_laws.specs.Renewed.{Unbacked}
 
 -- a process that gets a backup has none
 none_before : (places : Places) (q : Placed) (to : ClusterNo) → next_backup places q ≡ Some to → q.backup ≡ None

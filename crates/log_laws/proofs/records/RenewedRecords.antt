@@ -19,11 +19,10 @@ use Rattle.cert_sched.specs.Record.{backup_record}
 use Rattle.cert_sched.specs.Legal.{IsLegalBy, Stands}
 use Rattle.cert_sched.proofs.LogLaws.{placement-snoc}
 use Rattle.cert_sched.proofs.UnendedLaws.{unended_map, unended_pid, backup_keeps}
-use Rattle.backup_records.specs.Records.{record_in, with_record}
+use Rattle.backup_records.specs.Records.{record_in, records_renewed, with_record, with_records}
 use Rattle.backup_records.proofs.BirthLaws.{record_put, record_put-other}
 use Rattle.log_laws.specs.records.Kept.{KeepsRecords, has_backup_in, is_renewed}
-use Rattle.backup_laws.specs.Renewed.{records_renewed, with_records}
-use Rattle.backup_laws.proofs.Named.{AllAre, named_in_log, records_are, record_stays}
+use Rattle.log_laws.proofs.records.Named.{AllAre, named_in_log, records_are, record_stays}
 
 -- ---- what is found
 
