@@ -13,7 +13,7 @@ use Rattle.sys_text.specs.Valid.{is_system}
 use Rattle.bus_msg.specs.declared.entry.By.TheVariants.{Cluster}
 use Rattle.bus_msg.specs.declared.entry.Cause.{Cause}
 use Rattle.bus_msg.specs.declared.entry.What.{What}
-use Rattle.bus_msg.specs.declared.entry.What.TheVariants.{Birth, Crash, Return, Rebackup}
+use Rattle.bus_msg.specs.declared.entry.What.TheVariants.{Birth, Crash, Return}
 use Rattle.bus_msg.specs.declared.entry.Entry.{Entry}
 use Rattle.bus_msg.specs.declared.placed.Placed.{Placed}
 use Rattle.bus_msg.specs.Places.{ClusterPlace, Places, cluster_no, is_at_home, is_covered, lives_in, never_lost, placed_at, same_cluster, servers_in}
@@ -23,8 +23,8 @@ use Rattle.cert_sched.specs.Schedule.{placement}
 use Rattle.cert_sched.specs.Losses.{was_lost_in}
 use Rattle.cert_sched.specs.Rules.{ends_run, is_by, is_over}
 use Rattle.cert_sched.specs.Legal.{IsLegalBy}
-use Rattle.cert_sched.specs.Built.{MayStand, is_built}
-use Rattle.cert_sched.proofs.BirthClusters.{birth_keeps}
+use Rattle.cert_sched.specs.Built.{MayStand}
+use Rattle.cert_sched.proofs.BirthClusters.{birth_keeps, return_keeps}
 use Rattle.cert_sched.proofs.FreshLaws.{kept_elsewhere}
 use Rattle.cert_sched.proofs.HomesLaws.{built_clusters-length}
 use Rattle.cert_sched.proofs.Induction.{is_over-snoc, legal_induction}
@@ -99,23 +99,25 @@ birth_served places child (Some q) served = (λ i. kept (places.pager).0 i || ke
     kept : (k : ClusterNo) → never_lost (with_birth places child (Some q)) k ≡ never_lost places k
     kept = birth_keeps (λ (c : ClusterPlace). not c.was_lost) (λ c. refl) places child (Some q)
 
-more_served : (places : Places) (w : What) → is_built w ≡ true → ends_run places w ≡ false → is_served places ≡ true → is_served (placed_after places w) ≡ true
-more_served places (Birth parent at child end) built goes served = birth_served places child (placed_at places parent) served
-more_served places (Crash k cause) built goes served = loss_served places k cause (not_not (is_covered places k) goes)
+more_served : (places : Places) (w : What) → ends_run places w ≡ false → is_served places ≡ true → is_served (placed_after places w) ≡ true
+more_served places (Birth parent at child end) goes served = birth_served places child (placed_at places parent) served
+more_served places (Crash k cause) goes served = loss_served places k cause (not_not (is_covered places k) goes)
   where
     not_not : (b : Bool) → not b ≡ false → b ≡ true
     not_not true h = refl
     not_not false h = absurd (true≢false h)
-more_served places (Return k) built goes served = absurd (true≢false (sym built))
-more_served places (Rebackup to fresh recs) built goes served = absurd (true≢false (sym built))
-more_served places _ built goes served = served
+more_served places (Return j) goes served = (λ i. kept (places.pager).0 i || kept (places.pager).1 i) ∙ served
+  where
+    kept : (k : ClusterNo) → never_lost (placed_after places (Return j)) k ≡ never_lost places k
+    kept = return_keeps (λ (c : ClusterPlace). not c.was_lost) (λ c. refl) places j
+more_served places _ goes served = served
 
 log_served : (system : System) (log : List Entry) → is_system system ≡ true → IsLegalBy MayStand system log → is_over system log ≡ false → is_served (placement system log) ≡ true
 log_served system log valid legal =
     legal_induction MayStand system (λ log. is_over system log ≡ false → is_served (placement system log) ≡ true)
     (λ goes. covered_served (placement system []) (cluster_no 0) (crashless_covered system [] (cluster_no 0) valid (none_legal system) refl))
     (λ log e before may goes.
-    ap is_served (placement-snoc system log e) ∙ more_served (placement system log) (what e) may.built (sym (is_over-snoc system log e) ∙ goes) (before ((may.stands).placed).2)) log legal
+    ap is_served (placement-snoc system log e) ∙ more_served (placement system log) (what e) (sym (is_over-snoc system log e) ∙ goes) (before ((may.stands).placed).2)) log legal
 
 -- ---- the first of them
 

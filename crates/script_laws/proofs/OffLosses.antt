@@ -9,7 +9,7 @@ use Rattle.std.proofs.lemmas.List.Folds.{list_any-append}
 use Rattle.t32_base.specs.declared.process.ClusterNo.{ClusterNo}
 use Rattle.sys_text.specs.declared.system.System.{System}
 use Rattle.bus_msg.specs.declared.entry.What.{What}
-use Rattle.bus_msg.specs.declared.entry.What.TheVariants.{PageIs, Crash, Return, Rebackup, Done, Stop}
+use Rattle.bus_msg.specs.declared.entry.What.TheVariants.{PageIs, Crash, Return, Done, Stop}
 use Rattle.bus_msg.specs.declared.entry.By.{By}
 use Rattle.bus_msg.specs.declared.entry.By.TheVariants.{Cluster, Bus}
 use Rattle.bus_msg.specs.declared.entry.Entry.{Entry}
@@ -172,18 +172,17 @@ off_is_its_loss system log k at legal =
 -- ---- what a cluster sends
 
 -- only a cluster that lives sends
-sends_living : (places : Places) (k : ClusterNo) → (never_lost places k ≡ true → lives_in places k ≡ true) → (w : What) → is_built w ≡ true → is_by_right places (Cluster k) w ≡ true → lives_in places k ≡ true
-sends_living places k serves (PageIs pid index bytes) built right = serves (first_server places k right)
-sends_living places k serves (Crash j cause) built right = absurd (true≢false (sym right))
-sends_living places k serves (Return j) built right = absurd (true≢false (sym built))
-sends_living places k serves (Rebackup to fresh recs) built right = absurd (true≢false (sym built))
-sends_living places k serves (Done rests) built right = absurd (true≢false (sym right))
-sends_living places k serves Stop built right = absurd (true≢false (sym right))
-sends_living places k serves _ built right = (and_parts (lives_in places k) _ right).0
+sends_living : (places : Places) (k : ClusterNo) → (never_lost places k ≡ true → lives_in places k ≡ true) → (w : What) → is_by_right places (Cluster k) w ≡ true → lives_in places k ≡ true
+sends_living places k serves (PageIs pid index bytes) right = serves (first_server places k right)
+sends_living places k serves (Crash j cause) right = absurd (true≢false (sym right))
+sends_living places k serves (Return j) right = absurd (true≢false (sym right))
+sends_living places k serves (Done rests) right = absurd (true≢false (sym right))
+sends_living places k serves Stop right = absurd (true≢false (sym right))
+sends_living places k serves _ right = (and_parts (lives_in places k) _ right).0
 
-sender_lives : (places : Places) → ((k : ClusterNo) → never_lost places k ≡ true → lives_in places k ≡ true) → (by : By) (k : ClusterNo) (w : What) → is_built w ≡ true → is_by_right places by w ≡ true → is_from k by ≡ true → lives_in places k ≡ true
-sender_lives places serve (Cluster j) k w built right from = subst (λ c. lives_in places c ≡ true) (λ i. record { 0 = eqb-true j.0 k.0 from i }) (sends_living places j (serve j) w built right)
-sender_lives places serve Bus k w built right from = absurd (true≢false (sym from))
+sender_lives : (places : Places) → ((k : ClusterNo) → never_lost places k ≡ true → lives_in places k ≡ true) → (by : By) (k : ClusterNo) (w : What) → is_by_right places by w ≡ true → is_from k by ≡ true → lives_in places k ≡ true
+sender_lives places serve (Cluster j) k w right from = subst (λ c. lives_in places c ≡ true) (λ i. record { 0 = eqb-true j.0 k.0 from i }) (sends_living places j (serve j) w right)
+sender_lives places serve Bus k w right from = absurd (true≢false (sym from))
 
 -- so one that was lost sends no further entry
 lost_sends_not : (system : System) (log : List Entry) (e : Entry) (k : ClusterNo) → IsLegalBy MayStand system log → MayStand system log e → was_lost_in log k ≡ true → is_by_cluster k e ≡ false
@@ -191,7 +190,7 @@ lost_sends_not system log e k legal may lost = by_test (is_by_cluster k e) refl
   where
     by_test : (b : Bool) → is_by_cluster k e ≡ b → is_by_cluster k e ≡ false
     by_test true from =
-        let lives = sender_lives (placement system log) (λ k. servers_live system log k) (e.post).by k (what e) may.built (may.stands).by_right from in
+        let lives = sender_lives (placement system log) (λ k. servers_live system log k) (e.post).by k (what e) (may.stands).by_right from in
         absurd (true≢false (sym lost ∙ not_off_not_lost system log k legal (living_not_off system log k legal lives)))
     by_test false other = other
 

@@ -218,7 +218,7 @@ module _ (c : ClusterView) (log : List Entry) (e : Entry) (server : Option Pager
   server_stays : is_some server ≡ true → list_any (λ s. same_cluster s k) (servers_in (placement c.system later)) ≡ true
   server_stays some =
       ap (λ pair. list_any (λ s. same_cluster s k) (filter (never_lost (placement c.system later)) (pair.0 ∷ pair.1 ∷ []))) (ap (λ (p : Places). p.pager) at_later
-      ∙ same_pager (what e) places may.built)
+      ∙ same_pager (what e) places)
       ∙ any_alike (λ s. same_cluster s k) (never_lost (placement c.system later)) (never_lost places) ((places.pager).0 ∷ (places.pager).1 ∷ []) one
       ∙ f.server (served_before c.server server serves some)
     where

@@ -7,7 +7,7 @@ use Rattle.t32_base.specs.declared.process.ClusterNo.{ClusterNo}
 use Rattle.sys_text.specs.declared.system.System.{System}
 use Rattle.bus_msg.specs.declared.entry.By.TheVariants.{Cluster}
 use Rattle.bus_msg.specs.declared.entry.What.{What}
-use Rattle.bus_msg.specs.declared.entry.What.TheVariants.{Birth, Crash, Return, Rebackup}
+use Rattle.bus_msg.specs.declared.entry.What.TheVariants.{Birth, Crash, Return}
 use Rattle.bus_msg.specs.declared.entry.Entry.{Entry}
 use Rattle.bus_msg.specs.declared.placed.Placed.{Placed}
 use Rattle.bus_msg.specs.Places.{ClusterPlace, Places, never_lost, placed_at, same_cluster, servers_in}
@@ -16,10 +16,10 @@ use Rattle.cert_sched.specs.Parts.{first_of}
 use Rattle.cert_sched.specs.Schedule.{placement}
 use Rattle.cert_sched.specs.Rules.{is_by}
 use Rattle.cert_sched.specs.Legal.{IsLegalBy}
-use Rattle.cert_sched.specs.Built.{MayStand, is_built}
+use Rattle.cert_sched.specs.Built.{MayStand}
 use Rattle.cert_sched.specs.Losses.{is_crash_of, was_lost_in}
 use Rattle.cert_sched.specs.Scripted.{is_server}
-use Rattle.cert_sched.proofs.BirthClusters.{birth_keeps}
+use Rattle.cert_sched.proofs.BirthClusters.{birth_keeps, return_keeps}
 use Rattle.cert_sched.proofs.FreshLaws.{kept_elsewhere, put_here}
 use Rattle.cert_sched.proofs.Induction.{legal_induction}
 use Rattle.cert_sched.proofs.LogLaws.{placement-snoc}
@@ -28,13 +28,13 @@ use Rattle.cluster_core.specs.Work.{is_first_server}
 
 -- ---- an entry
 
-pub same_pager : (w : What) (places : Places) → is_built w ≡ true → (placed_after places w).pager ≡ places.pager
-same_pager (Birth parent at child end) places built = by_parent (placed_at places parent)
+pub same_pager : (w : What) (places : Places) → (placed_after places w).pager ≡ places.pager
+same_pager (Birth parent at child end) places = by_parent (placed_at places parent)
   where
     by_parent : (o : Option Placed) → (with_birth places child o).pager ≡ places.pager
     by_parent None = refl
     by_parent (Some q) = refl
-same_pager _ places built = refl
+same_pager _ places = refl
 
 abbrev was_never : Option ClusterPlace → Bool
 was_never o = option_map_or (λ (c : ClusterPlace). not c.was_lost) o false
@@ -60,18 +60,17 @@ pub record NeverBefore (places : Places) (w : What) (k : ClusterNo) : Type 0 whe
   pub before : never_lost places k ≡ true
   pub no_loss : is_crash_of k w ≡ false
 
-never_before : (w : What) (places : Places) (k : ClusterNo) → is_built w ≡ true → never_lost (placed_after places w) k ≡ true → NeverBefore places w k
-never_before (Birth parent at child end) places k built never = record { before = sym (birth_keeps (λ (c : ClusterPlace). not c.was_lost) (λ c. refl) places child (placed_at places parent) k) ∙ never; no_loss = refl }
-never_before (Crash j cause) places k built never = by_number (eqb j.0 k.0) refl
+never_before : (w : What) (places : Places) (k : ClusterNo) → never_lost (placed_after places w) k ≡ true → NeverBefore places w k
+never_before (Birth parent at child end) places k never = record { before = sym (birth_keeps (λ (c : ClusterPlace). not c.was_lost) (λ c. refl) places child (placed_at places parent) k) ∙ never; no_loss = refl }
+never_before (Crash j cause) places k never = by_number (eqb j.0 k.0) refl
   where
     by_number : (b : Bool) → eqb j.0 k.0 ≡ b → NeverBefore places (Crash j cause) k
     by_number true same =
         let Lost : ℕ → Type 0 = λ n. was_never (slice_get (changed_at j.0 lost_cluster (slice_get places.clusters j.0) places.clusters) n) ≡ false in
         absurd (true≢false (sym never ∙ subst Lost (eqb-true j.0 k.0 same) (lost_now places.clusters j.0)))
     by_number false apart = record { before = ap was_never (sym (lost_other places.clusters j.0 k.0 apart)) ∙ never; no_loss = apart }
-never_before (Return j) places k built never = absurd (true≢false (sym built))
-never_before (Rebackup to fresh recs) places k built never = absurd (true≢false (sym built))
-never_before _ places k built never = record { before = never; no_loss = refl }
+never_before (Return j) places k never = record { before = sym (return_keeps (λ (c : ClusterPlace). not c.was_lost) (λ c. refl) places j k) ∙ never; no_loss = refl }
+never_before _ places k never = record { before = never; no_loss = refl }
 
 -- ---- a log
 
@@ -80,14 +79,14 @@ pager_stays : (system : System) (log : List Entry) → IsLegalBy MayStand system
 unfolding placement
 pager_stays system log legal =
     legal_induction MayStand system (λ log. (placement system log).pager ≡ system.pager) refl
-    (λ log e same may. ap (λ (p : Places). p.pager) (placement-snoc system log e) ∙ same_pager (what e) (placement system log) may.built ∙ same) log legal
+    (λ log e same may. ap (λ (p : Places). p.pager) (placement-snoc system log e) ∙ same_pager (what e) (placement system log) ∙ same) log legal
 
 -- a cluster that the placement says was never lost has no loss in the log
 never_in : (system : System) (log : List Entry) (k : ClusterNo) → IsLegalBy MayStand system log → never_lost (placement system log) k ≡ true → was_lost_in log k ≡ false
 never_in system log k legal =
     legal_induction MayStand system (λ log. never_lost (placement system log) k ≡ true → was_lost_in log k ≡ false) (λ never. refl)
     (λ log e more may never.
-    let b = never_before (what e) (placement system log) k may.built (ap (λ (p : Places). never_lost p k) (sym (placement-snoc system log e)) ∙ never) in
+    let b = never_before (what e) (placement system log) k (ap (λ (p : Places). never_lost p k) (sym (placement-snoc system log e)) ∙ never) in
     list_any-append (λ (e : Entry). is_crash_of k (what e)) log (e ∷ []) ∙ (λ i. more b.before i || (b.no_loss i || false))) log legal
 
 -- ---- the first
