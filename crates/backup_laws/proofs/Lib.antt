@@ -4,6 +4,7 @@ pub mod Modes
 pub mod AwaitedFamilies
 pub mod Given
 pub mod FreshStands
+pub mod RenewedMarks
 pub mod StandingStands
 pub mod Fewer
 pub mod SpreadSafe

@@ -5,5 +5,6 @@ pub mod awaited;
 pub mod owed;
 pub mod posts;
 pub mod records;
+pub mod renewals;
 pub mod returned;
 pub mod spread;

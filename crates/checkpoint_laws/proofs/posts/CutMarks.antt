@@ -1,5 +1,5 @@
 -- The marks of a process that was just synchronised.
-use Rattle.std.proofs.Common.{◌≡◌, ℕ, zero, suc, ◌≤◌, refl, sym, ◌∙◌, ap, subst, arith, List, [], ◌∷◌, ◌++◌, length, map, Bool, true, false, cond, not, eqb, slice_get, Option, true≢false}
+use Rattle.std.proofs.Common.{◌≡◌, ℕ, zero, suc, ◌≤◌, refl, sym, ◌∙◌, ap, subst, arith, List, [], ◌∷◌, ◌++◌, length, map, Bool, true, false, cond, not, eqb, slice_get, Option, Some, true≢false}
 use Rattle.std.specs.Prelude.{filter, replicate, nat_lt}
 use Rattle.std.specs.List.{list_any}
 use Rattle.std.specs.Option.{option_map_or}
@@ -15,7 +15,9 @@ use Rattle.sync_point.specs.Batch.{cut_of, synced}
 use Rattle.sync_point.proofs.Cuts.{cut_keeps}
 use Rattle.cert_sched.specs.Parts.{rising}
 use Rattle.cert_sched.specs.Account.{account_after, all_pages}
-use Rattle.cert_sched.specs.Steps.{numbers_read}
+use Rattle.cert_sched.specs.Deeds.{start_of}
+use Rattle.cert_sched.specs.Schedule.{process_after}
+use Rattle.cert_sched.specs.Steps.{numbers_read, saved_of}
 use Rattle.cert_sched.proofs.ReadLaws.{reads_none}
 use Rattle.checkpoint_laws.proofs.posts.WholePages.{page_found}
 use Rattle.log_laws.proofs.pages.SizesStay.{process_sized}
@@ -65,20 +67,26 @@ no_mark (suc n) (suc i) = no_mark n i
 unmarked : (marks : List Bool) (n i : ℕ) → marks ≡ replicate n false → option_map_or (λ (b : Bool). b) (slice_get marks i) false ≡ false
 unmarked marks n i none = ap (λ marks. option_map_or (λ (b : Bool). b) (slice_get marks i) false) none ∙ no_mark n i
 
+-- a process that is as it starts again, with its saved letters and the pages that came, without a mark and with no letter read, is marked as the log says
+pub starts_marked : (system : System) (log : List Entry) (p : Pid) (process : Process) (n : ℕ) → is_system system ≡ true → process_after system log p ≡ Some (state_of process) → start_of system log p ≡ Some (state_of process)
+    → saved_of system log p ≡ (process.mail).letters → process.read ≡ [] → process.since ≡ (process.small).steps → (process.ram).dirty ≡ replicate n false → (account_after system log p).now ≡ all_pages (process.ram).bytes
+    → IsMarked system log p process
+starts_marked system log p process n valid there started saved no_read since none account =
+    let sized = process_sized system log p (state_of process) valid there in
+    record {
+      since_start = since ∙ sym (ap (λ (o : Option ProcState). option_map_or (λ (s : ProcState). (s.small).steps) o 0) started);
+      read = ap rising no_read ∙ sym (ap (λ saved. numbers_read (arrived_below (process.mail).next saved) (process.mail).letters) saved ∙ none_of_mail (process.mail).next (process.mail).letters);
+      clean = λ i within other. ap (λ pages. page_in pages i) account ∙ page_found (process.ram).bytes (process.small).pages i sized within;
+      unsent = λ i within marked. absurd (true≢false (sym marked ∙ unmarked (process.ram).dirty n i none));
+    }
+
 -- a process as the cut left it, without a mark and with no letter read since, is marked as the log says
 pub cut_marks : (system : System) (log : List Entry) (e : Entry) (p : Pid) (process : Process) (n : ℕ) → is_system system ≡ true → CutsAt system log e p (state_of process) → process.read ≡ [] → process.since ≡ (process.small).steps
     → (process.ram).dirty ≡ replicate n false → (account_after system log p).now ≡ all_pages (process.ram).bytes → IsMarked system (log ++ e ∷ []) p process
 cut_marks system log e p process n valid cut no_read since none account =
     let s : ProcState = state_of process in
-    let sized = process_sized system (log ++ e ∷ []) p s valid (cut_process system log e p s cut) in
-    record {
-      since_start = since ∙ sym (ap (λ (o : Option ProcState). option_map_or (λ (s : ProcState). (s.small).steps) o 0) (cut_start system log e p s cut));
-      read = ap rising no_read ∙ sym (ap (λ saved. numbers_read (arrived_below (process.mail).next saved) (process.mail).letters) (cut_saved system log e p s cut) ∙ none_of_mail (process.mail).next (process.mail).letters);
-      clean = λ i within other.
-          ap (λ (a : Account). page_in a.now i) (cut_account system log e p s cut) ∙ ap (λ pages. page_in pages i) account
-          ∙ page_found (process.ram).bytes (process.small).pages i sized within;
-      unsent = λ i within marked. absurd (true≢false (sym marked ∙ unmarked (process.ram).dirty n i none));
-    }
+    starts_marked system (log ++ e ∷ []) p process n valid (cut_process system log e p s cut) (cut_start system log e p s cut) (cut_saved system log e p s cut) no_read since none
+    (ap (λ (a : Account). a.now) (cut_account system log e p s cut) ∙ account)
 
 -- so is the process that was synchronised
 pub synced_marks : (system : System) (log : List Entry) (e : Entry) (p : Pid) (process : Process) → is_system system ≡ true → CutsAt system log e p (state_of (cut_of process)) → (account_after system log p).now ≡ all_pages (process.ram).bytes
