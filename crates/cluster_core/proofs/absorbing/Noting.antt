@@ -50,7 +50,7 @@ first_bit n rest =
     let one : bit_at (bit_or (2 ^ n) rest) n ≡ 1 = omega (arith, bit_at_or (2 ^ n) rest n, bit_at-pow_same n, bit_at-lt rest n) in
     ap (λ m. eqb m 1) one
 
-other_bit : (n m rest : ℕ) → eqb (bit_at rest n) 1 ≡ true → eqb (bit_at (bit_or (2 ^ m) rest) n) 1 ≡ true
+pub other_bit : (n m rest : ℕ) → eqb (bit_at rest n) 1 ≡ true → eqb (bit_at (bit_or (2 ^ m) rest) n) 1 ≡ true
 other_bit n m rest h =
     let here : bit_at rest n ≡ 1 = eqb-true (bit_at rest n) 1 h in
     let one : bit_at (bit_or (2 ^ m) rest) n ≡ 1 = omega (arith, bit_at_or (2 ^ m) rest n, here, bit_at-lt (2 ^ m) n) in

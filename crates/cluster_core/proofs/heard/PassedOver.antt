@@ -109,7 +109,7 @@ module _ (c : ClusterView) (log : List Entry) (e : Entry) (valid : is_system c.s
   pub of_it : (P : What → Type 0) → ((at : ℕ) (letter : Letter) → P (Mail at letter)) → ((pid : Pid) (at index : ℕ) (bytes : List ℕ) → P (Page pid at index bytes))
       → ((pid : Pid) (small : SmallState) (read : List ℕ) (took : Option ℕ) → P (Sync pid small read took))
       → ((pid : Pid) (index : ℕ) → P (Fetch pid index)) → ((pid : Pid) (index : ℕ) (bytes : List ℕ) → P (PageIs pid index bytes)) → P (what e)
-  of_it P mail page cut fetch come = by_unheard P mail page cut fetch come places k f.lives (what e) may.built elsewhere
+  of_it P mail page cut fetch come = by_unheard P mail page cut fetch come places k f.lives (what e) elsewhere
 
   pub no_loss : is_crash_of k (what e) ≡ false
   no_loss = of_it (λ w. is_crash_of k w ≡ false) (λ at letter. refl) (λ pid at index bytes. refl) (λ pid small read took. refl) (λ pid index. refl) (λ pid index bytes. refl)

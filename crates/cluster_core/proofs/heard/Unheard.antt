@@ -11,21 +11,20 @@ use Rattle.t32_base.specs.declared.letter.Letter.{Letter}
 use Rattle.sys_text.specs.declared.system.System.{System}
 use Rattle.channel_table.specs.Changes.{pids_differ}
 use Rattle.bus_msg.specs.declared.entry.What.{What}
-use Rattle.bus_msg.specs.declared.entry.What.TheVariants.{Mail, Page, Sync, Fetch, PageIs, Return, Rebackup}
+use Rattle.bus_msg.specs.declared.entry.What.TheVariants.{Mail, Page, Sync, Fetch, PageIs, Return}
 use Rattle.bus_msg.specs.declared.entry.By.{By}
 use Rattle.bus_msg.specs.declared.entry.By.TheVariants.{Cluster, Bus}
 use Rattle.bus_msg.specs.declared.placed.Placed.{Placed}
 use Rattle.bus_msg.specs.Places.{Places, all_clusters, is_cluster, lives_in, same_cluster, same_pid, servers_in, unended_at}
 use Rattle.bus_msg.specs.PlacedAfter.{after_sync}
 use Rattle.bus_msg.specs.Route.{backup_of, home_of, route, to_all, to_list}
-use Rattle.cert_sched.specs.Built.{is_built}
 use Rattle.cert_sched.specs.Losses.{is_from}
 use Rattle.cert_sched.specs.Record.{is_root}
 use Rattle.cert_sched.specs.Rules.{is_by}
 use Rattle.cluster_core.specs.Absorbing.{goes_to}
 use Rattle.cluster_core.specs.Hearing.{KnowsEach, KnowsPlaced}
 use Rattle.cluster_core.proofs.losses.Homes.{HomeHere}
-use Rattle.cluster_core.proofs.absorbing.Noting.{all_named, named_goes}
+use Rattle.cluster_core.proofs.absorbing.Noting.{all_named, named_goes, other_bit}
 
 -- ---- its kind
 
@@ -36,15 +35,14 @@ all_hear places k lives = named_goes places k (all_clusters places) lives (all_n
 pub by_unheard : (P : What → Type 0) → ((at : ℕ) (letter : Letter) → P (Mail at letter)) → ((pid : Pid) (at index : ℕ) (bytes : List ℕ) → P (Page pid at index bytes))
     → ((pid : Pid) (small : SmallState) (read : List ℕ) (took : Option ℕ) → P (Sync pid small read took))
     → ((pid : Pid) (index : ℕ) → P (Fetch pid index)) → ((pid : Pid) (index : ℕ) (bytes : List ℕ) → P (PageIs pid index bytes)) → (places : Places) (k : ClusterNo) → lives_in places k ≡ true
-    → (w : What) → is_built w ≡ true → goes_to (route places w) k ≡ false → P w
-by_unheard P mail page cut fetch come places k lives (Mail at letter) built away = mail at letter
-by_unheard P mail page cut fetch come places k lives (Page pid at index bytes) built away = page pid at index bytes
-by_unheard P mail page cut fetch come places k lives (Sync pid small read took) built away = cut pid small read took
-by_unheard P mail page cut fetch come places k lives (Fetch pid index) built away = fetch pid index
-by_unheard P mail page cut fetch come places k lives (PageIs pid index bytes) built away = come pid index bytes
-by_unheard P mail page cut fetch come places k lives (Return j) built away = absurd (true≢false (sym built))
-by_unheard P mail page cut fetch come places k lives (Rebackup to fresh recs) built away = absurd (true≢false (sym built))
-by_unheard P mail page cut fetch come places k lives _ built away = absurd (true≢false (sym (all_hear places k lives) ∙ away))
+    → (w : What) → goes_to (route places w) k ≡ false → P w
+by_unheard P mail page cut fetch come places k lives (Mail at letter) away = mail at letter
+by_unheard P mail page cut fetch come places k lives (Page pid at index bytes) away = page pid at index bytes
+by_unheard P mail page cut fetch come places k lives (Sync pid small read took) away = cut pid small read took
+by_unheard P mail page cut fetch come places k lives (Fetch pid index) away = fetch pid index
+by_unheard P mail page cut fetch come places k lives (PageIs pid index bytes) away = come pid index bytes
+by_unheard P mail page cut fetch come places k lives (Return j) away = absurd (true≢false (sym (other_bit k.0 j.0 (to_all places).clusters (all_hear places k lives)) ∙ away))
+by_unheard P mail page cut fetch come places k lives _ away = absurd (true≢false (sym (all_hear places k lives) ∙ away))
 
 -- ---- who is at home, and whose backup is here
 
