@@ -3,3 +3,4 @@ pub mod Fields
 pub mod Blocks
 pub mod Guesses
 pub mod Said
+pub mod AsmLines

@@ -33,8 +33,8 @@ pub fn block_behind(text: &[u8], count: u64) -> Option<Block>
     around
 }
 
-// The block that is open behind the line with this number.
-fn with_line(around: Option<Block>, number: u64, line: &[u8]) -> Option<Block>
+/// The block that is open behind the line with this number.
+pub fn with_line(around: Option<Block>, number: u64, line: &[u8]) -> Option<Block>
     ensures { result ≡ with_line_of around number line.now }
 {
     match around {
@@ -43,8 +43,8 @@ fn with_line(around: Option<Block>, number: u64, line: &[u8]) -> Option<Block>
     }
 }
 
-// The block that such a line opens.
-fn opened(number: u64, kind: Option<Kind>) -> Option<Block>
+/// The block that such a line opens.
+pub fn opened(number: u64, kind: Option<Kind>) -> Option<Block>
     ensures { result ≡ opened_by number kind }
 {
     match kind {
