@@ -191,11 +191,19 @@ static OPTIONS: [(&[u8], Read); 101] = [
     (b"load 5 -- 6", Read::Usage),
 ];
 
+// No words are one, too.
+fn asks_for_help(line: &[u8]) -> bool {
+    line.is_empty()
+        || line == b"help".as_slice()
+        || line == b"--help".as_slice()
+        || line == b"-h".as_slice()
+}
+
 // A word is noted exactly where the words are no command that is built, but for no words and the wish for help.
 fn assert_noted(alloc: Global, line: &[u8], read: Read, script: &[ScriptWord]) -> Result<(), Fail> {
     let words = words(alloc, line)?;
     let is_built = match read {
-        Read::Usage => line.is_empty() || line == b"help" || line == b"--help" || line == b"-h",
+        Read::Usage => asks_for_help(line),
         Read::Load(_, true) => true,
         _ => !script
             .iter()
