@@ -9,6 +9,9 @@ import runs
 KEPT = 4096
 # The kinds of losses by `sim` that name what the run without them comes to, so that a cluster has to be lost.
 REACHED = ("place", "step", "disk call")
+# What the program notes of a run beside its report: a word that it did not come to, and a process that ended by a trap.
+UNREACHED = re.compile(rb"t32: (?:crash|disk):[0-9@a-z:]+ was not reached; [a-z ]+: \d+\n")
+TRAP = re.compile(rb"t32: pid \d+: trap \d+ at pc 0x[0-9a-f]+(?:, line \d+ of the text)?\n")
 
 
 @dataclass(frozen=True)
@@ -92,6 +95,16 @@ def wrong_losses(report: runs.Report, script: Sequence[str]) -> str:
     return ""
 
 
+def wrong_notes(said: bytes, report: runs.Report, script: Sequence[str]) -> str:
+    """What is said of a run beside its notes, or that a word by which a cluster was lost is noted as not reached, or nothing."""
+    unreached, others = UNREACHED.findall(said), TRAP.sub(b"", UNREACHED.sub(b"", said))
+    if others:
+        return f"it said on standard error: {others.decode(errors='replace').strip()}"
+    if len(unreached) + len(report.losses) > len(script):
+        return f"it lost {len(report.losses)} clusters, and noted {len(unreached)} of {len(script)} words as not reached"
+    return ""
+
+
 def judged(setting: Setting, loss: Loss) -> Outcome:
     """Runs one loss, and asks `plain` about it."""
     answer = setting.run(*loss.words)
@@ -113,10 +126,10 @@ def judged(setting: Setting, loss: Loss) -> Outcome:
         outcome.why = f"`plain` prints other terminals or processes by the printed schedule, {first_difference(plain.output, report.front)}"
     elif report.lost != (answer.status == 7):
         outcome.why = f"it ended with status {answer.status}, and a line says {'lost' if report.lost else 'nothing of lost'}"
-    elif answer.said and answer.status == 0:
-        outcome.why = f"it said on standard error: {answer.said.decode(errors='replace').strip()}"
     else:
         outcome.why = wrong_losses(report, loss.script())
+    if not outcome.why and answer.status == 0:
+        outcome.why = wrong_notes(answer.said, report, loss.script())
     if not outcome.why and not report.losses and loss.kind in REACHED:
         outcome.why = "no cluster was lost, and without the word the run comes to that place, step or call"
     if setting.base is not None:

@@ -6,4 +6,4 @@ mod options;
 mod script;
 
 pub use command::{Command, command_of};
-pub use script::allowed;
+pub use script::{allowed, script_word};

@@ -1,11 +1,12 @@
 -- Why the program ended as it did, and what is said of it.
-use Rattle.std.specs.Prelude.{ℕ, ◌≡◌, ◌⊎◌, ◌==◌, List, [], ◌∷◌, ◌++◌, codes, if◌then◌else◌, Option, Some, None}
+use Rattle.std.specs.Prelude.{ℕ, ◌≡◌, ◌⊎◌, ◌==◌, ◌+◌, List, [], ◌∷◌, ◌++◌, length, codes, if◌then◌else◌, Option, Some, None}
+use Rattle.std.specs.List.{slice_get}
 use Rattle.std.specs.Fmt.{decimal}
 use Rattle.refusal_text.specs.declared.why.Why.{Why}
 use Rattle.refusal_text.specs.declared.why.Why.TheVariants as whys
 use Rattle.refusal_text.specs.declared.why.ItemFault.{ItemFault}
 use Rattle.refusal_text.specs.declared.why.ItemFault.TheVariants.{Unreadable, Inapplicable}
-use Rattle.refusal_text.specs.Lines.{line_at, item_at}
+use Rattle.refusal_text.specs.Lines.{line_at, item_at, begins_well}
 use Rattle.refusal_text.specs.Block.{inner_rule}
 use Rattle.refusal_text.specs.Shown.{shown_where}
 use Rattle.refusal_text.specs.Texts.{system_rule_text, asm_rule_text}
@@ -27,11 +28,20 @@ asm_why lines line rule = whys.AsmLine line rule (shown_where (line_at lines lin
 abbrev pub item_why : List (List ℕ) → (index : ℕ) → ItemFault → Why
 item_why section index fault = whys.Item index fault (shown_where (item_at section index))
 
+-- of the line that begins a schedule section behind these lines of a system text
+abbrev pub schedule_line_why : (lines section : List (List ℕ)) → Why
+schedule_line_why lines section = whys.ScheduleLine (length lines + 1) (shown_where (slice_get section 0))
+
+-- of a schedule section that cannot be read, where its item with this index is named: that line where it is malformed, or that item
+abbrev pub unreadable_why : (lines section : List (List ℕ)) → (index : ℕ) → Why
+unreadable_why lines section index = if begins_well section then item_why section index Unreadable else schedule_line_why lines section
+
 -- the same without what has to be made anew
 abbrev pub shortened : Why → Why
 shortened (whys.SystemLine line rule inner shown) = whys.SystemLine line rule None None
 shortened (whys.AsmLine line rule shown) = whys.AsmLine line rule None
 shortened (whys.Item index fault shown) = whys.Item index fault None
+shortened (whys.ScheduleLine line shown) = whys.ScheduleLine line None
 shortened why = why
 
 -- all that is to be said; or less, where memory was refused
@@ -61,6 +71,7 @@ headline whys.NoCluster = codes "t32: a word names a cluster that the system doe
 headline (whys.SystemLine line rule inner shown) = codes "t32: a line of the system text breaks a rule\n"
 headline (whys.AsmLine line rule shown) = codes "t32: a line of the assembler text breaks a rule\n"
 headline (whys.Item index fault shown) = codes "t32: an item of the schedule is refused\n"
+headline (whys.ScheduleLine line shown) = codes "t32: the line that begins the schedule is malformed\n"
 headline whys.ReadFault = codes "t32: standard input could not be read\n"
 headline whys.WriteFault = codes "t32: standard output could not be written\n"
 headline whys.NoMemory = codes "t32: memory was refused\n"
@@ -88,9 +99,13 @@ asm_head line rule = codes "t32: line " ++ (decimal line ++ (codes " of the asse
 abbrev pub item_head : (index : ℕ) → ItemFault → List ℕ
 item_head index fault = codes "t32: item " ++ (decimal index ++ (codes " of the schedule cannot be " ++ (fault_text fault ++ 10 ∷ [])))
 
+abbrev pub schedule_head : (line : ℕ) → List ℕ
+schedule_head line = codes "t32: line " ++ (decimal line ++ codes " begins the schedule, and has to be: schedule N, with N below 4294967296\n")
+
 -- what is said
 abbrev pub text_of : Why → List ℕ
 text_of (whys.SystemLine line rule inner shown) = (system_head line rule ++ inner_text inner) ++ line_text line shown
 text_of (whys.AsmLine line rule shown) = asm_head line rule ++ line_text line shown
 text_of (whys.Item index fault shown) = item_head index fault ++ line_text index shown
+text_of (whys.ScheduleLine line shown) = schedule_head line ++ line_text line shown
 text_of why = headline why

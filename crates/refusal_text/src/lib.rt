@@ -2,7 +2,7 @@
 #![tactic(auto)]
 
 mod block;
-mod lines;
-mod shown;
+pub mod lines;
+pub mod shown;
 mod texts;
 pub mod why;

@@ -20,7 +20,8 @@ pub fn shown_where(alloc: Global, line: Option<&[u8]>) -> Result<Option<Text>, N
     }
 }
 
-fn shown(alloc: Global, line: &[u8]) -> Result<Text, NoMemory>
+/// A line as it is shown.
+pub fn shown(alloc: Global, line: &[u8]) -> Result<Text, NoMemory>
     ensures { IfOk result (λ text. text ≡ shown_of line.now) }
 {
     let mut text = Bytes::from_vec(front(alloc, line)?);

@@ -1,10 +1,10 @@
 //! Why the program ended as it did, and what is said of it.
 ghost use Rattle.std.specs.Prelude.{◌≡◌, ◌++◌, IfOk, OnOk, Some};
 ghost use Rattle.text_parts.specs.Lines.{lines_of};
-ghost use Rattle.refusal_text.specs.Why.{asm_head as asm_head_of, asm_why as asm_why_of, fault_text, headline as headline_of, inner_of as inner_of_line, inner_text as inner_text_of, item_head as item_head_of, item_why as item_why_of, line_text as line_text_of, Says, system_head as system_head_of, system_why as system_why_of, text_of, why_of as why_of_status};
+ghost use Rattle.refusal_text.specs.Why.{asm_head as asm_head_of, asm_why as asm_why_of, fault_text, headline as headline_of, inner_of as inner_of_line, inner_text as inner_text_of, item_head as item_head_of, item_why as item_why_of, line_text as line_text_of, Says, schedule_head as schedule_head_of, schedule_line_why as schedule_line_why_of, system_head as system_head_of, system_why as system_why_of, text_of, unreadable_why as unreadable_why_of, why_of as why_of_status};
 
 use crate::block::inner_rule;
-use crate::lines::{item_line, line_after};
+use crate::lines::{begins_well, item_line, line_after, line_behind};
 use crate::shown::shown_where;
 use crate::texts::{asm_rule_text, system_rule_text};
 use std::alloc::Global;
@@ -45,6 +45,11 @@ pub enum Why {
     Item {
         index: u64,
         fault: ItemFault,
+        shown: Option<Text>,
+    },
+    /// The line that begins a schedule is malformed.
+    ScheduleLine {
+        line: u64,
         shown: Option<Text>,
     },
     /// The input could not be read.
@@ -135,6 +140,31 @@ pub fn item_why(alloc: Global, section: &[u8], index: u64, fault: ItemFault) -> 
     }
 }
 
+/// Why a schedule section behind a system text cannot be read, where its item with this index is named: its first line is
+/// malformed, or that item. Where memory is refused, less is said.
+pub fn unreadable_why(alloc: Global, text: &[u8], section: &[u8], index: u64) -> Why
+    ensures { Says (unreadable_why_of (lines_of text.now) (lines_of section.now) index) result }
+{
+    if begins_well(section) {
+        item_why(alloc, section, index, ItemFault::Unreadable)
+    } else {
+        schedule_line_why(alloc, text, section)
+    }
+}
+
+fn schedule_line_why(alloc: Global, text: &[u8], section: &[u8]) -> Why
+    ensures { Says (schedule_line_why_of (lines_of text.now) (lines_of section.now)) result }
+{
+    let shown = match shown_where(alloc, line_after(section, 0)) {
+        Ok(shown) => shown,
+        Err(NoMemory) => None,
+    };
+    Why::ScheduleLine {
+        line: line_behind(text),
+        shown,
+    }
+}
+
 impl Why {
     /// What is said, whole lines.
     pub fn text(&self, alloc: Global) -> Result<Text, NoMemory>
@@ -153,6 +183,7 @@ impl Why {
                 fault,
                 shown,
             } => item_said(alloc, *index, *fault, shown),
+            Why::ScheduleLine { line, shown } => schedule_said(alloc, *line, shown),
             why => Bytes::copy_of(alloc, why.headline().as_bytes()),
         }
     }
@@ -171,6 +202,7 @@ impl Why {
             Why::SystemLine { .. } => "t32: a line of the system text breaks a rule\n",
             Why::AsmLine { .. } => "t32: a line of the assembler text breaks a rule\n",
             Why::Item { .. } => "t32: an item of the schedule is refused\n",
+            Why::ScheduleLine { .. } => "t32: the line that begins the schedule is malformed\n",
             Why::ReadFault => "t32: standard input could not be read\n",
             Why::WriteFault => "t32: standard output could not be written\n",
             Why::NoMemory => "t32: memory was refused\n",
@@ -213,6 +245,23 @@ fn item_said(
     let mut text = item_head(alloc, index, fault)?;
     put_line(alloc, &mut text, index, shown)?;
     Ok(text)
+}
+
+fn schedule_said(alloc: Global, line: u64, shown: &Option<Text>) -> Result<Text, NoMemory>
+    ensures { IfOk result (λ text. text ≡ schedule_head_of line ++ line_text_of line shown.now) }
+{
+    let mut text = schedule_head(alloc, line)?;
+    put_line(alloc, &mut text, line, shown)?;
+    Ok(text)
+}
+
+fn schedule_head(alloc: Global, line: u64) -> Result<Text, NoMemory>
+    ensures { IfOk result (λ text. text ≡ schedule_head_of line) }
+{
+    let head = format!(in alloc;
+        "t32: line {line} begins the schedule, and has to be: schedule N, with N below 4294967296\n"
+    )?;
+    Bytes::copy_of(alloc, head.as_bytes())
 }
 
 fn system_head(alloc: Global, line: u64, rule: u8) -> Result<Text, NoMemory>

@@ -17,6 +17,8 @@ use Rattle.targon_cli.specs.Answer.{In, Out, Takes, Says, Wrote, WriteFault}
 use Rattle.targon_cli.specs.Reply.{IsRead}
 use Rattle.targon_cli.specs.Sections.{items_of_lines}
 use Rattle.targon_cli.specs.Explained.{Explains, ExplainsRun, ExplainsSection, ExplainsRunBy, IsByStatus, HandsWhy, ExplainsEnd, ByInput, ByStatus, ExplainsFound, Explained}
+use Rattle.std.specs.Arc.{arc_value}
+use Rattle.targon_cli.specs.Noted.{HandsNotes, MayNoteRun, Noted, NotedEnd, NotedFound, Notes, NotesRun, NotesRunBy, NotesSection, NotesSystem}
 use Rattle.targon_cli.specs.Built.{built_command_of}
 
 -- the status of what is said tells why, where the wanted one does
@@ -73,6 +75,51 @@ nothing_to_explain (Ok system) script lines shared status why is e n = rw is.2 (
 nothing_to_explain (Err refused) script lines shared status why is e n = absurd is
 
 -- a section that has lines is explained
-pub section_explains : (system : System) (lines : List (List ℕ)) (status : ℕ) (why : Option Why) → (lines ≡ [] → ⊥) → ExplainsSection system lines (items_of_lines lines) status why → ExplainsRunBy system lines status why
-section_explains system [] status why n e = absurd (n refl)
-section_explains system (line ∷ lines) status why n e = e
+pub section_explains : (system : System) (before lines : List (List ℕ)) (status : ℕ) (why : Option Why) → (lines ≡ [] → ⊥) → ExplainsSection system before lines (items_of_lines lines) status why
+    → ExplainsRunBy system before lines status why
+section_explains system before [] status why n e = absurd (n refl)
+section_explains system before (line ∷ lines) status why n e = e
+
+-- ---- what is noted
+
+-- of what was made of the whole input, and handed out
+pub noted_by : (command : Command) (bytes : List ℕ) (made : Result (Reply × Option Ran) NoMemory) (ran : Option Ran) (old new : In) (ended : Bool) (notes : Option (List ℕ))
+    → Takes command old new ended bytes → IfOk made (λ (r : Reply × Option Ran). Notes command bytes r.1 (r.0).notes) → HandsNotes made ran notes → NotedEnd command old new ended ran notes
+noted_by command bytes (Ok r) ran old new ended notes reads noted (same, inl whole) =
+    let P : Option Ran → Type 0 = λ o. Notes command bytes o (r.0).notes in
+    let Q : Option (List ℕ) → Type 0 = λ n. Notes command bytes ran n in
+    inl (bytes, reads, subst Q (sym whole) (subst P (sym same) noted))
+noted_by command bytes (Ok r) ran old new ended notes reads noted (same, inr none) = inr none
+noted_by command bytes (Err e) ran old new ended notes reads noted none = inr none
+
+pub noted_same : (command other : Command) (old new : In) (ended : Bool) (ran : Option Ran) (notes : Option (List ℕ)) → command ≡ other → NotedEnd command old new ended ran notes → NotedEnd other old new ended ran notes
+noted_same command other old new ended ran notes same noted = subst (λ (c : Command). NotedEnd c old new ended ran notes) same noted
+
+pub noted_found : (words : List (List ℕ)) (found : Option Command) (old new : In) (ended : Bool) (ran : Option Ran) (notes : Option (List ℕ)) → found ≡ built_command_of words
+    → NotedFound words found old new ended ran notes → Noted words old new ended ran notes
+noted_found words found old new ended ran notes is noted = subst (λ (o : Option Command). NotedFound words o old new ended ran notes) is noted
+
+-- nothing is noted, whatever the words are
+pub none_noted : (words : List (List ℕ)) (old new : In) (ended : Bool) (ran : Option Ran) (notes : Option (List ℕ)) → notes ≡ None → Noted words old new ended ran notes
+none_noted words old new ended ran notes none = by_found (built_command_of words)
+  where
+    by_found : (found : Option Command) → NotedFound words found old new ended ran notes
+    by_found None = inr none
+    by_found (Some command) = inr none
+
+-- of a system that was read and run
+pub run_noted : (reading : Answer) (script : List ScriptWord) (lines : List (List ℕ)) (shared : Arc System Global) (ran : Ran) (notes : Option (List ℕ)) → IsRead reading script (AsSystem shared)
+    → MayNoteRun lines (arc_value shared) script ran.run notes → NotesRun reading script lines (Some ran) notes
+run_noted (Ok system) script lines shared ran notes is noted = subst (λ (s : System). MayNoteRun lines s script ran.run notes) is.0 noted
+run_noted (Err refused) script lines shared ran notes is noted = absurd is
+
+-- of one that was not
+pub unread_noted : (reading : Answer) (script : List ScriptWord) (lines : List (List ℕ)) (notes : Option (List ℕ)) → NotesSystem reading lines notes → NotesRun reading script lines None notes
+unread_noted (Ok system) script lines notes noted = noted
+unread_noted (Err refused) script lines notes noted = noted
+
+-- a section that has lines is noted
+pub section_noted : (lines : List (List ℕ)) (system : System) (section : List (List ℕ)) (notes : Option (List ℕ)) → (section ≡ [] → ⊥) → NotesSection lines system (items_of_lines section) notes
+    → NotesRunBy lines system section notes
+section_noted lines system [] notes n e = absurd (n refl)
+section_noted lines system (line ∷ rest) notes n e = e

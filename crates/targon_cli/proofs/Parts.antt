@@ -1,5 +1,6 @@
 -- The parts of an input.
-use Rattle.std.proofs.Common.{◌≡◌, ℕ, ◌≤◌, ◌<◌, Bool, true, false, List, [], ◌∷◌, length, refl, ap, arith}
+use Rattle.std.proofs.Common.{◌≡◌, ℕ, ◌≤◌, ◌<◌, Bool, true, false, List, [], ◌∷◌, length, refl, sym, ◌∙◌, true≢false, ap, arith}
+use Rattle.std.specs.Prelude.{◌==◌}
 use Rattle.std.specs.List.{onto_first}
 use Rattle.text_parts.specs.Lines.{lines_of, is_newline}
 use Rattle.sys_text.specs.declared.system.System.{System}
@@ -14,6 +15,11 @@ before_within (line ∷ lines) = by_line (before_within lines) (begins_section l
     by_line : lines_before_section lines ≤ length lines → (b : Bool) → begins_section line ≡ b → lines_before_section (line ∷ lines) ≤ length (line ∷ lines)
     by_line h true e = rw e (omega arith)
     by_line h false e = rw e (omega (arith, h))
+
+-- bytes that are not found empty are some
+pub some_of : (bytes : List ℕ) (b : Bool) → b ≡ (length bytes == 0) → b ≡ false → 0 < length bytes
+some_of [] b e f = absurd (true≢false (sym e ∙ f))
+some_of (x ∷ xs) b e f = omega arith
 
 onto_some : (b : ℕ) (lines : List (List ℕ)) → onto_first b lines ≡ [] → ⊥
 onto_some b [] e = omega (arith, ap length e)

@@ -15,6 +15,7 @@ use Rattle.cluster_run.specs.declared.life.Ran.{Ran}
 use Rattle.refusal_text.specs.declared.why.Why.{Why}
 use Rattle.workload.specs.Ring.{workload}
 use Rattle.targon_cli.specs.Built.{makes_run, needs_threads, reads_input}
+use Rattle.targon_cli.specs.Noted.{Notes, NotesRan}
 use Rattle.targon_cli.specs.Explained.{Explains, ExplainsLoad}
 use Rattle.t32_base.specs.declared.streams.NoMemory.{NoMemory}
 use Rattle.targon_cli.specs.declared.reply.Reply.{Reply}
@@ -186,3 +187,13 @@ pub loads_explain : (command : Command) (size : ℕ) (script : List ScriptWord) 
     → IfOk made (λ (r : Reply × Option Ran). Explains command bytes (r.0).status (r.0).why)
 loads_explain command size script bytes (Ok r) same m = load_explains command size false script bytes (r.0).status (r.0).why same m
 loads_explain command size script bytes (Err e) same m = tt
+
+pub load_noted : (command : Command) (size : ℕ) (only : Bool) (script : List ScriptWord) (bytes : List ℕ) (ran : Option Ran) (notes : Option (List ℕ)) → command ≡ commands.Load size only script
+    → ((system : System) → system ≡ workload size → NotesRan [] system script ran notes) → Notes command bytes ran notes
+load_noted command size only script bytes ran notes same m = subst (λ (c : Command). Notes c bytes ran notes) (sym same) (m (workload size) refl)
+
+pub loads_noted : (command : Command) (size : ℕ) (script : List ScriptWord) (bytes : List ℕ) (made : Result (Reply × Option Ran) NoMemory) → command ≡ commands.Load size false script
+    → IfOk made (λ (r : Reply × Option Ran). (system : System) → system ≡ workload size → NotesRan [] system script r.1 (r.0).notes)
+    → IfOk made (λ (r : Reply × Option Ran). Notes command bytes r.1 (r.0).notes)
+loads_noted command size script bytes (Ok r) same m = load_noted command size false script bytes r.1 (r.0).notes same m
+loads_noted command size script bytes (Err e) same m = tt

@@ -6,8 +6,8 @@ use Rattle.plain_kernel.specs.Answers.{BadAt}
 use Rattle.plain_kernel.specs.Apply.{plain_run}
 use Rattle.plain_kernel.specs.Kernel.{Kernel}
 use Rattle.plain_kernel.specs.declared.item.Item.{Item}
-use Rattle.refusal_text.specs.Why.{Says, system_why, asm_why, item_why, why_of, text_of, headline}
-use Rattle.refusal_text.specs.declared.why.ItemFault.TheVariants.{Unreadable, Inapplicable}
+use Rattle.refusal_text.specs.Why.{Says, system_why, asm_why, item_why, unreadable_why, why_of, text_of, headline}
+use Rattle.refusal_text.specs.declared.why.ItemFault.TheVariants.{Inapplicable}
 use Rattle.refusal_text.specs.declared.why.Why.{Why}
 use Rattle.refusal_text.specs.declared.why.Why.TheVariants as whys
 use Rattle.rv_asm.specs.Program.{reading_of as asm_reading}
@@ -63,18 +63,18 @@ pub data ExplainsItems (system : System) (section : List (List ℕ)) (items : Li
   AllApplied : (kernel : Kernel) → plain_run system items ≡ Some kernel → status ≡ 0 → why ≡ None → ExplainsItems system section items status why
   OneRefused : (index : ℕ) → BadAt system items index → status ≡ 3 → SaysSome (item_why section index Inapplicable) why → ExplainsItems system section items status why
 
--- they are read and applied, or the first that cannot be read is told
-abbrev pub ExplainsSection : System → (section : List (List ℕ)) → Result (List Item) ℕ → (status : ℕ) → Option Why → Type 0
-ExplainsSection system section (Ok items) status why = ExplainsItems system section items status why
-ExplainsSection system section (Err index) status why = (status ≡ 3) × SaysSome (item_why section index Unreadable) why
+-- they are read and applied, or the first that cannot be read is told, or that the section begins wrongly behind these lines
+abbrev pub ExplainsSection : System → (lines section : List (List ℕ)) → Result (List Item) ℕ → (status : ℕ) → Option Why → Type 0
+ExplainsSection system lines section (Ok items) status why = ExplainsItems system section items status why
+ExplainsSection system lines section (Err index) status why = (status ≡ 3) × SaysSome (unreadable_why lines section index) why
 
 -- a system runs by a section; without one nothing is refused
-abbrev pub ExplainsRunBy : System → (section : List (List ℕ)) → (status : ℕ) → Option Why → Type 0
-ExplainsRunBy system [] status why = (status ≡ 0) × (why ≡ None)
-ExplainsRunBy system (line ∷ lines) status why = ExplainsSection system (line ∷ lines) (items_of_lines (line ∷ lines)) status why
+abbrev pub ExplainsRunBy : System → (lines section : List (List ℕ)) → (status : ℕ) → Option Why → Type 0
+ExplainsRunBy system lines [] status why = (status ≡ 0) × (why ≡ None)
+ExplainsRunBy system lines (line ∷ rest) status why = ExplainsSection system lines (line ∷ rest) (items_of_lines (line ∷ rest)) status why
 
 abbrev pub ExplainsPlain : Answer → (lines section : List (List ℕ)) → (status : ℕ) → Option Why → Type 0
-ExplainsPlain (Ok system) lines section status why = ExplainsRunBy system section status why
+ExplainsPlain (Ok system) lines section status why = ExplainsRunBy system lines section status why
 ExplainsPlain (Err refused) lines section status why = (status ≡ 2) × SaysSome (system_why lines refused.0 (system_rule refused.1)) why
 
 -- a workload is printed or run, or it is told that it lacks a cluster of the script

@@ -4,6 +4,7 @@
 mod built;
 mod input;
 mod load;
+mod notes;
 pub mod output;
 mod reply;
 mod runs;

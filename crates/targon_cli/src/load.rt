@@ -1,5 +1,5 @@
 //! What `load` makes of its size: the text of its workload, or the run of it.
-ghost use Rattle.std.specs.Prelude.{◌≡◌, IfOk, None, false, true};
+ghost use Rattle.std.specs.Prelude.{◌≡◌, IfOk, [], None, false, true};
 ghost use Rattle.cert_sched.specs.Built.{MayStand};
 ghost use Rattle.cert_sched.specs.Legal.{IsLegalBy};
 ghost use Rattle.cert_sched.specs.Schedule.{schedule_of};
@@ -7,12 +7,14 @@ ghost use Rattle.sys_text.specs.declared.system.System.{System as ASystem};
 ghost use Rattle.sys_text.specs.Valid.{is_system};
 ghost use Rattle.targon_cli.specs.Built.{is_built_script};
 ghost use Rattle.targon_cli.specs.Explained.{ExplainsLoad};
+ghost use Rattle.targon_cli.specs.Noted.{MayNoteRun, NotesRan};
 ghost use Rattle.targon_cli.specs.Reply.{IsTextOf, MakesLoad, load_text};
 ghost use Rattle.workload.specs.Ring.{is_size, workload as workload_of};
 
+use crate::notes::run_notes;
 use crate::reply::{DONE, Reply, no_cluster};
 use crate::runs::{Read, with_clusters};
-use cert_sched::script::Script;
+use cert_sched::script::{Script, ScriptWord};
 use cluster_run::life::Ran;
 use cluster_run::running::run;
 use command_words::allowed;
@@ -32,6 +34,7 @@ pub fn print_load(alloc: Global, size: u32, script: &Script) -> Result<Reply, No
     requires { is_size size ≡ true }
     ensures makes { IfOk result (λ r. (system : ASystem) → system ≡ workload_of size → MakesLoad true size system script.now r.status r.text None) }
     ensures why { IfOk result (λ r. (system : ASystem) → system ≡ workload_of size → ExplainsLoad system script.now r.status r.why) }
+    ensures notes { IfOk result (λ r. r.notes ≡ None) }
 {
     let system = workload(alloc, size)?;
     if allowed(script, system.clusters, system.pager) {
@@ -40,6 +43,7 @@ pub fn print_load(alloc: Global, size: u32, script: &Script) -> Result<Reply, No
             status: DONE,
             text,
             why: None,
+            notes: None,
         });
     }
     no_cluster(alloc)
@@ -58,6 +62,7 @@ pub fn run_load<R: Threads + Wait + Sync, G: Gate + Sync>(
     requires built { is_built_script script.now ≡ true }
     ensures makes { IfOk result (λ r. (system : ASystem) → system ≡ workload_of size → MakesLoad false size system script.now r.0.status r.0.text r.1) }
     ensures why { IfOk result (λ r. (system : ASystem) → system ≡ workload_of size → ExplainsLoad system script.now r.0.status r.0.why) }
+    ensures notes { IfOk result (λ r. (system : ASystem) → system ≡ workload_of size → NotesRan [] system script.now r.1 r.0.notes) }
 {
     let ring = workload(alloc, size)?;
     run_ring(rt, alloc, ring, size, script, gate)
@@ -76,11 +81,12 @@ fn run_ring<R: Threads + Wait + Sync, G: Gate + Sync>(
     requires built { is_built_script script.now ≡ true }
     ensures makes { IfOk result (λ r. MakesLoad false size ring script.now r.0.status r.0.text r.1) }
     ensures why { IfOk result (λ r. ExplainsLoad ring script.now r.0.status r.0.why) }
+    ensures notes { IfOk result (λ r. NotesRan [] ring script.now r.1 r.0.notes) }
 {
     match with_clusters(alloc, ring, script)? {
         Read::System(system) => {
             let ran = run(rt, alloc, &system, script.as_slice(), gate)?;
-            let reply = tell(alloc, &system, &ran.run, size)?;
+            let reply = tell(alloc, &system, script.as_slice(), &ran.run, size)?;
             Ok((reply, Some(ran)))
         }
         Read::Refused(reply) => Ok((reply, None)),
@@ -88,17 +94,25 @@ fn run_ring<R: Threads + Wait + Sync, G: Gate + Sync>(
 }
 
 // The reply that tells of the run of a workload.
-fn tell(alloc: Global, system: &System, run: &Run, size: u32) -> Result<Reply, NoMemory>
+fn tell(
+    alloc: Global,
+    system: &System,
+    script: &[ScriptWord],
+    run: &Run,
+    size: u32,
+) -> Result<Reply, NoMemory>
     requires valid { is_system system.now ≡ true }
     requires legal { IsLegalBy MayStand system.now run.now.log }
     requires items { run.now.items ≡ schedule_of system.now run.now.log }
     ensures done { IfOk result (λ r. (r.status ≡ 0) × (r.why ≡ None)) }
     ensures text { IfOk result (λ r. IsTextOf system.now (load_text size) run.now r.text) }
+    ensures notes { IfOk result (λ r. MayNoteRun [] system.now script.now run.now r.notes) }
 {
     let text = load_report(alloc, system, run, size)?;
     Ok(Reply {
         status: DONE,
         text,
         why: None,
+        notes: run_notes(alloc, b"", system, script, run),
     })
 }

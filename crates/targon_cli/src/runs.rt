@@ -9,10 +9,12 @@ ghost use Rattle.sys_text.specs.Valid.{is_system};
 ghost use Rattle.text_parts.specs.Lines.{lines_of};
 ghost use Rattle.targon_cli.specs.Built.{is_built_script};
 ghost use Rattle.targon_cli.specs.Explained.{ExplainsRead, ExplainsRun};
+ghost use Rattle.targon_cli.specs.Noted.{MayNoteRun, NotesRead, NotesRun};
 ghost use Rattle.targon_cli.specs.Reply.{IsRead, IsTextOf, MakesRun, run_text as run_text_of};
 
+use crate::notes::run_notes;
 use crate::reply::{DONE, Reply, no_cluster, refused_system};
-use cert_sched::script::Script;
+use cert_sched::script::{Script, ScriptWord};
 use cluster_run::life::Ran;
 use cluster_run::running::run;
 use cluster_run::sim::sim;
@@ -41,11 +43,12 @@ pub fn simulate(
     requires built { is_built_script script.now ≡ true }
     ensures makes { IfOk result (λ r. MakesRun (system_reading bytes.now) script.now (run_text_of log) r.0.status r.0.text r.1) }
     ensures why { IfOk result (λ r. ExplainsRun (system_reading bytes.now) script.now (lines_of bytes.now) r.0.status r.0.why) }
+    ensures notes { IfOk result (λ r. NotesRun (system_reading bytes.now) script.now (lines_of bytes.now) r.1 r.0.notes) }
 {
     match system_in(alloc, bytes, script)? {
         Read::System(system) => {
             let ran = sim(alloc, &system, script.as_slice(), pick)?;
-            let reply = tell(alloc, &system, &ran.run, log)?;
+            let reply = tell(alloc, bytes, &system, script.as_slice(), &ran.run, log)?;
             Ok((reply, Some(ran)))
         }
         Read::Refused(reply) => Ok((reply, None)),
@@ -65,11 +68,12 @@ pub fn run_threads<R: Threads + Wait + Sync, G: Gate + Sync>(
     requires { is_built_script script.now ≡ true }
     ensures makes { IfOk result (λ r. MakesRun (system_reading bytes.now) script.now (run_text_of log) r.0.status r.0.text r.1) }
     ensures why { IfOk result (λ r. ExplainsRun (system_reading bytes.now) script.now (lines_of bytes.now) r.0.status r.0.why) }
+    ensures notes { IfOk result (λ r. NotesRun (system_reading bytes.now) script.now (lines_of bytes.now) r.1 r.0.notes) }
 {
     match system_in(alloc, bytes, script)? {
         Read::System(system) => {
             let ran = run(rt, alloc, &system, script.as_slice(), gate)?;
-            let reply = tell(alloc, &system, &ran.run, log)?;
+            let reply = tell(alloc, bytes, &system, script.as_slice(), &ran.run, log)?;
             Ok((reply, Some(ran)))
         }
         Read::Refused(reply) => Ok((reply, None)),
@@ -87,6 +91,7 @@ pub enum Read {
 fn system_in(alloc: Global, bytes: &[u8], script: &Script) -> Result<Read, NoMemory>
     ensures read { IfOk result (IsRead (system_reading bytes.now) script.now) }
     ensures why { IfOk result (ExplainsRead (system_reading bytes.now) script.now (lines_of bytes.now)) }
+    ensures notes { IfOk result (NotesRead (system_reading bytes.now) (lines_of bytes.now)) }
 {
     match read_system(alloc, bytes) {
         Ok(system) => with_clusters(alloc, system, script),
@@ -102,6 +107,7 @@ pub fn with_clusters(alloc: Global, system: System, script: &Script) -> Result<R
     requires { is_system system ≡ true }
     ensures read { IfOk result (IsRead (Ok system) script.now) }
     ensures why { IfOk result (λ r. (lines : List (List ℕ)) → ExplainsRead (Ok system) script.now lines r) }
+    ensures notes { IfOk result (λ r. (lines : List (List ℕ)) → NotesRead (Ok system) lines r) }
 {
     if allowed(script, system.clusters, system.pager) {
         Ok(Read::System(Arc::new(alloc, system)?))
@@ -110,20 +116,29 @@ pub fn with_clusters(alloc: Global, system: System, script: &Script) -> Result<R
     }
 }
 
-// The reply that tells of a run that came to its end.
-fn tell(alloc: Global, system: &System, run: &Run, log: bool) -> Result<Reply, NoMemory>
+// The reply that tells of a run that came to its end, of the system of a text.
+fn tell(
+    alloc: Global,
+    bytes: &[u8],
+    system: &System,
+    script: &[ScriptWord],
+    run: &Run,
+    log: bool,
+) -> Result<Reply, NoMemory>
     requires valid { is_system system.now ≡ true }
     requires legal { IsLegalBy MayStand system.now run.now.log }
     requires items { run.now.items ≡ schedule_of system.now run.now.log }
     requires finished { is_finished run.now.log ≡ true }
     ensures done { IfOk result (λ r. (r.status ≡ 0) × (r.why ≡ None)) }
     ensures text { IfOk result (λ r. IsTextOf system.now (run_text_of log) run.now r.text) }
+    ensures notes { IfOk result (λ r. MayNoteRun (lines_of bytes.now) system.now script.now run.now r.notes) }
 {
     let text = run_text(alloc, system, run, log)?;
     Ok(Reply {
         status: DONE,
         text,
         why: None,
+        notes: run_notes(alloc, bytes, system, script, run),
     })
 }
 

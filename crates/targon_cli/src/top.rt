@@ -1,8 +1,9 @@
 //! The top call: what the program does with its words, its input and its output.
-ghost use Rattle.std.specs.Prelude.{Bool, ◌≡◌, ◌==◌, None, Option, Some, false, if◌then◌else◌, true, IfErr, IfOk, OnOk, is_some};
-ghost use Rattle.targon_cli.specs.Answer.{In, Says, AnswersFound, Answers, Answered, HandsOut, IsUnread, ReadsAll, Takes};
+ghost use Rattle.std.specs.Prelude.{ℕ, List, Bool, ◌≡◌, ◌==◌, None, Option, Some, false, if◌then◌else◌, true, IfErr, IfOk, OnOk, is_some};
+ghost use Rattle.targon_cli.specs.Answer.{In, Out, Says, AnswersFound, Answers, Answered, HandsOut, IsUnread, ReadsAll, Takes};
 ghost use Rattle.targon_cli.specs.Built.{built_command_of, is_built, is_built_script, is_ready, keeps_limits, needs_threads as needs_threads_of, reads_input as reads_input_of};
 ghost use Rattle.targon_cli.specs.Explained.{Explained, ExplainsEnd, ExplainsFound, HandsWhy, IsByStatus, TellsWhy};
+ghost use Rattle.targon_cli.specs.Noted.{HandsNotes, MayNote, Noted, NotedEnd, TellsNotes};
 ghost use Rattle.targon_cli.specs.Reply.{usage_line};
 ghost use Rattle.workload.specs.Ring.{is_size};
 ghost use Rattle.refusal_text.specs.Why.{why_of as why_of_status};
@@ -12,6 +13,7 @@ ghost use Rattle.command_words.specs.declared.command.Command.{Command as AComma
 use crate::built::built_command;
 use crate::input::{Input, read_input};
 use crate::load::run_load;
+use crate::notes::word_notes;
 use crate::output::say;
 use crate::reply::{Reply, USAGE, carry_out};
 use crate::runs::run_threads;
@@ -82,13 +84,46 @@ pub fn targon_explained<R: Threads + Wait + Sync, S: Source, K: Sink, G: Gate + 
         (record { left = S.left input.old; faults = S.fault_count input.old })
         (record { left = S.left input.new; faults = S.fault_count input.new }) (S.ended input.new) why.new }
 {
+    let mut notes = None;
+    targon_noted(rt, alloc, words, input, output, gate, ran, why, &mut notes)
+}
+
+// The same, and `notes` is afterwards what is noted for a person beside that: nothing where memory was refused or the output failed.
+fn targon_noted<R: Threads + Wait + Sync, S: Source, K: Sink, G: Gate + Sync>(
+    rt: &R,
+    alloc: Global,
+    words: &[Text],
+    input: &mut S,
+    output: &mut K,
+    gate: &G,
+    ran: &mut Option<Ran>,
+    why: &mut Option<Why>,
+    notes: &mut Option<Text>,
+) -> u8
+    requires { ran.old ≡ None }
+    ensures answered { Answered words.now result
+        (record { left = S.left input.old; faults = S.fault_count input.old })
+        (record { left = S.left input.new; faults = S.fault_count input.new }) (S.ended input.new)
+        (record { holds = K.holds output.old; faults = K.fault_count output.old })
+        (record { holds = K.holds output.new; faults = K.fault_count output.new }) ran.new }
+    ensures explained { Explained words.now result
+        (record { left = S.left input.old; faults = S.fault_count input.old })
+        (record { left = S.left input.new; faults = S.fault_count input.new }) (S.ended input.new) why.new }
+    ensures noted { Noted words.now
+        (record { left = S.left input.old; faults = S.fault_count input.old })
+        (record { left = S.left input.new; faults = S.fault_count input.new }) (S.ended input.new) ran.new notes.new }
+{
     let Ok(command) = built_command(alloc, words) else {
         *why = why_of(NO_MEMORY);
+        *notes = None;
         return NO_MEMORY;
     };
     match command {
-        Some(command) => answer_any(rt, alloc, command, input, output, gate, ran, why),
-        None => usage(output, why),
+        Some(command) => answer_any(rt, alloc, command, input, output, gate, ran, why, notes),
+        None => {
+            *notes = word_notes(alloc, words);
+            usage(output, why)
+        }
     }
 }
 
@@ -116,8 +151,8 @@ pub fn targon_alone<S: Source, K: Sink>(
     answer_alone(alloc, command, input, output, ran, &mut why)
 }
 
-/// The same as `targon`, and what there is to say of the end is written to `errors`. Whatever becomes of that
-/// changes neither the status nor the output.
+/// The same as `targon`, and what there is to say of the end is written to `errors`: why it is not 0, and what is noted for a
+/// person. Whatever becomes of that changes neither the status nor the output.
 pub fn targon_told<R: Threads + Wait + Sync, S: Source, K: Sink, E: Sink, G: Gate + Sync>(
     rt: &R,
     alloc: Global,
@@ -134,15 +169,22 @@ pub fn targon_told<R: Threads + Wait + Sync, S: Source, K: Sink, E: Sink, G: Gat
         (record { left = S.left input.new; faults = S.fault_count input.new }) (S.ended input.new)
         (record { holds = K.holds output.old; faults = K.fault_count output.old })
         (record { holds = K.holds output.new; faults = K.fault_count output.new }) ran.new }
-    ensures told { (why : Option AWhy) × Explained words.now result
+    ensures told { (why : Option AWhy) × (notes : Option (List ℕ)) × (middle : Out) × Explained words.now result
         (record { left = S.left input.old; faults = S.fault_count input.old })
         (record { left = S.left input.new; faults = S.fault_count input.new }) (S.ended input.new) why
-        × TellsWhy why (record { holds = E.holds errors.old; faults = E.fault_count errors.old })
-        (record { holds = E.holds errors.new; faults = E.fault_count errors.new }) }
+        × Noted words.now
+        (record { left = S.left input.old; faults = S.fault_count input.old })
+        (record { left = S.left input.new; faults = S.fault_count input.new }) (S.ended input.new) ran.new notes
+        × TellsWhy why (record { holds = E.holds errors.old; faults = E.fault_count errors.old }) middle
+        × TellsNotes notes middle (record { holds = E.holds errors.new; faults = E.fault_count errors.new }) }
 {
     let mut why = None;
-    let status = targon_explained(rt, alloc, words, input, output, gate, ran, &mut why);
+    let mut notes = None;
+    let status = targon_noted(
+        rt, alloc, words, input, output, gate, ran, &mut why, &mut notes,
+    );
     tell_why(alloc, &why, errors);
+    tell_notes(&notes, errors);
     status
 }
 
@@ -167,8 +209,9 @@ fn answer_alone<S: Source, K: Sink>(
         (record { left = S.left input.old; faults = S.fault_count input.old })
         (record { left = S.left input.new; faults = S.fault_count input.new }) (S.ended input.new) why.new }
 {
+    let mut notes = None;
     match command {
-        Some(command) => answer(alloc, command, input, output, ran, why),
+        Some(command) => answer(alloc, command, input, output, ran, why, &mut notes),
         None => usage(output, why),
     }
 }
@@ -181,6 +224,7 @@ fn answer<S: Source, K: Sink>(
     output: &mut K,
     ran: &mut Option<Ran>,
     why: &mut Option<Why>,
+    notes: &mut Option<Text>,
 ) -> u8
     requires limits { keeps_limits command ≡ true }
     requires built { is_built command ≡ true }
@@ -194,14 +238,18 @@ fn answer<S: Source, K: Sink>(
     ensures explained { ExplainsEnd command result
         (record { left = S.left input.old; faults = S.fault_count input.old })
         (record { left = S.left input.new; faults = S.fault_count input.new }) (S.ended input.new) why.new }
+    ensures noted { NotedEnd command
+        (record { left = S.left input.old; faults = S.fault_count input.old })
+        (record { left = S.left input.new; faults = S.fault_count input.new }) (S.ended input.new) ran.new notes.new }
 {
     match read_needed(alloc, &command, input, output) {
         Ok(bytes) => {
             let made = carry_out(alloc, command, bytes.as_slice());
-            hand_out(made, output, ran, why)
+            hand_out(made, output, ran, why, notes)
         }
         Err(status) => {
             *why = why_of(status);
+            *notes = None;
             status
         }
     }
@@ -217,6 +265,7 @@ fn answer_any<R: Threads + Wait + Sync, S: Source, K: Sink, G: Gate + Sync>(
     gate: &G,
     ran: &mut Option<Ran>,
     why: &mut Option<Why>,
+    notes: &mut Option<Text>,
 ) -> u8
     requires ready { is_ready (Some command) ≡ true }
     requires unran { ran.old ≡ None }
@@ -228,11 +277,14 @@ fn answer_any<R: Threads + Wait + Sync, S: Source, K: Sink, G: Gate + Sync>(
     ensures explained { ExplainsEnd command result
         (record { left = S.left input.old; faults = S.fault_count input.old })
         (record { left = S.left input.new; faults = S.fault_count input.new }) (S.ended input.new) why.new }
+    ensures noted { NotedEnd command
+        (record { left = S.left input.old; faults = S.fault_count input.old })
+        (record { left = S.left input.new; faults = S.fault_count input.new }) (S.ended input.new) ran.new notes.new }
 {
     if needs_threads(&command) {
-        answer_by_threads(rt, alloc, command, input, output, gate, ran, why)
+        answer_by_threads(rt, alloc, command, input, output, gate, ran, why, notes)
     } else {
-        answer(alloc, command, input, output, ran, why)
+        answer(alloc, command, input, output, ran, why, notes)
     }
 }
 
@@ -257,6 +309,7 @@ fn answer_by_threads<R: Threads + Wait + Sync, S: Source, K: Sink, G: Gate + Syn
     gate: &G,
     ran: &mut Option<Ran>,
     why: &mut Option<Why>,
+    notes: &mut Option<Text>,
 ) -> u8
     requires ready { is_ready (Some command) ≡ true }
     requires threads { needs_threads_of (Some command) ≡ true }
@@ -269,13 +322,18 @@ fn answer_by_threads<R: Threads + Wait + Sync, S: Source, K: Sink, G: Gate + Syn
     ensures explained { ExplainsEnd command result
         (record { left = S.left input.old; faults = S.fault_count input.old })
         (record { left = S.left input.new; faults = S.fault_count input.new }) (S.ended input.new) why.new }
+    ensures noted { NotedEnd command
+        (record { left = S.left input.old; faults = S.fault_count input.old })
+        (record { left = S.left input.new; faults = S.fault_count input.new }) (S.ended input.new) ran.new notes.new }
 {
     match command {
         Command::Run { log, script } => {
-            answer_run(rt, alloc, log, &script, input, output, gate, ran, why)
+            answer_run(
+                rt, alloc, log, &script, input, output, gate, ran, why, notes,
+            )
         }
         Command::Load { size, script, .. } => {
-            answer_load(rt, alloc, size, &script, output, gate, ran, why)
+            answer_load(rt, alloc, size, &script, output, gate, ran, why, notes)
         }
         Command::Plain | Command::Check | Command::Asm | Command::Sim { .. } => unreachable!(),
     }
@@ -304,6 +362,7 @@ fn answer_run<R: Threads + Wait + Sync, S: Source, K: Sink, G: Gate + Sync>(
     gate: &G,
     ran: &mut Option<Ran>,
     why: &mut Option<Why>,
+    notes: &mut Option<Text>,
 ) -> u8
     requires built { is_built_script script.now ≡ true }
     requires unran { ran.old ≡ None }
@@ -315,14 +374,18 @@ fn answer_run<R: Threads + Wait + Sync, S: Source, K: Sink, G: Gate + Sync>(
     ensures explained { ExplainsEnd (ACommand.Run log script.now) result
         (record { left = S.left input.old; faults = S.fault_count input.old })
         (record { left = S.left input.new; faults = S.fault_count input.new }) (S.ended input.new) why.new }
+    ensures noted { NotedEnd (ACommand.Run log script.now)
+        (record { left = S.left input.old; faults = S.fault_count input.old })
+        (record { left = S.left input.new; faults = S.fault_count input.new }) (S.ended input.new) ran.new notes.new }
 {
     match read_whole(alloc, input, output) {
         Ok(bytes) => {
             let made = run_threads(rt, alloc, bytes.as_slice(), log, script, gate);
-            hand_out(made, output, ran, why)
+            hand_out(made, output, ran, why, notes)
         }
         Err(status) => {
             *why = why_of(status);
+            *notes = None;
             status
         }
     }
@@ -338,6 +401,7 @@ fn answer_load<R: Threads + Wait + Sync, K: Sink, G: Gate + Sync>(
     gate: &G,
     ran: &mut Option<Ran>,
     why: &mut Option<Why>,
+    notes: &mut Option<Text>,
 ) -> u8
     requires size { is_size size ≡ true }
     requires built { is_built_script script.now ≡ true }
@@ -346,9 +410,10 @@ fn answer_load<R: Threads + Wait + Sync, K: Sink, G: Gate + Sync>(
         (record { holds = K.holds output.old; faults = K.fault_count output.old })
         (record { holds = K.holds output.new; faults = K.fault_count output.new }) ran.new }
     ensures explained { (command : ACommand) → command ≡ ACommand.Load size false script.now → (input : In) (ended : Bool) → ExplainsEnd command result input input ended why.new }
+    ensures noted { (command : ACommand) → command ≡ ACommand.Load size false script.now → (input : In) (ended : Bool) → NotedEnd command input input ended ran.new notes.new }
 {
     let made = run_load(rt, alloc, size, script, gate);
-    hand_out(made, output, ran, why)
+    hand_out(made, output, ran, why, notes)
 }
 
 // The input that a command reads, all of it, and for `load` nothing; or the status with which the program ends
@@ -410,22 +475,26 @@ fn hand_out<K: Sink>(
     output: &mut K,
     ran: &mut Option<Ran>,
     why: &mut Option<Why>,
+    notes: &mut Option<Text>,
 ) -> u8
     requires { ran.old ≡ None }
     ensures made { HandsOut made result
         (record { holds = K.holds output.old; faults = K.fault_count output.old })
         (record { holds = K.holds output.new; faults = K.fault_count output.new }) ran.new }
     ensures why { HandsWhy made result why.new }
+    ensures notes { HandsNotes made ran.new notes.new }
 {
     match made {
         Ok((reply, made)) => {
             *ran = made;
             let status = say(output, reply.text.as_slice(), reply.status);
             *why = why_ended(status, reply.status, reply.why);
+            *notes = notes_ended(status, reply.status, reply.notes);
             status
         }
         Err(NoMemory) => {
             *why = why_of(NO_MEMORY);
+            *notes = None;
             NO_MEMORY
         }
     }
@@ -439,6 +508,23 @@ fn why_ended(status: u8, wanted: u8, why: Option<Why>) -> Option<Why>
         why
     } else {
         why_of(status)
+    }
+}
+
+// What is noted, where the status is the wanted one.
+fn notes_ended(status: u8, wanted: u8, notes: Option<Text>) -> Option<Text>
+    ensures { MayNote notes result }
+{
+    if status == wanted { notes } else { None }
+}
+
+// Writes what is noted.
+fn tell_notes<E: Sink>(notes: &Option<Text>, errors: &mut E)
+    ensures { TellsNotes notes.now (record { holds = E.holds errors.old; faults = E.fault_count errors.old })
+        (record { holds = E.holds errors.new; faults = E.fault_count errors.new }) }
+{
+    if let Some(notes) = notes {
+        let _status = say(errors, notes.as_slice(), 0);
     }
 }
 

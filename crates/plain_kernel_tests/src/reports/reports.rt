@@ -56,7 +56,7 @@ fn log_of_hi(alloc: Global) -> Result<List<Entry>, NoMemory> {
     Ok(log)
 }
 
-fn run_of(
+pub fn run_of(
     alloc: Global,
     log: List<Entry>,
     items: &[Item],
@@ -105,7 +105,7 @@ fn a_run_is_printed_with_its_log(rt: HostRuntime) -> Result<(), Fail> {
 }
 
 // The log of two losses, and a return between them.
-fn log_of_losses(alloc: Global) -> Result<List<Entry>, NoMemory> {
+pub fn log_of_losses(alloc: Global) -> Result<List<Entry>, NoMemory> {
     let mut losses = List::new(alloc);
     let k = ClusterNo(0);
     let cause = Cause::Place;

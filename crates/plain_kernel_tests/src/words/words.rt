@@ -7,6 +7,7 @@ use t32_base::lists::{Bytes, Text};
 use t32_base::process::ClusterNo;
 use t32_base::streams::NoMemory;
 use test_asserts::same;
+use word_faults::fault::fault_of;
 
 // A command, as the rows below write it; `Usage` is none.
 #[derive(Clone, Copy, PartialEq, Eq, Debug)]
@@ -26,7 +27,7 @@ fn push_word(alloc: Global, words: &mut Vec<Text>, word: &[u8]) -> Result<(), No
 }
 
 // The words of a line, which single spaces part. An empty line has none.
-fn words(alloc: Global, line: &[u8]) -> Result<Vec<Text>, NoMemory> {
+pub fn words(alloc: Global, line: &[u8]) -> Result<Vec<Text>, NoMemory> {
     let mut words = Vec::new(alloc);
     if line.is_empty() {
         return Ok(words);
@@ -189,6 +190,42 @@ static OPTIONS: [(&[u8], Read); 101] = [
     (b"load -- 5", Read::Usage),
     (b"load 5 -- 6", Read::Usage),
 ];
+
+// No words are one, too.
+fn asks_for_help(line: &[u8]) -> bool {
+    line.is_empty()
+        || line == b"help".as_slice()
+        || line == b"--help".as_slice()
+        || line == b"-h".as_slice()
+}
+
+// A word is noted exactly where the words are no command that is built, but for no words and the wish for help.
+fn assert_noted(alloc: Global, line: &[u8], read: Read, script: &[ScriptWord]) -> Result<(), Fail> {
+    let words = words(alloc, line)?;
+    let is_built = match read {
+        Read::Usage => asks_for_help(line),
+        Read::Load(_, true) => true,
+        _ => !script
+            .iter()
+            .any(|word| matches!(word, ScriptWord::ReturnAt { .. })),
+    };
+    same(
+        "a note",
+        &(line, fault_of(&words).is_none()),
+        &(line, is_built),
+    )
+}
+
+#[test]
+fn a_word_is_noted_where_they_are_no_command(rt: HostRuntime) -> Result<(), Fail> {
+    for row in OPTIONS.iter() {
+        assert_noted(rt.alloc(), row.0, row.1, &[])?;
+    }
+    for row in SCRIPTS.iter() {
+        assert_noted(rt.alloc(), row.0, row.1, row.2)?;
+    }
+    Ok(())
+}
 
 #[test]
 fn commands_and_options_are_read(rt: HostRuntime) -> Result<(), Fail> {

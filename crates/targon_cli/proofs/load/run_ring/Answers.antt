@@ -4,8 +4,9 @@ use Rattle.std.specs.Arc.{arc_value}
 use Rattle.cert_sched.specs.declared.script.ScriptWord.{ScriptWord}
 use Rattle.cluster_run.specs.Completed.{IsCompleted}
 use Rattle.sys_text.specs.declared.system.System.{System}
+use Rattle.targon_cli.specs.Noted.{MayNoteRun}
 use Rattle.targon_cli.specs.Reply.{IsTextOf, load_text}
-use Rattle.targon_cli.proofs.Endings.{nothing_to_explain}
+use Rattle.targon_cli.proofs.Endings.{nothing_to_explain, run_noted}
 use Rattle.targon_cli.proofs.OneWord.{built_spread}
 use Rattle.targon_cli.proofs.Tales.{ran_makes, read_valid}
 use Rattle.targon_cli.proofs.load.run_ring.Goals as goal
@@ -36,3 +37,14 @@ returns-in_ok-reply-in-System-clause-why g c =
 
 pub returns-in-Refused-clause-why : goal.returns-in-Refused-clause-why
 returns-in-Refused-clause-why g c = rw c.in-Refused.is at c.in_ok-system.ensures.why []
+
+pub returns-in_ok-reply-in-System-clause-notes : goal.returns-in_ok-reply-in-System-clause-notes
+returns-in_ok-reply-in-System-clause-notes g c =
+    let ran = c.in_ok-ran-in-System.ran in
+    let reply = c.in_ok-reply-in-System.reply in
+    run_noted (Ok c.args.ring) c.args.script.now [] c.in-System.system ran reply.notes (rw c.in-System.is at c.in_ok-system.ensures.read)
+    (subst (λ (s : System). MayNoteRun [] s c.args.script.now ran.run reply.notes) c.deref.ensures
+    (subst (λ (words : List ScriptWord). MayNoteRun [] c.deref.result.now words ran.run reply.notes) c.as_slice-in-System.ensures c.in_ok-reply-in-System.ensures.notes))
+
+pub returns-in-Refused-clause-notes : goal.returns-in-Refused-clause-notes
+returns-in-Refused-clause-notes g c = rw c.in-Refused.is at c.in_ok-system.ensures.notes []

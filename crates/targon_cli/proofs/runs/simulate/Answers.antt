@@ -5,8 +5,9 @@ use Rattle.cluster_run.specs.Completed.{IsCompleted}
 use Rattle.sys_text.specs.Reading.{reading_of}
 use Rattle.sys_text.specs.declared.system.System.{System}
 use Rattle.text_parts.specs.Lines.{lines_of}
+use Rattle.targon_cli.specs.Noted.{MayNoteRun}
 use Rattle.targon_cli.specs.Reply.{IsTextOf, run_text}
-use Rattle.targon_cli.proofs.Endings.{nothing_to_explain}
+use Rattle.targon_cli.proofs.Endings.{nothing_to_explain, run_noted, unread_noted}
 use Rattle.targon_cli.proofs.OneWord.{built_spread}
 use Rattle.targon_cli.proofs.Tales.{read_valid, ran_makes}
 use Rattle.targon_cli.proofs.runs.simulate.Goals as goal
@@ -34,3 +35,14 @@ pub returns-in_ok-reply-in-System-clause-why : goal.returns-in_ok-reply-in-Syste
 returns-in_ok-reply-in-System-clause-why c =
     let done = c.in_ok-reply-in-System.ensures.done in
     nothing_to_explain (reading_of c.args.bytes.now) c.args.script.now (lines_of c.args.bytes.now) c.in-System.system _ _ (rw c.in-System.is at c.in_ok-system.ensures.read) done.0 done.1
+
+pub returns-in_ok-reply-in-System-clause-notes : goal.returns-in_ok-reply-in-System-clause-notes
+returns-in_ok-reply-in-System-clause-notes c =
+    let ran = c.in_ok-ran-in-System.ran in
+    let reply = c.in_ok-reply-in-System.reply in
+    run_noted (reading_of c.args.bytes.now) c.args.script.now (lines_of c.args.bytes.now) c.in-System.system ran reply.notes (rw c.in-System.is at c.in_ok-system.ensures.read)
+    (subst (λ (s : System). MayNoteRun (lines_of c.args.bytes.now) s c.args.script.now ran.run reply.notes) c.deref.ensures
+    (subst (λ (words : List ScriptWord). MayNoteRun (lines_of c.args.bytes.now) c.deref.result.now words ran.run reply.notes) c.as_slice-in-System.ensures c.in_ok-reply-in-System.ensures.notes))
+
+pub returns-in-Refused-clause-notes : goal.returns-in-Refused-clause-notes
+returns-in-Refused-clause-notes c = unread_noted (reading_of c.args.bytes.now) c.args.script.now (lines_of c.args.bytes.now) c.in-Refused.reply.notes (rw c.in-Refused.is at c.in_ok-system.ensures.notes)

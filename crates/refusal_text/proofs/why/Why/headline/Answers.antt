@@ -18,6 +18,9 @@ returns-in-AsmLine c = ap headline (sym c.in-AsmLine.is)
 pub returns-in-Item : goal.returns-in-Item
 returns-in-Item c = ap headline (sym c.in-Item.is)
 
+pub returns-in-ScheduleLine : goal.returns-in-ScheduleLine
+returns-in-ScheduleLine c = ap headline (sym c.in-ScheduleLine.is)
+
 pub returns-in-ReadFault : goal.returns-in-ReadFault
 returns-in-ReadFault c = ap headline (sym c.in-ReadFault.is)
 

@@ -1,0 +1,91 @@
+-- The lines of a system text by their first fields, and what the fields behind these are.
+use Rattle.std.specs.Prelude.{ℕ, ◌-◌, ◌==◌, Bool, true, false, List, [], ◌∷◌, codes, Option, Some, None, if◌then◌else◌}
+use Rattle.hints.specs.declared.kinds.Kind.{Kind}
+use Rattle.hints.specs.declared.kinds.Kind.TheVariants as kinds
+use Rattle.hints.specs.declared.kinds.Field.{Field}
+use Rattle.hints.specs.declared.kinds.Field.TheVariants as fields
+use Rattle.hints.specs.declared.kinds.Wanted.{Wanted}
+use Rattle.hints.specs.declared.kinds.Wanted.TheVariants as wants
+
+abbrev pub kinds_by_name : List (List ℕ × Kind)
+kinds_by_name =
+    (codes "clusters", kinds.Clusters) ∷ (codes "pager", kinds.Pager) ∷ (codes "syncreads", kinds.Syncreads) ∷ (codes "syncsteps", kinds.Syncsteps)
+    ∷ (codes "image", kinds.Image) ∷ (codes "asm", kinds.Asm) ∷ (codes "words", kinds.Words) ∷ (codes "end", kinds.End)
+    ∷ (codes "root", kinds.Root) ∷ (codes "chan", kinds.Chan) ∷ []
+
+-- such a line stands outside blocks alone
+abbrev pub is_outside : Kind → Bool
+is_outside kinds.Words = false
+is_outside kinds.End = false
+is_outside _ = true
+
+abbrev pub first_or_second : (index : ℕ) → (first second : Option Field) → Option Field
+first_or_second index first second = if index == 0 then first else if index == 1 then second else None
+
+-- `root HOME BACKUP MODE NAME LIMIT BIRTHS TTY`
+abbrev pub root_field : (index : ℕ) → Option Field
+root_field index =
+    if index == 0 then Some fields.Home
+    else if index == 1 then Some fields.Backup
+    else if index == 2 then Some fields.Mode
+    else if index == 3 then Some fields.Name
+    else if index == 4 then Some fields.Limit
+    else if index == 5 then Some fields.Births
+    else if index == 6 then Some fields.Tty
+    else None
+
+-- the field after so many others behind the first
+abbrev pub field_at : Kind → (index : ℕ) → Option Field
+field_at kinds.Clusters index = first_or_second index (Some fields.Clusters) None
+field_at kinds.Pager index = first_or_second index (Some fields.First) (Some fields.Second)
+field_at kinds.Syncreads index = first_or_second index (Some fields.Reads) None
+field_at kinds.Syncsteps index = first_or_second index (Some fields.Steps) None
+field_at kinds.Image index = first_or_second index (Some fields.Name) (Some fields.Pages)
+field_at kinds.Asm index = first_or_second index (Some fields.Name) (Some fields.Pages)
+field_at kinds.Words index = Some fields.Word
+field_at kinds.End index = None
+field_at kinds.Root index = root_field index
+field_at kinds.Chan index = first_or_second index (Some fields.RootA) (Some fields.RootB)
+
+abbrev pub name_of : Field → List ℕ
+name_of fields.Clusters = codes "N"
+name_of fields.First = codes "A"
+name_of fields.Second = codes "B"
+name_of fields.Reads = codes "N"
+name_of fields.Steps = codes "N"
+name_of fields.Name = codes "NAME"
+name_of fields.Pages = codes "PAGES"
+name_of fields.Word = codes "W"
+name_of fields.Home = codes "HOME"
+name_of fields.Backup = codes "BACKUP"
+name_of fields.Mode = codes "MODE"
+name_of fields.Limit = codes "LIMIT"
+name_of fields.Births = codes "BIRTHS"
+name_of fields.Tty = codes "TTY"
+name_of fields.RootA = codes "A"
+name_of fields.RootB = codes "B"
+
+abbrev pub wanted : Field → Wanted
+wanted fields.Name = wants.Name
+wanted fields.Word = wants.Word
+wanted fields.Mode = wants.Mode
+wanted _ = wants.Number
+
+-- the limits of a number, where there are so many clusters
+abbrev pub limits : (clusters : ℕ) → Field → Option (ℕ × ℕ)
+limits clusters fields.Clusters = Some (2, 16)
+limits clusters fields.First = Some (0, clusters - 1)
+limits clusters fields.Second = Some (0, clusters - 1)
+limits clusters fields.Reads = Some (1, 1000)
+limits clusters fields.Steps = Some (64, 100000)
+limits clusters fields.Name = None
+limits clusters fields.Pages = Some (1, 256)
+limits clusters fields.Word = None
+limits clusters fields.Home = Some (0, clusters - 1)
+limits clusters fields.Backup = Some (0, clusters - 1)
+limits clusters fields.Mode = None
+limits clusters fields.Limit = Some (1, 100000)
+limits clusters fields.Births = Some (0, 31)
+limits clusters fields.Tty = Some (0, 15)
+limits clusters fields.RootA = None
+limits clusters fields.RootB = None

@@ -1,0 +1,175 @@
+//! The lines of a system text by their first fields, and what the fields behind these are.
+ghost use Rattle.std.specs.Prelude.{◌≡◌, if◌then◌else◌, ◌==◌, None, Some};
+ghost use Rattle.text_parts.specs.Table.{lookup as lookup_in};
+ghost use Rattle.hints.specs.Kinds.{field_at as field_of_kind, first_or_second as first_or_second_of, is_outside as stands_outside, kinds_by_name, limits as limits_of, name_of, root_field as root_field_at, wanted as wanted_of};
+
+use text_parts::lookup;
+
+/// What the first field of a line says.
+#[derive(Clone, Copy, PartialEq, Eq, Debug)]
+pub enum Kind {
+    Clusters,
+    Pager,
+    Syncreads,
+    Syncsteps,
+    Image,
+    Asm,
+    Words,
+    End,
+    Root,
+    Chan,
+}
+
+const KINDS: [(&[u8], Kind); 10] = [
+    (b"clusters", Kind::Clusters),
+    (b"pager", Kind::Pager),
+    (b"syncreads", Kind::Syncreads),
+    (b"syncsteps", Kind::Syncsteps),
+    (b"image", Kind::Image),
+    (b"asm", Kind::Asm),
+    (b"words", Kind::Words),
+    (b"end", Kind::End),
+    (b"root", Kind::Root),
+    (b"chan", Kind::Chan),
+];
+
+/// A field behind the first, by the name that the formats give it.
+#[derive(Clone, Copy, PartialEq, Eq, Debug)]
+pub enum Field {
+    Clusters,
+    First,
+    Second,
+    Reads,
+    Steps,
+    Name,
+    Pages,
+    Word,
+    Home,
+    Backup,
+    Mode,
+    Limit,
+    Births,
+    Tty,
+    RootA,
+    RootB,
+}
+
+/// What a field has to be: a number, a name, a word or a mode.
+#[derive(Clone, Copy, PartialEq, Eq, Debug)]
+pub enum Wanted {
+    Number,
+    Name,
+    Word,
+    Mode,
+}
+
+/// What this first field says.
+pub fn kind_named(field: &[u8]) -> Option<Kind>
+    ensures { result ≡ lookup_in kinds_by_name field.now }
+{
+    lookup(&KINDS, field)
+}
+
+impl Kind {
+    /// Does such a line stand outside blocks alone?
+    pub fn is_outside(self) -> bool
+        ensures { result ≡ stands_outside self }
+    {
+        !matches!(self, Kind::Words | Kind::End)
+    }
+
+    /// The field after so many others behind the first.
+    pub fn field_at(self, index: u64) -> Option<Field>
+        ensures { result ≡ field_of_kind self index }
+    {
+        match self {
+            Kind::Clusters => first_or_second(index, Some(Field::Clusters), None),
+            Kind::Pager => first_or_second(index, Some(Field::First), Some(Field::Second)),
+            Kind::Syncreads => first_or_second(index, Some(Field::Reads), None),
+            Kind::Syncsteps => first_or_second(index, Some(Field::Steps), None),
+            Kind::Image | Kind::Asm => {
+                first_or_second(index, Some(Field::Name), Some(Field::Pages))
+            }
+            Kind::Words => Some(Field::Word),
+            Kind::End => None,
+            Kind::Root => root_field(index),
+            Kind::Chan => first_or_second(index, Some(Field::RootA), Some(Field::RootB)),
+        }
+    }
+}
+
+fn first_or_second(index: u64, first: Option<Field>, second: Option<Field>) -> Option<Field>
+    ensures { result ≡ first_or_second_of index first second }
+{
+    match index {
+        0 => first,
+        1 => second,
+        _ => None,
+    }
+}
+
+fn root_field(index: u64) -> Option<Field>
+    ensures { result ≡ root_field_at index }
+{
+    match index {
+        0 => Some(Field::Home),
+        1 => Some(Field::Backup),
+        2 => Some(Field::Mode),
+        3 => Some(Field::Name),
+        4 => Some(Field::Limit),
+        5 => Some(Field::Births),
+        6 => Some(Field::Tty),
+        _ => None,
+    }
+}
+
+impl Field {
+    pub fn name(self) -> &'static str
+        ensures { result.now ≡ name_of self }
+    {
+        match self {
+            Field::Clusters | Field::Reads | Field::Steps => "N",
+            Field::First | Field::RootA => "A",
+            Field::Second | Field::RootB => "B",
+            Field::Name => "NAME",
+            Field::Pages => "PAGES",
+            Field::Word => "W",
+            Field::Home => "HOME",
+            Field::Backup => "BACKUP",
+            Field::Mode => "MODE",
+            Field::Limit => "LIMIT",
+            Field::Births => "BIRTHS",
+            Field::Tty => "TTY",
+        }
+    }
+
+    pub fn wanted(self) -> Wanted
+        ensures { result ≡ wanted_of self }
+    {
+        match self {
+            Field::Name => Wanted::Name,
+            Field::Word => Wanted::Word,
+            Field::Mode => Wanted::Mode,
+            _ => Wanted::Number,
+        }
+    }
+
+    /// The limits of a number, where there are so many clusters; `None` where it has none.
+    pub fn limits(self, clusters: u64) -> Option<(u64, u64)>
+        ensures { result ≡ limits_of clusters self }
+    {
+        match self {
+            Field::Clusters => Some((2, 16)),
+            Field::First | Field::Second | Field::Home | Field::Backup => {
+                Some((0, clusters.saturating_sub(1)))
+            }
+            Field::Reads => Some((1, 1000)),
+            Field::Steps => Some((64, 100_000)),
+            Field::Pages => Some((1, 256)),
+            Field::Limit => Some((1, 100_000)),
+            Field::Births => Some((0, 31)),
+            Field::Tty => Some((0, 15)),
+            Field::Name | Field::Word | Field::Mode | Field::RootA | Field::RootB => None,
+        }
+    }
+}

@@ -1,0 +1,69 @@
+//! Which word is wrong, and why. The rows are those of the formats.
+use crate::words::words::words;
+use std::alloc::Global;
+use std::test::Fail;
+use test_asserts::same;
+use word_faults::fault::word_hint;
+
+// This is noted of the words of a line; no text is nothing.
+fn assert_noted(alloc: Global, line: &[u8], wanted: &str) -> Result<(), Fail> {
+    let words = words(alloc, line)?;
+    let hint = word_hint(alloc, &words)?;
+    let shown = match &hint {
+        Some(hint) => hint.as_slice(),
+        None => b"",
+    };
+    same("what is noted", &(line, shown), &(line, wanted.as_bytes()))
+}
+
+static NOTED: [(&[u8], &str); 14] = [
+    (b"", ""),
+    (b"--help", ""),
+    (b"sim --log --pick 3 crash:1@bus:9", ""),
+    (b"load 7 --text return:0@bus:1 disk:0@1", ""),
+    (
+        b"simulate",
+        "t32: word 1: simulate: no command has this name\n",
+    ),
+    (
+        b"check --log",
+        "t32: word 2: --log: this command takes no words\n",
+    ),
+    (
+        b"run --pick=1",
+        "t32: word 2: --pick=1: this command has no such option\n",
+    ),
+    (
+        b"sim --log -- --log",
+        "t32: word 4: --log: it is none of crash:K@bus:N, crash:K@step:N, disk:K@N and return:K@bus:N, where K and N are 1 to 10 digits and N is at most 4294967295\n",
+    ),
+    (
+        b"sim --pick -- 1",
+        "t32: word 3: --: --pick takes a number, 0 to 2147483647\n",
+    ),
+    (
+        b"sim crash:0@bus:0 disk:1@0",
+        "t32: word 3: disk:1@0: a second word that loses a cluster is not built yet\n",
+    ),
+    (
+        b"run return:0@bus:1",
+        "t32: word 2: return:0@bus:1: it is read, but not built yet\n",
+    ),
+    (
+        b"load --text",
+        "t32: word 1: load: load takes its size, 1 to 1000, before any other word that is no option\n",
+    ),
+    (
+        b"load 1001",
+        "t32: word 2: 1001: the size of load is a number, 1 to 1000\n",
+    ),
+    (b"sim \xff", "t32: word 2: ?: it is no UTF-8\n"),
+];
+
+#[test]
+fn the_first_wrong_word_is_noted(rt: HostRuntime) -> Result<(), Fail> {
+    for (line, wanted) in NOTED {
+        assert_noted(rt.alloc(), line, wanted)?;
+    }
+    Ok(())
+}
