@@ -16,6 +16,7 @@ kind_of (field ∷ fields) = lookup kinds_by_name field
 -- the block that such a line opens
 abbrev pub opened : (number : ℕ) → Option Kind → Option Block
 opened number (Some kinds.Image) = Some (record { header = number; asm = false })
+opened number (Some kinds.Elf) = Some (record { header = number; asm = false })
 opened number (Some kinds.Asm) = Some (record { header = number; asm = true })
 opened number _ = None
 

@@ -10,7 +10,7 @@ use Rattle.hints.specs.declared.kinds.Wanted.TheVariants as wants
 abbrev pub kinds_by_name : List (List ℕ × Kind)
 kinds_by_name =
     (codes "clusters", kinds.Clusters) ∷ (codes "pager", kinds.Pager) ∷ (codes "syncreads", kinds.Syncreads) ∷ (codes "syncsteps", kinds.Syncsteps)
-    ∷ (codes "image", kinds.Image) ∷ (codes "asm", kinds.Asm) ∷ (codes "words", kinds.Words) ∷ (codes "end", kinds.End)
+    ∷ (codes "image", kinds.Image) ∷ (codes "asm", kinds.Asm) ∷ (codes "elf", kinds.Elf) ∷ (codes "words", kinds.Words) ∷ (codes "end", kinds.End)
     ∷ (codes "root", kinds.Root) ∷ (codes "chan", kinds.Chan) ∷ []
 
 -- such a line stands outside blocks alone
@@ -21,6 +21,10 @@ is_outside _ = true
 
 abbrev pub first_or_second : (index : ℕ) → (first second : Option Field) → Option Field
 first_or_second index first second = if index == 0 then first else if index == 1 then second else None
+
+-- NAME, PAGES, and what may stand behind these
+abbrev pub header_field : (index : ℕ) → (third : Option Field) → Option Field
+header_field index third = if index == 0 then Some fields.Name else if index == 1 then Some fields.Pages else if index == 2 then third else None
 
 -- `root HOME BACKUP MODE NAME LIMIT BIRTHS TTY`
 abbrev pub root_field : (index : ℕ) → Option Field
@@ -40,8 +44,9 @@ field_at kinds.Clusters index = first_or_second index (Some fields.Clusters) Non
 field_at kinds.Pager index = first_or_second index (Some fields.First) (Some fields.Second)
 field_at kinds.Syncreads index = first_or_second index (Some fields.Reads) None
 field_at kinds.Syncsteps index = first_or_second index (Some fields.Steps) None
-field_at kinds.Image index = first_or_second index (Some fields.Name) (Some fields.Pages)
-field_at kinds.Asm index = first_or_second index (Some fields.Name) (Some fields.Pages)
+field_at kinds.Image index = header_field index (Some fields.Entry)
+field_at kinds.Asm index = header_field index None
+field_at kinds.Elf index = header_field index (Some fields.Len)
 field_at kinds.Words index = Some fields.Word
 field_at kinds.End index = None
 field_at kinds.Root index = root_field index
@@ -55,6 +60,8 @@ name_of fields.Reads = codes "N"
 name_of fields.Steps = codes "N"
 name_of fields.Name = codes "NAME"
 name_of fields.Pages = codes "PAGES"
+name_of fields.Entry = codes "ENTRY"
+name_of fields.Len = codes "LEN"
 name_of fields.Word = codes "W"
 name_of fields.Home = codes "HOME"
 name_of fields.Backup = codes "BACKUP"
@@ -80,6 +87,8 @@ limits clusters fields.Reads = Some (1, 1000)
 limits clusters fields.Steps = Some (64, 100000)
 limits clusters fields.Name = None
 limits clusters fields.Pages = Some (1, 256)
+limits clusters fields.Entry = Some (65536, 131068)
+limits clusters fields.Len = Some (1, 65536)
 limits clusters fields.Word = None
 limits clusters fields.Home = Some (0, clusters - 1)
 limits clusters fields.Backup = Some (0, clusters - 1)

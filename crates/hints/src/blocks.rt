@@ -48,7 +48,7 @@ pub fn opened(number: u64, kind: Option<Kind>) -> Option<Block>
     ensures { result ≡ opened_by number kind }
 {
     match kind {
-        Some(Kind::Image) => Some(Block {
+        Some(Kind::Image | Kind::Elf) => Some(Block {
             header: number,
             asm: false,
         }),

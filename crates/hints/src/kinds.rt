@@ -1,7 +1,7 @@
 //! The lines of a system text by their first fields, and what the fields behind these are.
 ghost use Rattle.std.specs.Prelude.{◌≡◌, if◌then◌else◌, ◌==◌, None, Some};
 ghost use Rattle.text_parts.specs.Table.{lookup as lookup_in};
-ghost use Rattle.hints.specs.Kinds.{field_at as field_of_kind, first_or_second as first_or_second_of, is_outside as stands_outside, kinds_by_name, limits as limits_of, name_of, root_field as root_field_at, wanted as wanted_of};
+ghost use Rattle.hints.specs.Kinds.{field_at as field_of_kind, first_or_second as first_or_second_of, header_field as header_field_of, is_outside as stands_outside, kinds_by_name, limits as limits_of, name_of, root_field as root_field_at, wanted as wanted_of};
 
 use text_parts::lookup;
 
@@ -14,19 +14,21 @@ pub enum Kind {
     Syncsteps,
     Image,
     Asm,
+    Elf,
     Words,
     End,
     Root,
     Chan,
 }
 
-const KINDS: [(&[u8], Kind); 10] = [
+const KINDS: [(&[u8], Kind); 11] = [
     (b"clusters", Kind::Clusters),
     (b"pager", Kind::Pager),
     (b"syncreads", Kind::Syncreads),
     (b"syncsteps", Kind::Syncsteps),
     (b"image", Kind::Image),
     (b"asm", Kind::Asm),
+    (b"elf", Kind::Elf),
     (b"words", Kind::Words),
     (b"end", Kind::End),
     (b"root", Kind::Root),
@@ -43,6 +45,8 @@ pub enum Field {
     Steps,
     Name,
     Pages,
+    Entry,
+    Len,
     Word,
     Home,
     Backup,
@@ -87,9 +91,9 @@ impl Kind {
             Kind::Pager => first_or_second(index, Some(Field::First), Some(Field::Second)),
             Kind::Syncreads => first_or_second(index, Some(Field::Reads), None),
             Kind::Syncsteps => first_or_second(index, Some(Field::Steps), None),
-            Kind::Image | Kind::Asm => {
-                first_or_second(index, Some(Field::Name), Some(Field::Pages))
-            }
+            Kind::Image => header_field(index, Some(Field::Entry)),
+            Kind::Asm => header_field(index, None),
+            Kind::Elf => header_field(index, Some(Field::Len)),
             Kind::Words => Some(Field::Word),
             Kind::End => None,
             Kind::Root => root_field(index),
@@ -104,6 +108,18 @@ fn first_or_second(index: u64, first: Option<Field>, second: Option<Field>) -> O
     match index {
         0 => first,
         1 => second,
+        _ => None,
+    }
+}
+
+// Of a line that opens a block.
+fn header_field(index: u64, third: Option<Field>) -> Option<Field>
+    ensures { result ≡ header_field_of index third }
+{
+    match index {
+        0 => Some(Field::Name),
+        1 => Some(Field::Pages),
+        2 => third,
         _ => None,
     }
 }
@@ -133,6 +149,8 @@ impl Field {
             Field::Second | Field::RootB => "B",
             Field::Name => "NAME",
             Field::Pages => "PAGES",
+            Field::Entry => "ENTRY",
+            Field::Len => "LEN",
             Field::Word => "W",
             Field::Home => "HOME",
             Field::Backup => "BACKUP",
@@ -166,6 +184,9 @@ impl Field {
             Field::Reads => Some((1, 1000)),
             Field::Steps => Some((64, 100_000)),
             Field::Pages => Some((1, 256)),
+            // So it may be in the most pages; where it may be in fewer is not told here.
+            Field::Entry => Some((65_536, 131_068)),
+            Field::Len => Some((1, 65_536)),
             Field::Limit => Some((1, 100_000)),
             Field::Births => Some((0, 31)),
             Field::Tty => Some((0, 15)),
