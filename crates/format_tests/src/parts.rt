@@ -1,6 +1,6 @@
 //! Tests of the parts of texts, and of what is said of a line that is refused.
 #[cfg(test)]
-mod hints;
+mod noted_lines;
 #[cfg(test)]
 mod refusals;
 #[cfg(test)]
