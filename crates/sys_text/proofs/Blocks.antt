@@ -16,12 +16,15 @@ use Rattle.rv_asm.specs.Refusal.{number_of_rule as asm_number}
 use Rattle.rv_asm.specs.Answers.{Refuses as AsmRefuses}
 use Rattle.sys_text.specs.declared.refusal.SystemRefused.{SystemRefused}
 use Rattle.sys_text.specs.declared.refusal.SystemRefused.TheVariants as refusals
+use Rattle.sys_text.specs.declared.refusal.Rule.{Rule}
 use Rattle.sys_text.specs.declared.refusal.Rule.TheVariants.{Room}
 use Rattle.sys_text.specs.declared.system.Image.{Image}
 use Rattle.sys_text.specs.declared.state.State.{State}
 use Rattle.sys_text.specs.Refusal.{number_of_rule}
-use Rattle.sys_text.specs.Reading.{Answer, Place, Step, Refuses, InBlock, close_block, rule_in_block, is_end, lines_before_end, ended_in_block, reading_from, goes_on}
+use Rattle.sys_text.specs.Rules.{fit_open}
+use Rattle.sys_text.specs.Reading.{Answer, Place, Step, Goes, Refuses, InBlock, close_block, rule_in_block, is_end, lines_before_end, ended_in_block, reading_from, named, goes_on}
 use Rattle.sys_text.specs.Answers.{IsRefusal, RefusesStep, RefusesBlock, IsCounted}
+use Rattle.sys_text.proofs.LastLines.{block_named}
 
 -- ---- how many lines
 
@@ -51,27 +54,27 @@ other_first_field field (next ∷ fields) e = refl
 -- ---- the lines up to the end
 
 block_ends : (state : State) (header n : ℕ) (block : List (List ℕ)) (line : List ℕ) (lines : List (List ℕ)) → is_end (fields_of line) ≡ true
-    → reading_from (InBlock state header block) n (line ∷ lines) ≡ goes_on (close_block state header (n + 1) (reading_of_lines block)) (λ next. reading_from next (n + 1) lines)
+    → reading_from (InBlock state header block) n (line ∷ lines) ≡ goes_on (close_block state header (n + 1) (reading_of_lines block)) lines (λ next. reading_from next (n + 1) lines)
 block_ends state header n block line lines e = rw e refl
 
 block_line : (state : State) (header n : ℕ) (block : List (List ℕ)) (line : List ℕ) (lines : List (List ℕ)) → is_end (fields_of line) ≡ false → reading_from (InBlock state header block) n (line ∷ lines) ≡ reading_from (InBlock state header (block ++ line ∷ [])) (n + 1) lines
 block_line state header n block line lines e = rw e refl
 
 ends_here : (state : State) (header n m k : ℕ) (block : List (List ℕ)) (line : List ℕ) (lines : List (List ℕ)) → k ≡ 0 → m ≡ n + 1 → is_end (fields_of line) ≡ true
-    → reading_from (InBlock state header block) n (line ∷ lines) ≡ goes_on (close_block state header m (reading_of_lines (block ++ take k (line ∷ lines)))) (λ next. reading_from next m (drop 1 (drop k (line ∷ lines))))
+    → reading_from (InBlock state header block) n (line ∷ lines) ≡ goes_on (close_block state header m (reading_of_lines (block ++ take k (line ∷ lines)))) (drop 1 (drop k (line ∷ lines))) (λ next. reading_from next m (drop 1 (drop k (line ∷ lines))))
 ends_here state header n m k block line lines first at e = rw (first, at, append-nil block) (block_ends state header n block line lines e)
 
 one_line_more : (state : State) (header m k j : ℕ) (block : List (List ℕ)) (line : List ℕ) (lines : List (List ℕ)) → k ≡ suc j
-    → goes_on (close_block state header m (reading_of_lines ((block ++ line ∷ []) ++ take j lines))) (λ next. reading_from next m (drop 1 (drop j lines))) ≡ goes_on (close_block state header m (reading_of_lines (block ++ take k (line ∷ lines)))) (λ next. reading_from next m (drop 1 (drop k (line ∷ lines))))
-one_line_more state header m k j block line lines e = rw e (ap (λ b. goes_on (close_block state header m (reading_of_lines b)) (λ next. reading_from next m (drop 1 (drop j lines)))) (append_assoc block (line ∷ []) (take j lines)))
+    → goes_on (close_block state header m (reading_of_lines ((block ++ line ∷ []) ++ take j lines))) (drop 1 (drop j lines)) (λ next. reading_from next m (drop 1 (drop j lines))) ≡ goes_on (close_block state header m (reading_of_lines (block ++ take k (line ∷ lines)))) (drop 1 (drop k (line ∷ lines))) (λ next. reading_from next m (drop 1 (drop k (line ∷ lines))))
+one_line_more state header m k j block line lines e = rw e (ap (λ b. goes_on (close_block state header m (reading_of_lines b)) (drop 1 (drop j lines)) (λ next. reading_from next m (drop 1 (drop j lines)))) (append_assoc block (line ∷ []) (take j lines)))
 
 to_end : (state : State) (header n m k : ℕ) (block lines : List (List ℕ)) → lines_before_end lines ≡ Some k → m ≡ n + k + 1
-    → reading_from (InBlock state header block) n lines ≡ goes_on (close_block state header m (reading_of_lines (block ++ take k lines))) (λ next. reading_from next m (drop 1 (drop k lines)))
+    → reading_from (InBlock state header block) n lines ≡ goes_on (close_block state header m (reading_of_lines (block ++ take k lines))) (drop 1 (drop k lines)) (λ next. reading_from next m (drop 1 (drop k lines)))
 to_end state header n m k block [] e is = absurd cc
 to_end state header n m k block (line ∷ lines) e is = by_end (λ j f at. to_end state header (n + 1) m j (block ++ line ∷ []) lines f at) (is_end (fields_of line)) refl
   where
-    by_end : ((j : ℕ) → lines_before_end lines ≡ Some j → m ≡ (n + 1) + j + 1 → reading_from (InBlock state header (block ++ line ∷ [])) (n + 1) lines ≡ goes_on (close_block state header m (reading_of_lines ((block ++ line ∷ []) ++ take j lines))) (λ next. reading_from next m (drop 1 (drop j lines))))
-        → (b : Bool) → is_end (fields_of line) ≡ b → reading_from (InBlock state header block) n (line ∷ lines) ≡ goes_on (close_block state header m (reading_of_lines (block ++ take k (line ∷ lines)))) (λ next. reading_from next m (drop 1 (drop k (line ∷ lines))))
+    by_end : ((j : ℕ) → lines_before_end lines ≡ Some j → m ≡ (n + 1) + j + 1 → reading_from (InBlock state header (block ++ line ∷ [])) (n + 1) lines ≡ goes_on (close_block state header m (reading_of_lines ((block ++ line ∷ []) ++ take j lines))) (drop 1 (drop j lines)) (λ next. reading_from next m (drop 1 (drop j lines))))
+        → (b : Bool) → is_end (fields_of line) ≡ b → reading_from (InBlock state header block) n (line ∷ lines) ≡ goes_on (close_block state header m (reading_of_lines (block ++ take k (line ∷ lines)))) (drop 1 (drop k (line ∷ lines))) (λ next. reading_from next m (drop 1 (drop k (line ∷ lines))))
     by_end next true h =
         let f = rw h at e in
         let zero : k ≡ 0 = cc in
@@ -92,14 +95,14 @@ one_more_dropped (suc k) [] = refl
 one_more_dropped (suc k) (line ∷ lines) = one_more_dropped k lines
 
 pub block_read : (state : State) (header count : ℕ) (text block after : List ℕ) → lines_before_end (lines_of text) ≡ Some count → lines_of block ≡ take count (lines_of text) → lines_of after ≡ drop (count + 1) (lines_of text)
-    → reading_from (InBlock state header []) header (lines_of text) ≡ goes_on (close_block state header (header + count + 1) (reading_of_lines (lines_of block))) (λ next. reading_from next (header + count + 1) (lines_of after))
+    → reading_from (InBlock state header []) header (lines_of text) ≡ goes_on (close_block state header (header + count + 1) (reading_of_lines (lines_of block))) (lines_of after) (λ next. reading_from next (header + count + 1) (lines_of after))
 block_read state header count text block after e front left =
     let m = header + count + 1 in
     let next : suc count ≡ count + 1 = omega arith in
     let behind : drop 1 (drop count (lines_of text)) ≡ lines_of after = one_more_dropped count (lines_of text) ∙ ap (λ n. drop n (lines_of text)) next ∙ sym left in
     to_end state header header m count [] (lines_of text) e refl
-    ∙ ap (λ b. goes_on (close_block state header m (reading_of_lines b)) (λ next. reading_from next m (drop 1 (drop count (lines_of text))))) (sym front)
-    ∙ ap (λ ls. goes_on (close_block state header m (reading_of_lines (lines_of block))) (λ next. reading_from next m ls)) behind
+    ∙ ap (λ b. goes_on (close_block state header m (reading_of_lines b)) (drop 1 (drop count (lines_of text))) (λ next. reading_from next m (drop 1 (drop count (lines_of text))))) (sym front)
+    ∙ ap (λ ls. goes_on (close_block state header m (reading_of_lines (lines_of block))) ls (λ next. reading_from next m ls)) behind
 
 -- a block that does not end
 pub no_end : (state : State) (header n : ℕ) (block lines : List (List ℕ)) → lines_before_end lines ≡ None → reading_from (InBlock state header block) n lines ≡ ended_in_block header (block ++ lines)
@@ -167,6 +170,20 @@ words_too_many state header n words image is lt = rw (is, lt-leb (length words) 
 
 -- ---- the answer
 
-pub refused_read : (refused : SystemRefused) (step : Step) (rest : Place → Answer) → RefusesStep refused step → IsRefusal refused (goes_on step rest)
-refused_read (refusals.BadLine line rule) step rest r = (r.0, ap (λ (s : Step). goes_on s rest) r.1, r.2)
-refused_read refusals.NoMemory step rest r = tt
+abbrev refused_by : Rule → Step → Rule
+refused_by other (Goes place) = other
+refused_by other (Refuses line rule) = rule
+
+-- the line that is refused is one of the block, or its end
+closing_named : (state : State) (header n : ℕ) (reading : Result (List ℕ) (ℕ × AsmRule)) (line : ℕ) (rule : Rule) (after : List (List ℕ)) → close_block state header n reading ≡ Refuses line rule → named rule after ≡ rule
+closing_named state header n (Err refused) line rule after e = let same : rule_in_block refused.1 ≡ rule = ap (refused_by Room) e in ap (λ (r : Rule). named r after) (sym same) ∙ block_named refused.1 after ∙ same
+closing_named state header n (Ok words) line rule after e = by_fit (fit_open state.block (length words)) refl
+  where
+    by_fit : (b : Bool) → fit_open state.block (length words) ≡ b → named rule after ≡ rule
+    by_fit true h = let f = rw h at e in absurd cc
+    by_fit false h = let f = rw h at e in let same : Room ≡ rule = ap (refused_by Room) f in ap (λ (r : Rule). named r after) (sym same) ∙ same
+
+pub refused_read : (refused : SystemRefused) (state : State) (header n : ℕ) (reading : Result (List ℕ) (ℕ × AsmRule)) (after : List (List ℕ)) (rest : Place → Answer) → RefusesStep refused (close_block state header n reading) → IsRefusal refused (goes_on (close_block state header n reading) after rest)
+refused_read (refusals.BadLine line rule) state header n reading after rest r =
+    (r.0, ap (λ (s : Step). goes_on s after rest) r.1 ∙ ap (λ (broken : Rule). Err (line, broken)) (closing_named state header n reading line r.0 after r.1), r.2)
+refused_read refusals.NoMemory state header n reading after rest r = tt

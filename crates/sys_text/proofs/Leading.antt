@@ -47,7 +47,7 @@ leads_then s t u ls ks a b = record {
 }
 
 outside_line : (s t : State) (n : ℕ) (line : List ℕ) (lines : List (List ℕ)) → step_outside s (n + 1) line ≡ Goes (Outside t) → reading_from (Outside s) n (line ∷ lines) ≡ reading_from (Outside t) (n + 1) lines
-outside_line s t n line lines e = ap (λ (x : Step). goes_on x (λ next. reading_from next (n + 1) lines)) e
+outside_line s t n line lines e = ap (λ (x : Step). goes_on x lines (λ next. reading_from next (n + 1) lines)) e
 
 -- a line with this keyword that breaks no rule
 pub leads_one : (s t : State) (keyword : Keyword) (first : List ℕ) (fields : List (List ℕ)) → are_plain (first ∷ fields) ≡ true → begins_comment first ≡ false → keyword_in s.stage first ≡ Some keyword → is_asm keyword ≡ false → Keeps s keyword fields → add s keyword fields ≡ t

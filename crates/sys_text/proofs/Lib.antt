@@ -12,6 +12,7 @@ mod Headed
 mod ImagePlaces
 mod Imaged
 mod Keeping
+mod LastLines
 mod Leading
 mod LineSteps
 mod Lines

@@ -2,7 +2,9 @@
 use Rattle.std.proofs.Common.{◌≡◌, ℕ, true, false, List, [], ◌++◌, Err, refl}
 use Rattle.std.specs.Prelude.{codes}
 use Rattle.rv_asm.specs.Program.{reading_of_lines}
-use Rattle.sys_text.specs.declared.refusal.Rule.TheVariants.{FieldKind, Limit, Same, Name, Assembler, Ended}
+use Rattle.sys_text.specs.declared.refusal.Rule.TheVariants.{FieldKind, Limit, Same, Name, Assembler, Ended, Elf}
+use Rattle.rv_elf.specs.declared.refusal.Rule.TheVariants.{NoElf}
+use Rattle.sys_text.specs.Files.{breaks_in}
 use Rattle.sys_text.specs.Reading.{reading_of, system_of_lines}
 use Rattle.sys_text.specs.RuleByRule.{line_breaks}
 
@@ -68,6 +70,25 @@ ended_early = refl
 open_block_named : reading_of open_block ≡ Err (7, Ended)
 unfolding system_of_lines
 open_block_named = refl
+
+-- a file of too few bytes: the end of its block breaks rule 11, and rule 10 as well where it is the last line
+abbrev no_elf_file : List ℕ
+no_elf_file = front ++ codes "elf a 1 4\nwords 00000000\nend\n"
+
+no_elf_broken : line_breaks no_elf_file 6 (Elf NoElf) ≡ true
+unfolding breaks_in
+no_elf_broken = refl
+
+no_elf_last : line_breaks no_elf_file 6 Ended ≡ true
+no_elf_last = refl
+
+no_elf_last_named : reading_of no_elf_file ≡ Err (7, Ended)
+unfolding system_of_lines breaks_in
+no_elf_last_named = refl
+
+no_elf_named : reading_of (no_elf_file ++ codes "#\n") ≡ Err (7, Elf NoElf)
+unfolding system_of_lines breaks_in
+no_elf_named = refl
 
 -- an empty text ends before its first root
 nothing : line_breaks [] 0 Ended ≡ true

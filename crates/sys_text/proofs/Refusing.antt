@@ -1,5 +1,5 @@
 -- What reading line by line names is the first line that breaks a rule, and the lowest rule that it breaks.
-use Rattle.std.proofs.Common.{◌≡◌, ℕ, zero, suc, ◌+◌, ◌<◌, ◌≤◌, Bool, true, false, not, ◌&&◌, cond, eqb, List, [], ◌∷◌, ◌++◌, length, Option, Some, None, Result, Ok, Err, refl, sym, ap, ◌∙◌, arith, inl, inr, ◌⊎◌, append_assoc, append-nil, length-append, subst}
+use Rattle.std.proofs.Common.{◌≡◌, ℕ, zero, suc, ◌+◌, ◌<◌, ◌≤◌, Bool, true, false, not, cond, eqb, List, [], ◌∷◌, ◌++◌, length, Option, Some, None, Result, Ok, Err, refl, sym, ap, ◌∙◌, arith, inl, inr, ◌⊎◌, append_assoc, append-nil, length-append, subst}
 use Rattle.std.specs.List.{find}
 use Rattle.std.specs.Option.{option_map}
 use Rattle.std.specs.Prelude.{IfOk, IfErr}
@@ -15,15 +15,14 @@ use Rattle.sys_text.specs.declared.refusal.Rule.{Rule}
 use Rattle.sys_text.specs.declared.refusal.Rule.TheVariants.{ForeignByte, Misplaced, FieldCount, FieldKind, Limit, Same, Name, Room, Assembler, Ended, Elf}
 use Rattle.rv_elf.specs.declared.refusal.Rule.{Rule as ElfRule}
 use Rattle.rv_elf.specs.declared.refusal.Rule.TheVariants as elf
-use Rattle.rv_elf.specs.Refusal.{number_of_rule as number_of_elf_rule}
-use Rattle.rv_elf.specs.Rules.{rules as elf_rules}
-use Rattle.sys_text.proofs.FileRules.{any_of, none_of_any, up_to_ten}
+use Rattle.sys_text.proofs.FileRules.{up_to_ten}
+use Rattle.sys_text.proofs.LastLines.{elf_at_least_one, of_file_or_not, low_named, block_named, ends_behind_file}
 use Rattle.sys_text.specs.declared.refusal.SystemRefused.{SystemRefused}
 use Rattle.sys_text.specs.declared.refusal.SystemRefused.TheVariants as refusals
 use Rattle.sys_text.specs.Refusal.{number_of_rule}
 use Rattle.sys_text.specs.Rules.{breaks, rules, broken_by, closed_with, fit_open}
-use Rattle.sys_text.specs.Reading.{Answer, Place, Outside, InBlock, nothing_yet, rule_in_block, is_end, last_line, may_end, ended, ended_in_block, close_block, kept, kept_line, step_outside, goes_on, reading_from, reading_of, system_of_lines}
-use Rattle.sys_text.specs.RuleByRule.{place_with, place_after, breaks_outside, lacks_room, before_end, refuses_line, refuses_in, fails_to_assemble, may_end_at, ends_early, refuses_file, breaks_line, breaks_among, one_or_more, place_behind, system_at, IsSystemOf, IsFirstBroken, HasCause}
+use Rattle.sys_text.specs.Reading.{Answer, Place, Outside, InBlock, nothing_yet, rule_in_block, is_end, last_line, may_end, ended, ended_in_block, close_block, kept, kept_line, step_outside, named, goes_on, reading_from, reading_of, system_of_lines}
+use Rattle.sys_text.specs.RuleByRule.{place_with, place_after, breaks_outside, lacks_room, before_end, refuses_line, refuses_in, fails_to_assemble, may_end_at, ends_early, breaks_line, breaks_among, one_or_more, place_behind, system_at, IsSystemOf, IsFirstBroken, HasCause}
 use Rattle.sys_text.specs.Answers.{Answers}
 use Rattle.sys_text.proofs.BlockLines.{end_printable, is_foreign, PrintsTo, prints_from, AllPrint, refused_prints, words_print}
 
@@ -56,22 +55,6 @@ rule_of-number (Elf elf.FileBytes) = refl
 rule_of-number (Elf elf.Outside) = refl
 rule_of-number (Elf elf.Overlap) = refl
 rule_of-number (Elf elf.Entry) = refl
-
-elf_at_least_one : (rule : ElfRule) → 1 ≤ number_of_elf_rule rule
-elf_at_least_one elf.NoElf = omega arith
-elf_at_least_one elf.Class = omega arith
-elf_at_least_one elf.Machine = omega arith
-elf_at_least_one elf.Compressed = omega arith
-elf_at_least_one elf.Table = omega arith
-elf_at_least_one elf.Dynamic = omega arith
-elf_at_least_one elf.FileBytes = omega arith
-elf_at_least_one elf.Outside = omega arith
-elf_at_least_one elf.Overlap = omega arith
-elf_at_least_one elf.Entry = omega arith
-
-and_none : (a b : Bool) → b ≡ true → (a && not b) ≡ false
-and_none true b h = ap not h
-and_none false b h = refl
 
 same_rule : (a b : Rule) → number_of_rule a ≡ number_of_rule b → a ≡ b
 same_rule a b e = sym (rule_of-number a) ∙ ap rule_of e ∙ rule_of-number b
@@ -200,7 +183,6 @@ record Keeps (place : Place) (n : ℕ) (line : List ℕ) (after : List (List ℕ
   foreign : not (are_printable line) ≡ false
   fields : (rule : Rule) → number_of_rule rule ≤ 8 → breaks_outside place line rule ≡ false
   file : (rule : ElfRule) → breaks_outside place line (Elf rule) ≡ false
-  accepts : refuses_file place line ≡ false
   room : lacks_room place line ≡ false
   assembler : fails_to_assemble place n (line ∷ after) ≡ false
 
@@ -218,7 +200,7 @@ below_ended place n line after k Ended lt = absurd (omega (arith, lt))
 below_ended place n line after k (Elf rule) lt = absurd (omega (arith, lt))
 
 none_at_all : (place : Place) (n : ℕ) (line : List ℕ) (after : List (List ℕ)) → Keeps place n line after → ends_early (place_after place n line) after ≡ false → (rule : Rule) → breaks_line place n line after rule ≡ false
-none_at_all place n line after k goes_on Ended = rw goes_on refl
+none_at_all place n line after k goes_on Ended = goes_on
 none_at_all place n line after k goes_on ForeignByte = k.foreign
 none_at_all place n line after k goes_on Misplaced = k.fields Misplaced (omega arith)
 none_at_all place n line after k goes_on FieldCount = k.fields FieldCount (omega arith)
@@ -244,20 +226,19 @@ outside_rule state n line after Assembler own = absurd (own.0 refl)
 outside_rule state n line after Ended own = absurd (own.1 refl)
 outside_rule state n line after (Elf rule) own = refl
 
--- below a rule that the line breaks no rule is broken
-lower_outside : (state : State) (n : ℕ) (line : List ℕ) (after : List (List ℕ)) (rule : Rule) → IsFound (breaks state line) 1 rule → (lower : Rule) → number_of_rule lower < number_of_rule rule → breaks_line (Outside state) n line after lower ≡ false
-lower_outside state n line after rule f ForeignByte lt = f.lowest ForeignByte (λ e. absurd (omega (arith, e)), λ e. absurd (omega (arith, e))) (omega arith) lt
-lower_outside state n line after rule f Misplaced lt = f.lowest Misplaced (λ e. absurd (omega (arith, e)), λ e. absurd (omega (arith, e))) (omega arith) lt
-lower_outside state n line after rule f FieldCount lt = f.lowest FieldCount (λ e. absurd (omega (arith, e)), λ e. absurd (omega (arith, e))) (omega arith) lt
-lower_outside state n line after rule f FieldKind lt = f.lowest FieldKind (λ e. absurd (omega (arith, e)), λ e. absurd (omega (arith, e))) (omega arith) lt
-lower_outside state n line after rule f Limit lt = f.lowest Limit (λ e. absurd (omega (arith, e)), λ e. absurd (omega (arith, e))) (omega arith) lt
-lower_outside state n line after rule f Same lt = f.lowest Same (λ e. absurd (omega (arith, e)), λ e. absurd (omega (arith, e))) (omega arith) lt
-lower_outside state n line after rule f Name lt = f.lowest Name (λ e. absurd (omega (arith, e)), λ e. absurd (omega (arith, e))) (omega arith) lt
-lower_outside state n line after rule f Room lt = f.lowest Room (λ e. absurd (omega (arith, e)), λ e. absurd (omega (arith, e))) (omega arith) lt
-lower_outside state n line after rule f Assembler lt = refl
-lower_outside state n line after (Elf rule) f Ended lt = and_none (ends_early (place_after (Outside state) n line) after) (refuses_file (Outside state) line) (any_of (λ r. breaks state line (Elf r)) rule f.passes)
-lower_outside state n line after rule f Ended lt = absurd (omega (arith, lt))
-lower_outside state n line after rule f (Elf lower) lt = f.lowest (Elf lower) (λ e. absurd (omega (arith, e, elf_at_least_one lower)), λ e. absurd (omega (arith, e, elf_at_least_one lower))) (omega arith) lt
+-- below a rule that the line breaks no rule is broken, where this is known of rule 10
+lower_outside : (state : State) (n : ℕ) (line : List ℕ) (after : List (List ℕ)) (rule : Rule) → IsFound (breaks state line) 1 rule → (lower : Rule) → number_of_rule lower < number_of_rule rule → (lower ≡ Ended → ends_early (place_after (Outside state) n line) after ≡ false) → breaks_line (Outside state) n line after lower ≡ false
+lower_outside state n line after rule f ForeignByte lt early = f.lowest ForeignByte (λ e. absurd (omega (arith, e)), λ e. absurd (omega (arith, e))) (omega arith) lt
+lower_outside state n line after rule f Misplaced lt early = f.lowest Misplaced (λ e. absurd (omega (arith, e)), λ e. absurd (omega (arith, e))) (omega arith) lt
+lower_outside state n line after rule f FieldCount lt early = f.lowest FieldCount (λ e. absurd (omega (arith, e)), λ e. absurd (omega (arith, e))) (omega arith) lt
+lower_outside state n line after rule f FieldKind lt early = f.lowest FieldKind (λ e. absurd (omega (arith, e)), λ e. absurd (omega (arith, e))) (omega arith) lt
+lower_outside state n line after rule f Limit lt early = f.lowest Limit (λ e. absurd (omega (arith, e)), λ e. absurd (omega (arith, e))) (omega arith) lt
+lower_outside state n line after rule f Same lt early = f.lowest Same (λ e. absurd (omega (arith, e)), λ e. absurd (omega (arith, e))) (omega arith) lt
+lower_outside state n line after rule f Name lt early = f.lowest Name (λ e. absurd (omega (arith, e)), λ e. absurd (omega (arith, e))) (omega arith) lt
+lower_outside state n line after rule f Room lt early = f.lowest Room (λ e. absurd (omega (arith, e)), λ e. absurd (omega (arith, e))) (omega arith) lt
+lower_outside state n line after rule f Assembler lt early = refl
+lower_outside state n line after rule f Ended lt early = early refl
+lower_outside state n line after rule f (Elf lower) lt early = f.lowest (Elf lower) (λ e. absurd (omega (arith, e, elf_at_least_one lower)), λ e. absurd (omega (arith, e, elf_at_least_one lower))) (omega arith) lt
 
 keeps_outside : (state : State) (n : ℕ) (line : List ℕ) (after : List (List ℕ)) → broken_by state line ≡ None → Keeps (Outside state) n line after
 keeps_outside state n line after e =
@@ -267,7 +248,6 @@ keeps_outside state n line after e =
       foreign = none ForeignByte (λ e. absurd (omega (arith, e)), λ e. absurd (omega (arith, e)));
       fields = λ rule le. none rule (λ e. absurd (omega (arith, e, le)), λ e. absurd (omega (arith, e, le)));
       file = file;
-      accepts = none_of_any (λ r. breaks state line (Elf r)) file elf_rules;
       room = none Room (λ e. absurd (omega (arith, e)), λ e. absurd (omega (arith, e)));
       assembler = refl;
     }
@@ -311,7 +291,7 @@ later place n line lines m rule none r = record {
 
 -- the last line, behind which the text may not end
 last : (place : Place) (n : ℕ) (line : List ℕ) → Keeps place (n + 1) line [] → ends_early (place_after place (n + 1) line) [] ≡ true → FirstAmong place n (line ∷ []) (n + 1) Ended
-last place n line k early = now place n line [] Ended (rw (early, k.accepts) refl) (λ lower lt. below_ended place (n + 1) line [] k lower lt)
+last place n line k early = now place n line [] Ended early (λ lower lt. below_ended place (n + 1) line [] k lower lt)
 
 -- a byte that is not printable
 foreign_line : (place : Place) (n : ℕ) (line : List ℕ) (lines : List (List ℕ)) → not (are_printable line) ≡ true → FirstAmong place n (line ∷ lines) (n + 1) ForeignByte
@@ -410,7 +390,7 @@ module _ (state : State) (header : ℕ) where
   -- a line that is not the end, and that the assembler does not refuse
   keeps_inside : (done : List (List ℕ)) (n : ℕ) (line : List ℕ) (after : List (List ℕ)) → not (are_printable line) ≡ false → is_end (fields_of line) ≡ false → fails_to_assemble (InBlock state header done) n (line ∷ after) ≡ false
       → Keeps (InBlock state header done) n line after
-  keeps_inside done n line after printable e assembler = record { foreign = printable; fields = λ rule le. refl; file = λ rule. refl; accepts = refl; room = no_room_asked done line e; assembler = assembler }
+  keeps_inside done n line after printable e assembler = record { foreign = printable; fields = λ rule le. refl; file = λ rule. refl; room = no_room_asked done line e; assembler = assembler }
 
   none_inside : (done : List (List ℕ)) (n : ℕ) (line : List ℕ) (lines : List (List ℕ)) → 0 < length lines → Keeps (InBlock state header done) (n + 1) line lines → (rule : Rule) → breaks_line (InBlock state header done) (n + 1) line lines rule ≡ false
   none_inside done n line lines some k = none_at_all (InBlock state header done) (n + 1) line lines k (more_follow (place_after (InBlock state header done) (n + 1) line) lines some)
@@ -498,13 +478,12 @@ module _ (state : State) (header : ℕ) where
     foreign = ap not (end_printable line ends);
     fields = λ rule le. refl;
     file = λ rule. refl;
-    accepts = refl;
     room = rw (ends, asm, fits) refl;
     assembler = assembled done n done [] line after (Ok words) (sym (append-nil done)) asm tt ends;
   }
 
   -- the end of a block of which the assembler gives the words
-  end_line : (done : List (List ℕ)) (n : ℕ) (line : List ℕ) (after : List (List ℕ)) (words : List ℕ) (m : ℕ) (rule : Rule) → reading_of_lines done ≡ Ok words → is_end (fields_of line) ≡ true → goes_on (close_block state header (n + 1) (Ok words)) (λ next. reading_from next (n + 1) after) ≡ Err (m, rule)
+  end_line : (done : List (List ℕ)) (n : ℕ) (line : List ℕ) (after : List (List ℕ)) (words : List ℕ) (m : ℕ) (rule : Rule) → reading_of_lines done ≡ Ok words → is_end (fields_of line) ≡ true → goes_on (close_block state header (n + 1) (Ok words)) after (λ next. reading_from next (n + 1) after) ≡ Err (m, rule)
       → (reading_from (Outside (closed_with state words)) (n + 1) after ≡ Err (m, rule) → Found (Outside (closed_with state words)) (n + 1) after m rule) → FirstAmong (InBlock state header done) n (line ∷ after) m rule
   end_line done n line after words m rule asm ends e next = by_fit (fit_open state.block (length words)) refl
     where
@@ -550,11 +529,27 @@ ended_inside state header [] m rule o e = λ some.
     (sym (ap (λ (x : ℕ × Rule). x.0) same), sym (ap (λ (x : ℕ × Rule). x.1) same), refl)
 ended_inside state header (line ∷ lines) m rule o e = unended state header [] header line lines m rule o e
 
+-- the line is refused, where others follow it or not
+refused_file : (state : State) (n : ℕ) (line : List ℕ) (lines : List (List ℕ)) (file : ElfRule) → IsFound (breaks state line) 1 (Elf file) → FirstAmong (Outside state) n (line ∷ lines) (n + 1) (named (Elf file) lines)
+refused_file state n line [] file f =
+    now (Outside state) n line [] Ended (ends_behind_file state (n + 1) line file f.passes)
+    (λ lower lt. lower_outside state (n + 1) line [] (Elf file) f lower (omega (arith, lt)) (λ e. absurd (omega (arith, lt, ap number_of_rule e))))
+refused_file state n line (l ∷ ls) file f = now (Outside state) n line (l ∷ ls) (Elf file) f.passes (λ lower lt. lower_outside state (n + 1) line (l ∷ ls) (Elf file) f lower lt (λ e. refl))
+
+refused_outside : (state : State) (n : ℕ) (line : List ℕ) (lines : List (List ℕ)) (rule : Rule) → IsFound (breaks state line) 1 rule → FirstAmong (Outside state) n (line ∷ lines) (n + 1) (named rule lines)
+refused_outside state n line lines rule f =
+    elim (of_file_or_not rule) [
+      | inl file ↦ subst (λ (r : Rule). IsFound (breaks state line) 1 r → FirstAmong (Outside state) n (line ∷ lines) (n + 1) (named r lines)) (sym file.1) (refused_file state n line lines file.0) f
+      | inr low ↦
+          let lowest = λ (lower : Rule) (lt : number_of_rule lower < number_of_rule rule). lower_outside state (n + 1) line lines rule f lower lt (λ e. absurd (omega (arith, lt, low, ap number_of_rule e))) in
+          rw (low_named rule lines low) (now (Outside state) n line lines rule (outside_rule state (n + 1) line lines rule f.own ∙ f.passes) lowest)
+    ]
+
 line_outside : (state : State) (n : ℕ) (line : List ℕ) (lines : List (List ℕ)) (m : ℕ) (rule : Rule) → ((next : Place) → reading_from next (n + 1) lines ≡ Err (m, rule) → Claim next (n + 1) lines m rule)
-    → goes_on (step_outside state (n + 1) line) (λ next. reading_from next (n + 1) lines) ≡ Err (m, rule) → FirstAmong (Outside state) n (line ∷ lines) m rule
+    → goes_on (step_outside state (n + 1) line) lines (λ next. reading_from next (n + 1) lines) ≡ Err (m, rule) → FirstAmong (Outside state) n (line ∷ lines) m rule
 line_outside state n line lines m rule next e = by_rule (broken_by state line) refl
   where
-    by_kept : (after : State × Bool) → Keeps (Outside state) (n + 1) line lines → place_after (Outside state) (n + 1) line ≡ place_with (n + 1) after → goes_on (kept_line (n + 1) after) (λ next. reading_from next (n + 1) lines) ≡ Err (m, rule) → FirstAmong (Outside state) n (line ∷ lines) m rule
+    by_kept : (after : State × Bool) → Keeps (Outside state) (n + 1) line lines → place_after (Outside state) (n + 1) line ≡ place_with (n + 1) after → goes_on (kept_line (n + 1) after) lines (λ next. reading_from next (n + 1) lines) ≡ Err (m, rule) → FirstAmong (Outside state) n (line ∷ lines) m rule
     by_kept after k is e = by_opens after.1 refl
       where
         by_opens : (b : Bool) → after.1 ≡ b → FirstAmong (Outside state) n (line ∷ lines) m rule
@@ -569,8 +564,7 @@ line_outside state n line lines m rule next e = by_rule (broken_by state line) r
     by_rule (Some r) h =
         let f = rw h at e in
         let x = found (breaks state line) 1 rules r (λ e. absurd (omega (arith, e))) (λ e. absurd (omega (arith, e))) rules_from h in
-        renamed (Outside state) n (line ∷ lines) (n + 1, r) (m, rule) f
-        (now (Outside state) n line lines r (outside_rule state (n + 1) line lines r x.own ∙ x.passes) (λ lower lt. lower_outside state (n + 1) line lines r x lower lt))
+        renamed (Outside state) n (line ∷ lines) (n + 1, named r lines) (m, rule) f (refused_outside state n line lines r x)
     by_rule None h =
         let f = rw h at e in
         by_kept (kept state (fields_of line)) (keeps_outside state (n + 1) line lines h) refl f
@@ -579,10 +573,11 @@ line_inside : (state : State) (header : ℕ) (done : List (List ℕ)) (n : ℕ) 
     → reading_from (InBlock state header done) n (line ∷ lines) ≡ Err (m, rule) → n ≡ header + length done → IsOpen done → Found (InBlock state header []) header (done ++ line ∷ lines) m rule
 line_inside state header done n line lines m rule next e at o = by_end (is_end (fields_of line)) refl
   where
-    by_words : is_end (fields_of line) ≡ true → (reading : Result (List ℕ) (ℕ × AsmRule)) → reading_of_lines done ≡ reading → goes_on (close_block state header (n + 1) reading) (λ next. reading_from next (n + 1) lines) ≡ Err (m, rule)
+    by_words : is_end (fields_of line) ≡ true → (reading : Result (List ℕ) (ℕ × AsmRule)) → reading_of_lines done ≡ reading → goes_on (close_block state header (n + 1) reading) lines (λ next. reading_from next (n + 1) lines) ≡ Err (m, rule)
         → FirstAmong (InBlock state header []) header (done ++ line ∷ lines) m rule
     by_words h (Err refused) asm f =
-        renamed (InBlock state header []) header (done ++ line ∷ lines) (header + refused.0, rule_in_block refused.1) (m, rule) f
+        let g : ◌≡◌ {A = Answer} (Err (header + refused.0, rule_in_block refused.1)) (Err (m, rule)) = ap (λ (r : Rule). Err (header + refused.0, r)) (sym (block_named refused.1 lines)) ∙ f in
+        renamed (InBlock state header []) header (done ++ line ∷ lines) (header + refused.0, rule_in_block refused.1) (m, rule) g
         (refused_block state header [] header 1 done done line lines refused.0 refused.1 refl asm o h refl (refused_prints done refused.0 refused.1 asm))
     by_words h (Ok words) asm f =
         words_block state header (λ place n lines. FirstAmong place n lines m rule) (λ place n line lines. later place n line lines m rule) [] header done done words line lines refl asm o h (words_print done words asm)
@@ -641,10 +636,10 @@ never_ended n (line ∷ lines) system e = by_byte (λ f. never_ended (n + 1) lin
     by_byte next false h = let f = rw h at e in cc
 
 kept_outside : (state : State) (n : ℕ) (line : List ℕ) (lines : List (List ℕ)) (system : System) → ((next : Place) → reading_from next (n + 1) lines ≡ Ok system → KeptFrom next (n + 1) lines system)
-    → goes_on (step_outside state (n + 1) line) (λ next. reading_from next (n + 1) lines) ≡ Ok system → AllKept (Outside state) n (line ∷ lines) system
+    → goes_on (step_outside state (n + 1) line) lines (λ next. reading_from next (n + 1) lines) ≡ Ok system → AllKept (Outside state) n (line ∷ lines) system
 kept_outside state n line lines system next e = by_rule (broken_by state line) refl
   where
-    by_kept : (after : State × Bool) → Keeps (Outside state) (n + 1) line lines → place_after (Outside state) (n + 1) line ≡ place_with (n + 1) after → goes_on (kept_line (n + 1) after) (λ next. reading_from next (n + 1) lines) ≡ Ok system → AllKept (Outside state) n (line ∷ lines) system
+    by_kept : (after : State × Bool) → Keeps (Outside state) (n + 1) line lines → place_after (Outside state) (n + 1) line ≡ place_with (n + 1) after → goes_on (kept_line (n + 1) after) lines (λ next. reading_from next (n + 1) lines) ≡ Ok system → AllKept (Outside state) n (line ∷ lines) system
     by_kept after k is e = by_opens after.1 refl
       where
         by_opens : (b : Bool) → after.1 ≡ b → AllKept (Outside state) n (line ∷ lines) system
@@ -665,14 +660,14 @@ kept_inside : (state : State) (header : ℕ) (done : List (List ℕ)) (n : ℕ) 
     → reading_from (InBlock state header done) n (line ∷ lines) ≡ Ok system → n ≡ header + length done → IsOpen done → AllKept (InBlock state header []) header (done ++ line ∷ lines) system
 kept_inside state header done n line lines system next e at o = by_end (is_end (fields_of line)) refl
   where
-    at_end_line : (words : List ℕ) → is_end (fields_of line) ≡ true → reading_of_lines done ≡ Ok words → (b : Bool) → fit_open state.block (length words) ≡ b → goes_on (close_block state header (n + 1) (Ok words)) (λ next. reading_from next (n + 1) lines) ≡ Ok system
+    at_end_line : (words : List ℕ) → is_end (fields_of line) ≡ true → reading_of_lines done ≡ Ok words → (b : Bool) → fit_open state.block (length words) ≡ b → goes_on (close_block state header (n + 1) (Ok words)) lines (λ next. reading_from next (n + 1) lines) ≡ Ok system
         → AllKept (InBlock state header done) n (line ∷ lines) system
     at_end_line words h asm true fits f =
         let g = rw fits at f in
         kept_behind (InBlock state header done) (Outside (closed_with state words)) n line lines system (keeps_end state header done (n + 1) line lines words asm h fits) (rw (h, asm) refl) (next (Outside (closed_with state words)) g)
     at_end_line words h asm false fits f = let g = rw fits at f in absurd cc
 
-    by_words : is_end (fields_of line) ≡ true → (reading : Result (List ℕ) (ℕ × AsmRule)) → reading_of_lines done ≡ reading → goes_on (close_block state header (n + 1) reading) (λ next. reading_from next (n + 1) lines) ≡ Ok system
+    by_words : is_end (fields_of line) ≡ true → (reading : Result (List ℕ) (ℕ × AsmRule)) → reading_of_lines done ≡ reading → goes_on (close_block state header (n + 1) reading) lines (λ next. reading_from next (n + 1) lines) ≡ Ok system
         → AllKept (InBlock state header []) header (done ++ line ∷ lines) system
     by_words h (Err refused) asm f = absurd cc
     by_words h (Ok words) asm f =

@@ -11,7 +11,7 @@ use Rattle.sys_text.specs.declared.stage.Keyword.TheVariants as keywords
 use Rattle.sys_text.specs.declared.stage.Stage.{Stage}
 use Rattle.sys_text.specs.declared.stage.Stage.TheVariants.{Start, Roots, Chans}
 use Rattle.sys_text.specs.declared.refusal.Rule.{Rule}
-use Rattle.sys_text.specs.declared.refusal.Rule.TheVariants.{ForeignByte, Room, Assembler, Ended}
+use Rattle.sys_text.specs.declared.refusal.Rule.TheVariants.{ForeignByte, Room, Assembler, Ended, Elf}
 use Rattle.sys_text.specs.declared.system.System.{System}
 use Rattle.sys_text.specs.declared.state.State.{State}
 use Rattle.sys_text.specs.Rules.{keyword_in, first_of, rest_of, is_skipped, broken_by, add, closed_with, fit_open}
@@ -112,15 +112,20 @@ abbrev pub at_end : Place → ℕ → Answer
 at_end (Outside state) n = ended state.stage state.system n
 at_end (InBlock state header block) n = ended_in_block header block
 
--- the answer of a step and what follows it
-abbrev pub goes_on : Step → (Place → Answer) → Answer
-goes_on (Goes next) rest = rest next
-goes_on (Refuses line rule) rest = Err (line, rule)
+-- the rule that is named of a refused line before these: the end of the block of a file breaks rule 10 as well, where it is the last line
+abbrev pub named : Rule → (after : List (List ℕ)) → Rule
+named (Elf rule) [] = Ended
+named rule after = rule
+
+-- the answer of a step before these lines, and what follows it
+abbrev pub goes_on : Step → (after : List (List ℕ)) → (Place → Answer) → Answer
+goes_on (Goes next) after rest = rest next
+goes_on (Refuses line rule) after rest = Err (line, named rule after)
 
 -- the lines after n others
 abbrev pub reading_from : Place → ℕ → List (List ℕ) → Answer
 reading_from place n [] = at_end place n
-reading_from place n (line ∷ lines) = goes_on (step place (n + 1) line) (λ next. reading_from next (n + 1) lines)
+reading_from place n (line ∷ lines) = goes_on (step place (n + 1) line) lines (λ next. reading_from next (n + 1) lines)
 
 -- the system of lines, or the first that breaks a rule and the lowest such rule
 unfoldable pub system_of_lines : List (List ℕ) → Answer

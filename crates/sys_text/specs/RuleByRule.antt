@@ -1,6 +1,5 @@
 -- Which line is refused, rule by rule.
 use Rattle.std.specs.Prelude.{◌≡◌, ℕ, zero, suc, ◌+◌, ◌<◌, ◌==◌, Bool, true, false, not, ◌&&◌, List, [], ◌∷◌, ◌++◌, length, Option, Some, None, Result, Ok, Err, if◌then◌else◌}
-use Rattle.std.specs.List.{list_any}
 use Rattle.std.specs.Option.{option_map}
 use Rattle.text_parts.specs.Lines.{are_printable, lines_of, fields_of}
 use Rattle.rv_asm.specs.Program.{reading_of_lines}
@@ -9,8 +8,7 @@ use Rattle.sys_text.specs.declared.state.State.{State}
 use Rattle.sys_text.specs.declared.system.Image.{Image}
 use Rattle.sys_text.specs.declared.system.System.{System}
 use Rattle.sys_text.specs.declared.refusal.Rule.{Rule}
-use Rattle.sys_text.specs.declared.refusal.Rule.TheVariants.{ForeignByte, Room, Assembler, Ended, Elf}
-use Rattle.rv_elf.specs.Rules.{rules as elf_rules}
+use Rattle.sys_text.specs.declared.refusal.Rule.TheVariants.{ForeignByte, Room, Assembler, Ended}
 use Rattle.sys_text.specs.declared.refusal.SystemRefused.{SystemRefused}
 use Rattle.sys_text.specs.declared.refusal.SystemRefused.TheVariants as refusals
 use Rattle.sys_text.specs.Refusal.{number_of_rule}
@@ -84,17 +82,12 @@ abbrev pub ends_early : Place → List (List ℕ) → Bool
 ends_early place [] = not (may_end_at place)
 ends_early place (line ∷ lines) = false
 
--- the line ends the block of a file that breaks a rule: whether the text may end there is not asked
-abbrev pub refuses_file : Place → (line : List ℕ) → Bool
-refuses_file (Outside state) line = list_any (λ rule. breaks state line (Elf rule)) elf_rules
-refuses_file (InBlock state header block) line = false
-
 -- line n breaks the rule, where it stands at this place and before these lines
 abbrev pub breaks_line : Place → (n : ℕ) → (line : List ℕ) → (after : List (List ℕ)) → Rule → Bool
 breaks_line place n line after ForeignByte = not (are_printable line)
 breaks_line place n line after Room = lacks_room place line
 breaks_line place n line after Assembler = fails_to_assemble place n (line ∷ after)
-breaks_line place n line after Ended = ends_early (place_after place n line) after && not (refuses_file place line)
+breaks_line place n line after Ended = ends_early (place_after place n line) after
 breaks_line place n line after rule = breaks_outside place line rule
 
 -- ---- the lines of a text

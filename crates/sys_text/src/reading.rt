@@ -5,11 +5,12 @@ ghost use Rattle.sys_text.specs.declared.stage.Keyword.TheVariants.{Words as Wor
 ghost use Rattle.sys_text.specs.Rules.{HasRoom};
 ghost use Rattle.sys_text.specs.Fronts.{Starts};
 ghost use Rattle.sys_text.specs.ImageNames.{KnowsImages};
-ghost use Rattle.sys_text.specs.Reading.{Outside, reading_from, reading_of, step_outside, is_asm, may_end, last_line, ended, nothing_yet};
+ghost use Rattle.sys_text.specs.Reading.{Answer, Outside, Place, Step, goes_on, reading_from, reading_of, step_outside, is_asm, may_end, last_line, named, ended, nothing_yet};
+ghost use Rattle.sys_text.specs.Refusal.{number_of_rule};
 ghost use Rattle.sys_text.specs.declared.system.System.{System as Described};
 ghost use Rattle.sys_text.specs.Valid.{is_system};
 ghost use Rattle.sys_text.specs.Text.{system_text};
-ghost use Rattle.sys_text.specs.Answers.{Answers, ClosesBlock, TakesLine, TakesLines};
+ghost use Rattle.sys_text.specs.Answers.{Answers, ClosesBlock, IsRefusal, RefusesStep, TakesLine, TakesLines};
 ghost use Rattle.sys_text.specs.RuleByRule.{IsSystemOf, HasCause};
 ghost use Rattle.sys_text.specs.ElfBlocks.{HasElfBlock, HasLoaded};
 
@@ -116,6 +117,27 @@ fn take_line<'a>(
     }
 }
 
+/// The number of the rule that is named of a refused line before this text.
+#[tactic(auto, using(crate::proofs::LastLines::number_last, crate::proofs::LastLines::number_before))]
+fn named(rule: u8, after: &[u8]) -> u8
+    ensures { (broken : Rule) → rule ≡ number_of_rule broken → result ≡ number_of_rule (named broken (lines_of after.now)) }
+{
+    if after.is_empty() { rule.min(10) } else { rule }
+}
+
+/// The refusal of a text by a line before this rest of it.
+fn refused_before(refused: SystemRefused, after: &[u8]) -> SystemRefused
+    ensures { (step : Step) (rest : Place → Answer) → RefusesStep refused step → IsRefusal result (goes_on step (lines_of after.now) rest) }
+{
+    match refused {
+        SystemRefused::NoMemory => SystemRefused::NoMemory,
+        SystemRefused::BadLine { line, rule } => SystemRefused::BadLine {
+            line,
+            rule: named(rule, after),
+        },
+    }
+}
+
 /// Takes the next line, and the whole of a block that it opens.
 fn take_next<'a>(
     alloc: Global,
@@ -135,10 +157,10 @@ fn take_next<'a>(
 {
     let (line, after) = first_line(text);
     let next = number + 1;
-    if take_line(alloc, reader, next, line)? {
-        take_block(alloc, reader, next, after)
-    } else {
-        Ok((next, after))
+    match take_line(alloc, reader, next, line) {
+        Ok(true) => take_block(alloc, reader, next, after),
+        Ok(false) => Ok((next, after)),
+        Err(refused) => Err(refused_before(refused, after)),
     }
 }
 

@@ -63,7 +63,17 @@ fn assert_printed(alloc: Global, block: &str, wanted: &str) -> Result<(), Fail> 
 }
 
 fn assert_refused(alloc: Global, block: &str, line: u64, rule: u8) -> Result<(), Fail> {
-    let text = format!(in alloc; "{FRONT}{block}{ROOT}")?;
+    assert_refused_before(alloc, block, ROOT, line, rule)
+}
+
+fn assert_refused_before(
+    alloc: Global,
+    block: &str,
+    behind: &str,
+    line: u64,
+    rule: u8,
+) -> Result<(), Fail> {
+    let text = format!(in alloc; "{FRONT}{block}{behind}")?;
     let refused = read_system(alloc, text.as_bytes()).err();
     same(
         block,
@@ -111,6 +121,21 @@ fn a_file_is_refused_at_its_end(rt: HostRuntime) -> Result<(), Fail> {
         assert_refused(alloc, &file, 37, rule)?;
     }
     Ok(())
+}
+
+#[test]
+fn the_end_of_the_text_is_named_before_the_file(rt: HostRuntime) -> Result<(), Fail> {
+    let alloc = rt.alloc();
+    for (changes, rule) in BROKEN {
+        let file = block(alloc, "elf hi 1 124", &changes, "end")?;
+        assert_refused_before(alloc, &file, "", 37, 10)?;
+        assert_refused_before(alloc, &file, "#", 37, rule)?;
+    }
+    let file = block(alloc, "elf hi 1 124", &[SAME; 6], "end")?;
+    assert_refused_before(alloc, &file, "", 37, 10)?;
+    assert_refused_before(alloc, &file, "#\n", 38, 10)?;
+    let file = block(alloc, "elf hi 1 120", &[SAME; 6], "end")?;
+    assert_refused_before(alloc, &file, "", 37, 8)
 }
 
 // The first and the last line of the block; the line and the rule that is named.
