@@ -1,5 +1,5 @@
 -- The rules for files, where they are rules of a line.
-use Rattle.std.proofs.Common.{◌≡◌, ℕ, ◌+◌, ◌*◌, ◌%◌, ◌≤◌, Bool, true, false, not, ◌&&◌, ◌||◌, eqb, List, [], ◌∷◌, map, length, Option, Some, None, Ok, Err, subst, refl, sym, ap, ◌∙◌, arith, inl, inr, ◌⊎◌}
+use Rattle.std.proofs.Common.{◌≡◌, ℕ, ◌+◌, ◌%◌, ◌≤◌, Bool, true, false, not, ◌&&◌, ◌||◌, eqb, List, [], ◌∷◌, map, Option, Some, None, Ok, Err, subst, refl, sym, ap, ◌∙◌, arith, inl, inr, ◌⊎◌}
 use Rattle.std.specs.List.{find, list_any}
 use Rattle.std.specs.Option.{option_map}
 use Rattle.std.proofs.lemmas.Bool.{or_left, or_right}
@@ -11,7 +11,6 @@ use Rattle.rv_elf.specs.Answers.{Refuses, AnswersBy}
 use Rattle.rv_elf.specs.File.{entry}
 use Rattle.rv_elf.specs.Loaded.{loaded}
 use Rattle.rv_elf.specs.declared.loading.Loaded.{Loaded}
-use Rattle.sys_text.proofs.FileWords.{length-loaded}
 use Rattle.rv_elf.specs.Refusal.{number_of_rule as number_of_elf_rule}
 use Rattle.rv_elf.specs.Rules.{rules as elf_rules, breaks, broken, lies_within}
 use Rattle.sys_text.specs.declared.refusal.Rule.{Rule}
@@ -22,7 +21,7 @@ use Rattle.sys_text.specs.declared.system.Image.{Image}
 use Rattle.sys_text.specs.declared.state.State.{State}
 use Rattle.sys_text.specs.Valid.{is_entry}
 use Rattle.sys_text.specs.Files.{file_of, words_of_bytes, trimmed, words_loaded, entry_loaded, breaks_in, broken_in}
-use Rattle.sys_text.specs.FileRefusals.{IsOfFile, RefusesFile}
+use Rattle.sys_text.specs.FileRefusals.{RefusesFile}
 use Rattle.sys_text.specs.Line as lines
 use Rattle.sys_text.specs.Rules.{breaks_as, lowest_of_file}
 use Rattle.sys_text.specs.WordLines.{RefusesBy}
@@ -64,12 +63,8 @@ any_in p rule (other ∷ rules) (inl here) e = or_left (p other) (list_any p rul
 any_in p rule (other ∷ rules) (inr later) e = or_right (p other) (list_any p rules) (any_in p rule rules later e)
 
 -- a rule that is broken is one of them
-pub any_of : (p : ElfRule → Bool) (rule : ElfRule) → p rule ≡ true → list_any p elf_rules ≡ true
+any_of : (p : ElfRule → Bool) (rule : ElfRule) → p rule ≡ true → list_any p elf_rules ≡ true
 any_of p rule e = any_in p rule elf_rules (is_one rule) e
-
-pub none_of_any : (p : ElfRule → Bool) → ((rule : ElfRule) → p rule ≡ false) → (rules : List ElfRule) → list_any p rules ≡ false
-none_of_any p none [] = refl
-none_of_any p none (rule ∷ rules) = rw (none rule, none_of_any p none rules) refl
 
 -- where none is found, none is broken
 fails_in : (p : ElfRule → Bool) (rules : List ElfRule) → find p rules ≡ None → list_any p rules ≡ false
@@ -123,16 +118,8 @@ pub entry_kept : (size : ℕ) (words : List ℕ) (pages : ℕ) → broken_in siz
 unfolding broken_in entry_loaded
 entry_kept size words pages none = entry_is (entry (file_of size words)) pages (none_at_all (breaks (file_of size words) pages) Entry none)
 
--- a block that is no file's breaks none
-pub no_file : (state : State) → state.file ≡ None → lowest_of_file state lines.End ≡ None
-no_file state none = rw none refl
-
 pub file_kept : (state : State) (image : Image) (size : ℕ) → state.block ≡ Some image → state.file ≡ Some size → broken_in size image.words image.pages ≡ None → lowest_of_file state lines.End ≡ None
 file_kept state image size is file none = file_found state image size is file ∙ ap (option_map Elf) none
-
-pub numbered : (refused : ElfRefused) (found : Option ElfRule) → Refuses refused found → IsOfFile refused
-numbered (elf_refusals.Rule number) found r = rw r.2 (up_to_ten r.0)
-numbered elf_refusals.NoMemory found r = tt
 
 pub refused_by : (state : State) (image : Image) (size n : ℕ) (refused : ElfRefused) (answer : SystemRefused) → state.block ≡ Some image → state.file ≡ Some size → Refuses refused (broken_in size image.words image.pages) → RefusesFile answer n refused
     → RefusesBy answer n (lowest_of_file state lines.End)
@@ -154,9 +141,6 @@ loader_entry size words file pages image is a = ap (λ (i : Loaded). i.entry) a.
 pub loader_words : (size : ℕ) (words file : List ℕ) (pages : ℕ) (image : Loaded) (all : List ℕ) → file ≡ file_of size words → AnswersBy file pages (broken file pages) (Ok image) → all ≡ trimmed (words_of_bytes image.bytes) → all ≡ words_loaded size words pages
 unfolding words_loaded
 loader_words size words file pages image all is a e = e ∙ ap (λ (i : Loaded). trimmed (words_of_bytes i.bytes)) a.1 ∙ ap (λ (f : List ℕ). trimmed (words_of_bytes (loaded f pages))) is
-
-pub loader_size : (file : List ℕ) (pages : ℕ) (image : Loaded) → AnswersBy file pages (broken file pages) (Ok image) → length image.bytes ≡ 256 * pages
-loader_size file pages image a = ap (λ (i : Loaded). length i.bytes) a.1 ∙ length-loaded file pages
 
 pub loader_refused : (size : ℕ) (words file : List ℕ) (pages : ℕ) (refused : ElfRefused) → file ≡ file_of size words → AnswersBy file pages (broken file pages) (Err refused) → Refuses refused (broken_in size words pages)
 unfolding broken_in

@@ -83,7 +83,3 @@ last_dropped words count size some is_zero =
 
 pub last_kept : (words : List ℕ) (count : ℕ) → count ≡ length words → 0 < count → eqb (get_or words (count - 1) 0) 0 ≡ false → trimmed words ≡ words
 last_kept words count size some kept = keeps_some words (count - 1) (omega (arith, size, some)) kept
-
-pub none_kept : (words : List ℕ) → length words ≡ 0 → trimmed words ≡ words
-none_kept [] e = refl
-none_kept (word ∷ words) e = absurd (omega (arith, e))
