@@ -47,12 +47,6 @@ either_false : (a b : Bool) → a ≡ false → b ≡ false → (a || b) ≡ fal
 either_false true b h g = h
 either_false false b h g = g
 
--- where none passes none of the last ones does
-none_dropped : {X : Type 0} (t : X → Bool) (n : ℕ) (xs : List X) → list_any t xs ≡ false → list_any t (drop n xs) ≡ false
-none_dropped t zero xs none = none
-none_dropped t (suc n) [] none = refl
-none_dropped t (suc n) (x ∷ xs) none = none_dropped t n xs (or_parts (t x) (list_any t xs) none).1
-
 -- ---- what a cluster sends
 
 -- only a cluster that lives sends

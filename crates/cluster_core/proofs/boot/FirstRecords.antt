@@ -1,13 +1,11 @@
 -- The records of the roots of a kernel at their start, one after another.
-use Rattle.std.proofs.Common.{◌≡◌, ℕ, refl, sym, ◌∙◌, ap, arith, List, [], ◌∷◌, ◌++◌, map, Bool, true, false, cond, eqb, eqb-true, eq-eqb, ltb, Option, Some, None, true≢false, Bor}
+use Rattle.std.proofs.Common.{◌≡◌, ℕ, refl, sym, ◌∙◌, ap, List, [], ◌∷◌, ◌++◌, map, Bool, true, false, cond, eqb, eqb-true, eq-eqb, ltb, Option, Some, None, true≢false, Bor}
 use Rattle.std.specs.Prelude.{option_map}
 use Rattle.std.specs.FinMap as finmap
 use Rattle.std.specs.Map.{lookup}
 use Rattle.std.specs.Option.{option_map_or}
 use Rattle.std.specs.Ordering.{nat_cmp}
 use Rattle.std.specs.List.Sorted.{IsStrictlySortedBy}
-use Rattle.std.specs.declared.cmp.Ordering.TheVariants.{Less}
-use Rattle.std.proofs.lemmas.Bool.Decides.{nat_tests}
 use Rattle.t32_base.specs.declared.process.Pid.{Pid}
 use Rattle.t32_base.specs.declared.process.ClusterNo.{ClusterNo}
 use Rattle.t32_base.specs.declared.letter.BackRec.{BackRec}
@@ -58,9 +56,6 @@ record_with r (s ∷ rest) p = by_tests (ltb (r.pid).0 (s.pid).0) (same_pid s.pi
     by_tests false false is more = ap (λ o. cond (same_pid s.pid p) (Some s) o) more ∙ apart (same_pid s.pid p) (same_pid r.pid p) is refl refl
 
 -- ---- one process more of a map that rises
-
-not_key : (m n : ℕ) → nat_cmp m n ≡ Less → eqb m n ≡ false
-not_key m n less = grind (arith, nat_tests)
 
 module _ (places : Places) (k : ClusterNo) (es : List (ℕ × ProcState)) (e : ℕ × ProcState) (rest : List (ℕ × ProcState)) (recs : List BackRec) (ordered : IsStrictlySortedBy nat_cmp (map (λ (d : ℕ × ProcState). d.0) (es ++ e ∷ rest)))
     (are : AreFirstRecords places k es recs) where
