@@ -7,11 +7,11 @@ use Rattle.rv_asm.specs.Program.{reading_of}
 use Rattle.rv_asm.specs.declared.refusal.Rule.{Rule}
 use Rattle.sys_text.specs.Reading.{is_end}
 use Rattle.hints.specs.declared.blocks.Block.{Block}
-use Rattle.hints.specs.Blocks.{kind_of, opened, with_line}
+use Rattle.hints.specs.Blocks.{keyword_of, opened, with_line}
 
 -- the block that the line with this number opens, where it stands in none
 abbrev pub begun : Option Block → (number : ℕ) → List ℕ → Option Block
-begun None number line = opened number (kind_of (fields_of line))
+begun None number line = opened number (keyword_of (fields_of line))
 begun (Some block) number line = None
 
 abbrev pub with_begun : Option Block → List Block → List Block

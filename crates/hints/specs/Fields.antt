@@ -4,22 +4,20 @@ use Rattle.std.specs.Str.{bytes_eq}
 use Rattle.text_parts.specs.Lines.{fields_of}
 use Rattle.text_parts.specs.Numbers.{number_of, word_of}
 use Rattle.sys_text.specs.Valid.{is_name}
-use Rattle.hints.specs.declared.kinds.Kind.{Kind}
+use Rattle.sys_text.specs.Kinds.{mode_named}
+use Rattle.sys_text.specs.declared.stage.Keyword.{Keyword}
 use Rattle.hints.specs.declared.kinds.Field.{Field}
 use Rattle.hints.specs.declared.kinds.Wanted.{Wanted}
 use Rattle.hints.specs.declared.kinds.Wanted.TheVariants as wants
 use Rattle.hints.specs.declared.fields.Bad.{Bad}
 use Rattle.hints.specs.Kinds.{field_at, wanted, limits}
 
-abbrev pub is_mode : List ℕ → Bool
-is_mode text = bytes_eq text (codes "quarter") || bytes_eq text (codes "half") || bytes_eq text (codes "full")
-
 -- the text is what a field has to be
 abbrev pub is_what : Wanted → List ℕ → Bool
 is_what wants.Number text = is_some (number_of text)
 is_what wants.Name text = is_name text
 is_what wants.Word text = is_some (word_of text)
-is_what wants.Mode text = is_mode text
+is_what wants.Mode text = is_some (mode_named text)
 
 abbrev pub is_outside : (low high value : ℕ) → Bool
 is_outside low high value = nat_lt value low || nat_lt high value
@@ -50,9 +48,9 @@ bad_or rule clusters None text rest = rest
 bad_or rule clusters (Some field) text rest = if breaks rule clusters field text then Some (field, text) else rest
 
 -- the first field that breaks the rule, where the first of these follows so many
-abbrev pub first_bad : (rule : ℕ) → Kind → (clusters index : ℕ) → List (List ℕ) → Option (Field × List ℕ)
-first_bad rule kind clusters index [] = None
-first_bad rule kind clusters index (text ∷ texts) = bad_or rule clusters (field_at kind index) text (first_bad rule kind clusters (index + 1) texts)
+abbrev pub first_bad : (rule : ℕ) → Keyword → (clusters index : ℕ) → List (List ℕ) → Option (Field × List ℕ)
+first_bad rule keyword clusters index [] = None
+first_bad rule keyword clusters index (text ∷ texts) = bad_or rule clusters (field_at keyword index) text (first_bad rule keyword clusters (index + 1) texts)
 
 -- the number of a line `clusters N`
 abbrev pub clusters_in : List (List ℕ) → Option ℕ

@@ -7,22 +7,22 @@ use Rattle.refusal_text.specs.Lines.{line_at}
 use Rattle.hints.specs.declared.blocks.Block.{Block}
 use Rattle.hints.specs.declared.guesses.Guess.{Guess}
 use Rattle.hints.specs.declared.guesses.Guess.TheVariants.{Comment, EndWithMore, InBlock, NoEnd, NoEndBefore}
-use Rattle.hints.specs.declared.kinds.Kind.{Kind}
-use Rattle.hints.specs.declared.kinds.Kind.TheVariants as kinds
-use Rattle.hints.specs.Blocks.{block_behind, kind_of}
+use Rattle.sys_text.specs.declared.stage.Keyword.{Keyword}
+use Rattle.sys_text.specs.declared.stage.Keyword.TheVariants as keywords
+use Rattle.hints.specs.Blocks.{block_behind, keyword_of}
 use Rattle.hints.specs.Kinds.{is_outside}
 
 -- of a line in the block that opens at the header, by its first field
-abbrev pub inside_by : (header : ℕ) → Option Kind → Option Guess
+abbrev pub inside_by : (header : ℕ) → Option Keyword → Option Guess
 inside_by header None = None
-inside_by header (Some kinds.End) = Some EndWithMore
-inside_by header (Some kind) = if is_outside kind then Some (InBlock header) else None
+inside_by header (Some keywords.End) = Some EndWithMore
+inside_by header (Some keyword) = if is_outside keyword then Some (InBlock header) else None
 
 -- of a line in a block
 abbrev pub inside : Option Block → Option (List ℕ) → Option Guess
 inside None line = None
 inside (Some block) None = None
-inside (Some block) (Some line) = inside_by block.header (kind_of (fields_of line))
+inside (Some block) (Some line) = inside_by block.header (keyword_of (fields_of line))
 
 -- a field of the line begins with `#`
 abbrev pub comment_in : Option (List ℕ) → Option Guess
@@ -30,15 +30,15 @@ comment_in None = None
 comment_in (Some line) = if list_any begins_comment (fields_of line) then Some Comment else None
 
 -- a line that is no line of words and has a first field of a system text
-abbrev pub suspects : Option Kind → Bool
+abbrev pub suspects : Option Keyword → Bool
 suspects None = false
-suspects (Some kinds.Words) = false
-suspects (Some kind) = true
+suspects (Some keywords.Words) = false
+suspects (Some keyword) = true
 
 -- the first such line behind the header, where these lines follow so many
 abbrev pub suspect_behind : (header count : ℕ) → List (List ℕ) → Option ℕ
 suspect_behind header count [] = None
-suspect_behind header count (line ∷ lines) = if nat_lt header (count + 1) && suspects (kind_of (fields_of line)) then Some (count + 1) else suspect_behind header (count + 1) lines
+suspect_behind header count (line ∷ lines) = if nat_lt header (count + 1) && suspects (keyword_of (fields_of line)) then Some (count + 1) else suspect_behind header (count + 1) lines
 
 abbrev pub unended_by : (header : ℕ) → Option ℕ → Guess
 unended_by header None = NoEnd header

@@ -1,22 +1,16 @@
 -- The lines of a system text by their first fields, and what the fields behind these are.
-use Rattle.std.specs.Prelude.{ℕ, ◌-◌, ◌==◌, Bool, true, false, List, [], ◌∷◌, codes, Option, Some, None, if◌then◌else◌}
-use Rattle.hints.specs.declared.kinds.Kind.{Kind}
-use Rattle.hints.specs.declared.kinds.Kind.TheVariants as kinds
+use Rattle.std.specs.Prelude.{ℕ, ◌-◌, ◌==◌, Bool, true, false, List, codes, Option, Some, None, if◌then◌else◌}
+use Rattle.sys_text.specs.declared.stage.Keyword.{Keyword}
+use Rattle.sys_text.specs.declared.stage.Keyword.TheVariants as keywords
 use Rattle.hints.specs.declared.kinds.Field.{Field}
 use Rattle.hints.specs.declared.kinds.Field.TheVariants as fields
 use Rattle.hints.specs.declared.kinds.Wanted.{Wanted}
 use Rattle.hints.specs.declared.kinds.Wanted.TheVariants as wants
 
-abbrev pub kinds_by_name : List (List ℕ × Kind)
-kinds_by_name =
-    (codes "clusters", kinds.Clusters) ∷ (codes "pager", kinds.Pager) ∷ (codes "syncreads", kinds.Syncreads) ∷ (codes "syncsteps", kinds.Syncsteps)
-    ∷ (codes "image", kinds.Image) ∷ (codes "asm", kinds.Asm) ∷ (codes "elf", kinds.Elf) ∷ (codes "words", kinds.Words) ∷ (codes "end", kinds.End)
-    ∷ (codes "root", kinds.Root) ∷ (codes "chan", kinds.Chan) ∷ []
-
 -- such a line stands outside blocks alone
-abbrev pub is_outside : Kind → Bool
-is_outside kinds.Words = false
-is_outside kinds.End = false
+abbrev pub is_outside : Keyword → Bool
+is_outside keywords.Words = false
+is_outside keywords.End = false
 is_outside _ = true
 
 abbrev pub first_or_second : (index : ℕ) → (first second : Option Field) → Option Field
@@ -39,18 +33,18 @@ root_field index =
     else None
 
 -- the field after so many others behind the first
-abbrev pub field_at : Kind → (index : ℕ) → Option Field
-field_at kinds.Clusters index = first_or_second index (Some fields.Clusters) None
-field_at kinds.Pager index = first_or_second index (Some fields.First) (Some fields.Second)
-field_at kinds.Syncreads index = first_or_second index (Some fields.Reads) None
-field_at kinds.Syncsteps index = first_or_second index (Some fields.Steps) None
-field_at kinds.Image index = header_field index (Some fields.Entry)
-field_at kinds.Asm index = header_field index None
-field_at kinds.Elf index = header_field index (Some fields.Len)
-field_at kinds.Words index = Some fields.Word
-field_at kinds.End index = None
-field_at kinds.Root index = root_field index
-field_at kinds.Chan index = first_or_second index (Some fields.RootA) (Some fields.RootB)
+abbrev pub field_at : Keyword → (index : ℕ) → Option Field
+field_at keywords.Clusters index = first_or_second index (Some fields.Clusters) None
+field_at keywords.Pager index = first_or_second index (Some fields.First) (Some fields.Second)
+field_at keywords.Syncreads index = first_or_second index (Some fields.Reads) None
+field_at keywords.Syncsteps index = first_or_second index (Some fields.Steps) None
+field_at keywords.Image index = header_field index (Some fields.Entry)
+field_at keywords.Asm index = header_field index None
+field_at keywords.Elf index = header_field index (Some fields.Len)
+field_at keywords.Words index = Some fields.Word
+field_at keywords.End index = None
+field_at keywords.Root index = root_field index
+field_at keywords.Chan index = first_or_second index (Some fields.RootA) (Some fields.RootB)
 
 abbrev pub name_of : Field → List ℕ
 name_of fields.Clusters = codes "N"

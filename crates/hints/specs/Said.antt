@@ -8,10 +8,11 @@ use Rattle.refusal_text.specs.Shown.{shown}
 use Rattle.hints.specs.declared.guesses.Guess.{Guess}
 use Rattle.hints.specs.declared.guesses.Guess.TheVariants.{Comment, EndWithMore, InBlock, NoEnd, NoEndBefore}
 use Rattle.hints.specs.declared.kinds.Field.{Field}
-use Rattle.hints.specs.declared.kinds.Kind.{Kind}
+use Rattle.sys_text.specs.declared.stage.Keyword.{Keyword}
 use Rattle.hints.specs.declared.kinds.Wanted.{Wanted}
 use Rattle.hints.specs.declared.kinds.Wanted.TheVariants as wants
-use Rattle.hints.specs.Kinds.{kinds_by_name, limits, name_of, wanted}
+use Rattle.sys_text.specs.Kinds.{keywords_by_name}
+use Rattle.hints.specs.Kinds.{limits, name_of, wanted}
 use Rattle.hints.specs.Fields.{first_bad, clusters_of}
 use Rattle.hints.specs.Guesses.{guess_of}
 
@@ -44,13 +45,13 @@ field_text rule clusters bad =
     name_of bad.0 ++ codes " is " ++ shown bad.1 ++ (if rule == 4 then wanted_text (wanted bad.0) else limits_text (limits clusters bad.0))
 
 -- the first of these fields says what the others are
-abbrev pub bad_by : (rule clusters : ℕ) → Option Kind → List (List ℕ) → Option (Field × List ℕ)
+abbrev pub bad_by : (rule clusters : ℕ) → Option Keyword → List (List ℕ) → Option (Field × List ℕ)
 bad_by rule clusters None texts = None
-bad_by rule clusters (Some kind) texts = first_bad rule kind clusters 0 texts
+bad_by rule clusters (Some keyword) texts = first_bad rule keyword clusters 0 texts
 
 abbrev pub bad_among : (rule clusters : ℕ) → List (List ℕ) → Option (Field × List ℕ)
 bad_among rule clusters [] = None
-bad_among rule clusters (first ∷ texts) = bad_by rule clusters (lookup kinds_by_name first) texts
+bad_among rule clusters (first ∷ texts) = bad_by rule clusters (lookup keywords_by_name first) texts
 
 abbrev pub bad_in : (rule clusters : ℕ) → Option (List ℕ) → Option (Field × List ℕ)
 bad_in rule clusters None = None

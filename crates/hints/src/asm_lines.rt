@@ -3,9 +3,10 @@ ghost use Rattle.std.specs.Prelude.{◌≡◌, IfOk};
 ghost use Rattle.text_parts.specs.Lines.{lines_of};
 ghost use Rattle.hints.specs.AsmLines.{asm_line as asm_line_of, begun as begun_by, behind_colon as behind_colon_of, block_with as block_with_of, has_space as has_space_of, names_address as names_address_of, size_of as size_of_line, size_with_label as size_with_label_of, statement_in, word_line as word_line_of};
 
-use crate::blocks::{Block, is_end, kind_of, opened, with_line};
+use crate::blocks::{Block, keyword_of, opened, with_line};
 use rv_asm::{AsmRefused, assemble};
 use std::alloc::Global;
+use sys_text::is_end;
 use t32_base::streams::NoMemory;
 use text_parts::{cut_at, first_field, first_line, trim_start};
 
@@ -48,7 +49,7 @@ fn begun(around: Option<Block>, number: u64, line: &[u8]) -> Option<Block>
     ensures { result ≡ begun_by around number line.now }
 {
     match around {
-        None => opened(number, kind_of(line)),
+        None => opened(number, keyword_of(line)),
         Some(_) => None,
     }
 }

@@ -1,11 +1,9 @@
 //! The blocks of a system text.
-ghost use Rattle.std.specs.Prelude.{◌≡◌, codes};
-ghost use Rattle.std.specs.Str.{bytes_eq};
+ghost use Rattle.std.specs.Prelude.{◌≡◌};
 ghost use Rattle.text_parts.specs.Lines.{fields_of, lines_of};
-ghost use Rattle.sys_text.specs.Reading.{is_end as is_end_of};
-ghost use Rattle.hints.specs.Blocks.{block_behind as block_behind_of, kind_of as kind_of_line, opened as opened_by, with_line as with_line_of};
+ghost use Rattle.hints.specs.Blocks.{block_behind as block_behind_of, keyword_of as keyword_of_line, opened as opened_by, with_line as with_line_of};
 
-use crate::kinds::{Kind, kind_named};
+use sys_text::{Keyword, is_end, keyword_named};
 use text_parts::{first_field, first_line};
 
 /// A block: the number of the line that opens it, and whether the assembler reads it.
@@ -38,21 +36,21 @@ pub fn with_line(around: Option<Block>, number: u64, line: &[u8]) -> Option<Bloc
     ensures { result ≡ with_line_of around number line.now }
 {
     match around {
-        None => opened(number, kind_of(line)),
+        None => opened(number, keyword_of(line)),
         Some(block) => { if is_end(line) { None } else { Some(block) } }
     }
 }
 
 /// The block that such a line opens.
-pub fn opened(number: u64, kind: Option<Kind>) -> Option<Block>
-    ensures { result ≡ opened_by number kind }
+pub fn opened(number: u64, keyword: Option<Keyword>) -> Option<Block>
+    ensures { result ≡ opened_by number keyword }
 {
-    match kind {
-        Some(Kind::Image | Kind::Elf) => Some(Block {
+    match keyword {
+        Some(Keyword::Image | Keyword::Elf) => Some(Block {
             header: number,
             asm: false,
         }),
-        Some(Kind::Asm) => Some(Block {
+        Some(Keyword::Asm) => Some(Block {
             header: number,
             asm: true,
         }),
@@ -61,28 +59,9 @@ pub fn opened(number: u64, kind: Option<Kind>) -> Option<Block>
 }
 
 /// What the first field of a line says.
-pub fn kind_of(line: &[u8]) -> Option<Kind>
-    ensures { result ≡ kind_of_line (fields_of line.now) }
+pub fn keyword_of(line: &[u8]) -> Option<Keyword>
+    ensures { result ≡ keyword_of_line (fields_of line.now) }
 {
     let (field, _) = first_field(line)?;
-    kind_named(field)
-}
-
-/// Is the only field of the line `end`?
-pub fn is_end(line: &[u8]) -> bool
-    ensures { result ≡ is_end_of (fields_of line.now) }
-{
-    let Some((field, rest)) = first_field(line) else {
-        return false;
-    };
-    match first_field(rest) {
-        Some(_) => false,
-        None => is_end_word(field),
-    }
-}
-
-fn is_end_word(field: &[u8]) -> bool
-    ensures { result ≡ bytes_eq field.now (codes "end") }
-{
-    field == b"end".as_slice()
+    keyword_named(field)
 }

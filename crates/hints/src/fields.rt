@@ -1,13 +1,13 @@
 //! Which field of a line of a system text breaks rule 4 or 5.
 ghost use Rattle.std.specs.Prelude.{◌≡◌, ◌||◌, ◌==◌, codes, is_none, is_some, length, option_map, take};
-ghost use Rattle.std.specs.List.{list_all};
 ghost use Rattle.std.specs.Str.{bytes_eq};
 ghost use Rattle.text_parts.specs.Lines.{fields_of, lines_of};
 ghost use Rattle.text_parts.specs.Numbers.{number_of, word_of};
-ghost use Rattle.sys_text.specs.Valid.{is_letter as is_letter_of, is_name as is_name_of, is_name_byte as is_name_byte_of};
-ghost use Rattle.hints.specs.Fields.{bad_of, breaks as breaks_rule, clusters_in as clusters_in_fields, clusters_of as clusters_of_lines, exceeds as exceeds_limits, first_bad as first_bad_of, is_mode as is_mode_of, is_outside as is_outside_of, is_what as is_what_of};
+ghost use Rattle.hints.specs.Fields.{bad_of, breaks as breaks_rule, clusters_in as clusters_in_fields, clusters_of as clusters_of_lines, exceeds as exceeds_limits, first_bad as first_bad_of, is_outside as is_outside_of, is_what as is_what_of};
 
-use crate::kinds::{Field, Kind, Wanted};
+use crate::kinds::{Field, Wanted, field_at};
+use sys_text::valid::is_name;
+use sys_text::{Keyword, mode_named};
 use text_parts::{first_field, first_line, number, word};
 
 /// A field that breaks a rule, and its text.
@@ -18,13 +18,13 @@ pub struct Bad<'a> {
 }
 
 /// The first field of these, which stand behind the first of their line, that breaks the rule, 4 or 5.
-pub fn first_bad(rule: u8, kind: Kind, clusters: u64, fields: &[u8]) -> Option<Bad<'_>>
-    ensures { option_map bad_of result ≡ first_bad_of rule kind clusters 0 (fields_of fields.now) }
+pub fn first_bad(rule: u8, keyword: Keyword, clusters: u64, fields: &[u8]) -> Option<Bad<'_>>
+    ensures { option_map bad_of result ≡ first_bad_of rule keyword clusters 0 (fields_of fields.now) }
 {
     let mut rest = fields;
     let mut index = 0u64;
     'fields: while let Some((text, after)) = first_field(rest) {
-        if let Some(field) = kind.field_at(index) {
+        if let Some(field) = field_at(keyword, index) {
             if breaks(rule, field, clusters, text) {
                 return Some(Bad { field, text });
             }
@@ -54,48 +54,8 @@ fn is_what(wanted: Wanted, text: &[u8]) -> bool
         Wanted::Number => number(text).is_some(),
         Wanted::Name => is_name(text),
         Wanted::Word => word(text).is_some(),
-        Wanted::Mode => is_mode(text),
+        Wanted::Mode => mode_named(text).is_some(),
     }
-}
-
-fn is_mode(text: &[u8]) -> bool
-    ensures { result ≡ is_mode_of text.now }
-{
-    text == b"quarter".as_slice() || text == b"half".as_slice() || text == b"full".as_slice()
-}
-
-fn is_name(name: &[u8]) -> bool
-    ensures { result ≡ is_name_of name.now }
-{
-    let size = name.len();
-    1 <= size && size <= 16 && begins_with_letter(name) && are_name_bytes(name)
-}
-
-fn begins_with_letter(name: &[u8]) -> bool
-    ensures { result ≡ list_all is_letter_of (take 1 name.now) }
-{
-    match name {
-        [first, ..] => is_letter(*first),
-        [] => true,
-    }
-}
-
-fn are_name_bytes(name: &[u8]) -> bool
-    ensures { result ≡ list_all is_name_byte_of name.now }
-{
-    name.iter().all(|c| is_name_byte(*c))
-}
-
-fn is_letter(c: u8) -> bool
-    ensures { result ≡ is_letter_of c }
-{
-    97 <= c && c <= 122
-}
-
-fn is_name_byte(c: u8) -> bool
-    ensures { result ≡ is_name_byte_of c }
-{
-    is_letter(c) || (48 <= c && c <= 57)
 }
 
 // Is the text a number outside its limits?

@@ -5,9 +5,10 @@ ghost use Rattle.text_parts.specs.Lines.{fields_of, lines_of};
 ghost use Rattle.sys_text.specs.Rules.{begins_comment as begins_comment_of};
 ghost use Rattle.hints.specs.Guesses.{comment_in, guess_of as guess_of_lines, inside as inside_of, suspect_behind as suspect_behind_of, suspects as suspects_of, unended as unended_of, unended_by};
 
-use crate::blocks::{Block, block_behind, kind_of};
-use crate::kinds::Kind;
+use crate::blocks::{Block, block_behind, keyword_of};
+use crate::kinds::is_outside;
 use refusal_text::lines::line_after;
+use sys_text::{Keyword, begins_comment};
 use text_parts::{first_field, first_line};
 
 /// What is guessed of a refused line.
@@ -43,9 +44,9 @@ fn inside(block: Option<Block>, line: Option<&[u8]>) -> Option<Guess>
     ensures { result ≡ inside_of block (option_map (λ s. s.now) line.entry) }
 {
     let header = block?.header;
-    match kind_of(line?) {
-        Some(Kind::End) => Some(Guess::EndWithMore),
-        Some(kind) if kind.is_outside() => Some(Guess::InBlock { header }),
+    match keyword_of(line?) {
+        Some(Keyword::End) => Some(Guess::EndWithMore),
+        Some(keyword) if is_outside(keyword) => Some(Guess::InBlock { header }),
         _ => None,
     }
 }
@@ -71,15 +72,6 @@ fn has_comment(line: &[u8]) -> bool
         rest = after;
     }
     false
-}
-
-fn begins_comment(field: &[u8]) -> bool
-    ensures { result ≡ begins_comment_of field.now }
-{
-    match field {
-        [b'#', ..] => true,
-        _ => false,
-    }
 }
 
 // What is guessed of a text that ends in this block.
@@ -108,7 +100,7 @@ fn suspect_behind(text: &[u8], header: u64) -> Option<u64>
     while !rest.is_empty() {
         let (line, after) = first_line(rest);
         count += 1;
-        if count > header && suspects(kind_of(line)) {
+        if count > header && suspects(keyword_of(line)) {
             return Some(count);
         }
         rest = after;
@@ -116,11 +108,11 @@ fn suspect_behind(text: &[u8], header: u64) -> Option<u64>
     None
 }
 
-fn suspects(kind: Option<Kind>) -> bool
-    ensures { result ≡ suspects_of kind }
+fn suspects(keyword: Option<Keyword>) -> bool
+    ensures { result ≡ suspects_of keyword }
 {
-    match kind {
-        None | Some(Kind::Words) => false,
+    match keyword {
+        None | Some(Keyword::Words) => false,
         Some(_) => true,
     }
 }

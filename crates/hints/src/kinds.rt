@@ -1,39 +1,8 @@
 //! The lines of a system text by their first fields, and what the fields behind these are.
 ghost use Rattle.std.specs.Prelude.{◌≡◌, if◌then◌else◌, ◌==◌, None, Some};
-ghost use Rattle.text_parts.specs.Table.{lookup as lookup_in};
-ghost use Rattle.hints.specs.Kinds.{field_at as field_of_kind, first_or_second as first_or_second_of, header_field as header_field_of, is_outside as stands_outside, kinds_by_name, limits as limits_of, name_of, root_field as root_field_at, wanted as wanted_of};
+ghost use Rattle.hints.specs.Kinds.{field_at as field_of_keyword, first_or_second as first_or_second_of, header_field as header_field_of, is_outside as stands_outside, limits as limits_of, name_of, root_field as root_field_at, wanted as wanted_of};
 
-use text_parts::lookup;
-
-/// What the first field of a line says.
-#[derive(Clone, Copy, PartialEq, Eq, Debug)]
-pub enum Kind {
-    Clusters,
-    Pager,
-    Syncreads,
-    Syncsteps,
-    Image,
-    Asm,
-    Elf,
-    Words,
-    End,
-    Root,
-    Chan,
-}
-
-const KINDS: [(&[u8], Kind); 11] = [
-    (b"clusters", Kind::Clusters),
-    (b"pager", Kind::Pager),
-    (b"syncreads", Kind::Syncreads),
-    (b"syncsteps", Kind::Syncsteps),
-    (b"image", Kind::Image),
-    (b"asm", Kind::Asm),
-    (b"elf", Kind::Elf),
-    (b"words", Kind::Words),
-    (b"end", Kind::End),
-    (b"root", Kind::Root),
-    (b"chan", Kind::Chan),
-];
+use sys_text::Keyword;
 
 /// A field behind the first, by the name that the formats give it.
 #[derive(Clone, Copy, PartialEq, Eq, Debug)]
@@ -67,38 +36,29 @@ pub enum Wanted {
     Mode,
 }
 
-/// What this first field says.
-pub fn kind_named(field: &[u8]) -> Option<Kind>
-    ensures { result ≡ lookup_in kinds_by_name field.now }
+/// Does such a line stand outside blocks alone?
+pub fn is_outside(keyword: Keyword) -> bool
+    ensures { result ≡ stands_outside keyword }
 {
-    lookup(&KINDS, field)
+    !matches!(keyword, Keyword::Words | Keyword::End)
 }
 
-impl Kind {
-    /// Does such a line stand outside blocks alone?
-    pub fn is_outside(self) -> bool
-        ensures { result ≡ stands_outside self }
-    {
-        !matches!(self, Kind::Words | Kind::End)
-    }
-
-    /// The field after so many others behind the first.
-    pub fn field_at(self, index: u64) -> Option<Field>
-        ensures { result ≡ field_of_kind self index }
-    {
-        match self {
-            Kind::Clusters => first_or_second(index, Some(Field::Clusters), None),
-            Kind::Pager => first_or_second(index, Some(Field::First), Some(Field::Second)),
-            Kind::Syncreads => first_or_second(index, Some(Field::Reads), None),
-            Kind::Syncsteps => first_or_second(index, Some(Field::Steps), None),
-            Kind::Image => header_field(index, Some(Field::Entry)),
-            Kind::Asm => header_field(index, None),
-            Kind::Elf => header_field(index, Some(Field::Len)),
-            Kind::Words => Some(Field::Word),
-            Kind::End => None,
-            Kind::Root => root_field(index),
-            Kind::Chan => first_or_second(index, Some(Field::RootA), Some(Field::RootB)),
-        }
+/// The field after so many others behind the first.
+pub fn field_at(keyword: Keyword, index: u64) -> Option<Field>
+    ensures { result ≡ field_of_keyword keyword index }
+{
+    match keyword {
+        Keyword::Clusters => first_or_second(index, Some(Field::Clusters), None),
+        Keyword::Pager => first_or_second(index, Some(Field::First), Some(Field::Second)),
+        Keyword::Syncreads => first_or_second(index, Some(Field::Reads), None),
+        Keyword::Syncsteps => first_or_second(index, Some(Field::Steps), None),
+        Keyword::Image => header_field(index, Some(Field::Entry)),
+        Keyword::Asm => header_field(index, None),
+        Keyword::Elf => header_field(index, Some(Field::Len)),
+        Keyword::Words => Some(Field::Word),
+        Keyword::End => None,
+        Keyword::Root => root_field(index),
+        Keyword::Chan => first_or_second(index, Some(Field::RootA), Some(Field::RootB)),
     }
 }
 

@@ -6,10 +6,10 @@ ghost use Rattle.hints.specs.Said.{bad_among, bad_in, field_hint as field_hint_o
 
 use crate::fields::{Bad, clusters_of, first_bad};
 use crate::guesses::{Guess, guess_of};
-use crate::kinds::kind_named;
 use crate::said::{head, put_field, put_guess};
 use refusal_text::lines::line_after;
 use std::alloc::Global;
+use sys_text::keyword_named;
 use t32_base::lists::Text;
 use t32_base::streams::NoMemory;
 use text_parts::first_field;
@@ -65,6 +65,6 @@ fn bad_among(rule: u8, clusters: u64, line: &[u8]) -> Option<Bad<'_>>
     ensures { option_map bad_of result ≡ bad_among rule clusters (fields_of line.now) }
 {
     let (first, rest) = first_field(line)?;
-    let kind = kind_named(first)?;
-    first_bad(rule, kind, clusters, rest)
+    let keyword = keyword_named(first)?;
+    first_bad(rule, keyword, clusters, rest)
 }

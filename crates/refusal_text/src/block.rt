@@ -1,12 +1,11 @@
 //! The assembler block in which a line stands, and the rule of the assembler that the line breaks.
-ghost use Rattle.std.specs.Prelude.{◌≡◌, ◌≤◌, IfOk, codes, if◌then◌else◌, length};
-ghost use Rattle.std.specs.Str.{bytes_eq};
-ghost use Rattle.text_parts.specs.Lines.{fields_of, lines_of};
-ghost use Rattle.sys_text.specs.Reading.{is_end as is_end_of};
+ghost use Rattle.std.specs.Prelude.{◌≡◌, ◌≤◌, IfOk, if◌then◌else◌, length};
+ghost use Rattle.text_parts.specs.Lines.{lines_of};
 ghost use Rattle.refusal_text.specs.Block.{block_size as block_size_of, header_before as header_before_of, inner_rule as inner_rule_of, opens_block as opens_block_of};
 
 use rv_asm::{AsmRefused, assemble};
 use std::alloc::Global;
+use sys_text::is_end;
 use t32_base::streams::NoMemory;
 use text_parts::{first_field, first_line, split_lines};
 
@@ -81,22 +80,4 @@ fn block_size(text: &[u8]) -> u64
         rest = after;
     }
     count
-}
-
-fn is_end(line: &[u8]) -> bool
-    ensures { result ≡ is_end_of (fields_of line.now) }
-{
-    let Some((field, rest)) = first_field(line) else {
-        return false;
-    };
-    match first_field(rest) {
-        Some(_) => false,
-        None => is_end_word(field),
-    }
-}
-
-fn is_end_word(field: &[u8]) -> bool
-    ensures { result ≡ bytes_eq field.now (codes "end") }
-{
-    field == b"end".as_slice()
 }

@@ -22,14 +22,15 @@ fn is_end_field(field: &[u8]) -> bool
     field == b"end".as_slice()
 }
 
-/// Does the line end an assembler block? Few lines begin as one that does.
+/// Is `end` the only field of the line? An assembler block ends at the first such line.
 #[tactic(auto, using(crate::proofs::Blocks::other_first_field))]
-fn is_end(line: &[u8]) -> bool
+pub fn is_end(line: &[u8]) -> bool
     ensures { result ≡ is_end (fields_of line.now) }
 {
     let Some((field, rest)) = first_field(line) else {
         return false;
     };
+    // Few lines begin so.
     if !is_end_field(field) {
         return false;
     }

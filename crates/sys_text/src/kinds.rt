@@ -27,12 +27,14 @@ const MODES: [(&[u8], Mode); 3] = [
     (b"full", Mode::Full),
 ];
 
+/// The keyword that a first field of a line is, wherever the line stands; `None` where it is none.
 pub fn keyword_named(field: &[u8]) -> Option<Keyword>
     ensures { result ≡ lookup_in keywords_by_name field.now }
 {
     lookup(&KEYWORDS, field)
 }
 
+/// The mode that a field names; `None` where it names none.
 pub fn mode_named(field: &[u8]) -> Option<Mode>
     ensures { result ≡ mode_named_in field.now }
 {

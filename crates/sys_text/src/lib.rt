@@ -18,5 +18,9 @@ mod types;
 pub mod valid;
 mod word_lines;
 
+pub use block::is_end;
+pub use kinds::{keyword_named, mode_named};
 pub use reading::{elf_blocks_load, read_system, systems_read_back};
 pub use refusal::{Rule, SystemRefused};
+pub use rules::begins_comment;
+pub use stage::Keyword;

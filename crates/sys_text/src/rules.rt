@@ -202,8 +202,8 @@ pub fn broken_rule<'a>(reader: &Reader<'a>, line: Line<'a>) -> Option<Rule>
     }
 }
 
-/// Is it the first field of a line that is skipped?
-fn begins_comment(field: &[u8]) -> bool
+/// Is the first byte of a field `#`? A line whose first field begins so is skipped.
+pub fn begins_comment(field: &[u8]) -> bool
     ensures { result ≡ begins_comment field.now }
 {
     match field {

@@ -100,7 +100,8 @@ fn fit(words: &[u32], pages: u16) -> bool
     words.len() <= 64 * usize::from(pages)
 }
 
-pub(crate) fn is_name(name: &[u8]) -> bool
+/// May an image have this name: a letter a to z, and up to 15 letters a to z or digits?
+pub fn is_name(name: &[u8]) -> bool
     ensures { result ≡ is_name_of name.now }
 {
     let size = name.len();

@@ -5,7 +5,7 @@ use Rattle.hints.proofs.fields.first_bad.Given as goal
 
 abbrev pub invariant-fields : goal.invariant-fields
 invariant-fields l = record {
-  same : first_bad l.rule l.kind l.clusters l.index (fields_of l.rest) ≡ first_bad l.rule l.kind l.clusters 0 (fields_of l.fields);
+  same : first_bad l.rule l.keyword l.clusters l.index (fields_of l.rest) ≡ first_bad l.rule l.keyword l.clusters 0 (fields_of l.fields);
   few : l.index + length l.rest ≤ length l.fields;
 }
 
