@@ -1,5 +1,5 @@
 -- The marks of the processes behind the pages of one that gets a new backup.
-use Rattle.std.proofs.Common.{◌≡◌, ◌≤◌, ◌<◌, ℕ, refl, sym, ◌∙◌, ap, subst, List, [], ◌∷◌, ◌++◌, map, true, false, Option, true≢false}
+use Rattle.std.proofs.Common.{◌≡◌, ◌≤◌, ℕ, refl, sym, ◌∙◌, ap, List, [], ◌∷◌, ◌++◌, map, true, false, Option, true≢false}
 use Rattle.std.specs.Prelude.{replicate}
 use Rattle.std.specs.Option.{option_map_or}
 use Rattle.t32_base.specs.declared.process.Pid.{Pid}
@@ -10,13 +10,11 @@ use Rattle.sys_text.specs.Valid.{is_system}
 use Rattle.rv_mem.specs.Memory.{page_at}
 use Rattle.proc_state.specs.declared.process.Process.{Process}
 use Rattle.proc_state.specs.State.{ProcState, state_of}
-use Rattle.bus_msg.specs.declared.entry.Post.{Post}
 use Rattle.bus_msg.specs.declared.entry.Entry.{Entry}
 use Rattle.bus_msg.specs.Places.{same_pid}
 use Rattle.cert_sched.specs.Appended.{entry_of}
 use Rattle.cert_sched.specs.Deeds.{arrived_count}
-use Rattle.cert_sched.specs.Parts.{rising}
-use Rattle.cert_sched.specs.Steps.{numbers_read, saved_of, start_steps}
+use Rattle.cert_sched.specs.Steps.{numbers_read}
 use Rattle.cert_sched.specs.Legal.{IsLegalBy, Stands}
 use Rattle.cert_sched.specs.Simulation.{IsUnended}
 use Rattle.cert_sched.proofs.LogLaws.{IsLegal-snoc}
@@ -33,7 +31,7 @@ use Rattle.checkpoint_laws.specs.batches.Underway.{PagesMay, page_left}
 use Rattle.checkpoint_laws.proofs.batches.PageSent.{pages_sent}
 use Rattle.checkpoint_laws.proofs.batches.QueuedBatch.{pages_before, pages_kept, pages_others, pages_own, pages_sent_before, sent_before}
 use Rattle.checkpoint_laws.proofs.batches.RestStands.{page_may_stand}
-use Rattle.checkpoint_laws.proofs.batches.WholeAccount.{count_left, size_left, whole_left}
+use Rattle.checkpoint_laws.proofs.batches.WholeAccount.{size_left, whole_left}
 use Rattle.backup_mode.specs.Posts.{fresh_post}
 use Rattle.backup_laws.specs.Posts.{CountsFrom, renewal_left}
 use Rattle.backup_laws.proofs.RenewedMarks.{fresh_beside, fresh_marks}

@@ -1,5 +1,5 @@
 -- The pages of a process that gets a new backup, and what is sent behind them, may stand post by post.
-use Rattle.std.proofs.Common.{◌≡◌, refl, sym, ◌∙◌, ap, ℕ, List, [], ◌∷◌, ◌++◌, map, true, not, Option, Some}
+use Rattle.std.proofs.Common.{◌≡◌, refl, ◌∙◌, ap, ℕ, List, [], ◌∷◌, ◌++◌, map, true, false, not, Some}
 use Rattle.std.specs.Option.{option_map_or}
 use Rattle.std.specs.List.{list_all}
 use Rattle.std.proofs.lemmas.Bool.{and_parts}
@@ -64,9 +64,11 @@ module _ (system : System) (k : ClusterNo) (p : Pid) (s : ProcState) where
     renewal_stands log [] valid legal m backup =
         (fresh_stands system log k to p s valid legal m.may (record { backup = backup; children = m.children; account = whole_left system log k p s valid legal m.may m.left }), tt)
     renewal_stands log (i ∷ js) valid legal m backup =
-        let next = page_may_stand system log k p s i js m in
-        (next, renewal_stands (after log i) js valid (IsLegal-snoc Stands system log (entry_of system log (page_of i)) legal next) (pages_sent system log k p s i js m)
-        (ap (λ places. next_backup_at places p) (page_places system log (entry_of system log (page_of i)) p (s.small).steps i (page_at s.memory i) refl) ∙ backup))
+        let next = page_may_stand system log k p s i js m in (
+          next,
+          renewal_stands (after log i) js valid (IsLegal-snoc Stands system log (entry_of system log (page_of i)) legal next) (pages_sent system log k p s i js m)
+              (ap (λ places. next_backup_at places p) (page_places system log (entry_of system log (page_of i)) p (s.small).steps i (page_at s.memory i) refl) ∙ backup),
+        )
 
     pub renewal_is_new : (log : List Entry) (indices : List ℕ) → PagesMay system log k p s indices → AllNew system log (renewal_left k to p s indices)
     renewal_is_new log [] m = (refl, tt)

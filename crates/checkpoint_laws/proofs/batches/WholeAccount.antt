@@ -58,7 +58,7 @@ module _ (system : System) (log : List Entry) (k : ClusterNo) (p : Pid) (before 
   same = silent_sizes ((before.small).steps - done from.kernel p) was before from.silent
 
   size : length before.memory ≡ 256 * n
-  size = ap length same.bytes ∙ process_sized system log p was valid there
+  size = same.bytes ∙ process_sized system log p was valid there
 
   paged : ArePaged n now
   paged = (both_paged system p log was valid legal there).now
@@ -70,10 +70,7 @@ module _ (system : System) (log : List Entry) (k : ClusterNo) (p : Pid) (before 
       by_place (inl within) = left.account q (subst (λ m. q < m) (sym count) within) refl ∙ sym (page_found before.memory n q size within)
       by_place (inr behind) = paged.within q behind ∙ sym (no_page_behind before.memory n q size behind)
 
-  -- it has as many pages as the log says, each of 256 bytes
-  pub count_left : page_count system log p ≡ (before.small).pages
-  count_left = count ∙ sym same.pages
-
+  -- each of its pages has 256 bytes
   pub size_left : length before.memory ≡ 256 * (before.small).pages
   size_left = size ∙ sym (ap (λ m. 256 * m) same.pages)
 
