@@ -22,3 +22,4 @@ pub mod Slots
 pub mod Absorbing
 pub mod Told
 pub mod Hearing
+pub mod Returned

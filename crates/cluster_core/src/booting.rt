@@ -84,7 +84,7 @@ pub fn parts_at_boot<D: PageDisk + Drop>(
 }
 
 // The limits by which the processes of a system synchronise.
-fn limits_of(system: &System) -> Limits
+pub(crate) fn limits_of(system: &System) -> Limits
     ensures { result ≡ limits_of system.now }
 {
     Limits {

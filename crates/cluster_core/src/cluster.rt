@@ -8,10 +8,11 @@ ghost use Rattle.page_accounts.specs.Booting.{IsAhead};
 ghost use Rattle.cluster_core.specs.Serving.{HurtsServer, IsFailing};
 ghost use Rattle.cluster_core.specs.View.{head_of, after_sent, counted_once, disk_calls, failed_at, failing_in, tried_once, with_server};
 ghost use Rattle.cluster_core.specs.Follows.{FollowsBuilt};
+ghost use Rattle.cluster_core.specs.Returned.{returned};
 ghost use Rattle.cluster_core.specs.Calls.{Absorbs, absorbed, FollowsSome, GoesOn, HurtBy, HurtIs, is_resting, IsFirst, KeepsPlace, ReadyFor, RestsIn, rests_of, StopsBy, WorkIs};
 
 use crate::absorb::{note, tell};
-use crate::booting::parts_at_boot;
+use crate::booting::{limits_of, parts_at_boot};
 use crate::families::join;
 use crate::hurt::Hurt;
 use crate::residents::Residents;
@@ -117,6 +118,39 @@ impl<D: PageDisk + Drop> Cluster<D> {
             tried: false,
             steps: 0,
             failed: parts.failed,
+        })
+    }
+
+    /// A cluster that has come back, behind its return in the log: it has the placement and the children that never
+    /// synchronised as they are then, and counts its kernel steps on from those that it made before. It has no process,
+    /// no record and no disk. Only its system's handle takes memory.
+    pub fn fresh(
+        alloc: Global,
+        system: &Arc<System>,
+        number: ClusterNo,
+        places: Placement,
+        family: Family,
+        cursor: u64,
+        steps: u64,
+    ) -> Result<Cluster<D>, NoMemory>
+        requires valid { is_system (arc_value system.now) ≡ true }
+        requires has { number.0 < (arc_value system.now).clusters }
+        ensures { IfOk result (λ c. c ≡ returned (arc_value system.now) number places family cursor steps) }
+    {
+        Ok(Cluster {
+            alloc,
+            number,
+            cursor,
+            places,
+            here: Residents::none(alloc, limits_of(system)),
+            records: Records::none(alloc),
+            family,
+            server: None,
+            queue: VecDeque::new(alloc),
+            tried: false,
+            steps,
+            failed: None,
+            system: system.clone()?,
         })
     }
 

@@ -10,6 +10,7 @@ pub mod hurt;
 pub mod quantum;
 pub mod resident;
 mod residents;
+pub mod returned;
 mod serving;
 pub mod steps_left;
 mod taking_over;

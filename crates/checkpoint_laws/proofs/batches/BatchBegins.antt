@@ -1,5 +1,5 @@
 -- A batch that is queued is under way: its pages are those that are marked, and any other is that of the account.
-use Rattle.std.proofs.Common.{◌≡◌, ℕ, ◌<◌, sym, ◌∙◌, ap, subst, arith, List, [], ◌∷◌, ◌++◌, length, map, true, false, not, ◌||◌, ltb, Option, Some, is_some}
+use Rattle.std.proofs.Common.{◌≡◌, ℕ, ◌<◌, refl, sym, ◌∙◌, ap, subst, arith, List, [], ◌∷◌, ◌++◌, length, map, true, false, not, ◌||◌, ltb, Option, Some, is_some}
 use Rattle.std.specs.List.{list_all}
 use Rattle.std.specs.Option.{option_map_or}
 use Rattle.t32_base.specs.declared.process.Pid.{Pid}
@@ -27,7 +27,7 @@ use Rattle.checkpoint_laws.proofs.posts.MarksLead.{was_there, marks_count, marks
 use Rattle.checkpoint_laws.proofs.posts.CutReads.{cut_reads, cut_takes}
 use Rattle.checkpoint_laws.proofs.posts.TakeLeaves.{goes_on_after}
 use Rattle.checkpoint_laws.proofs.posts.BatchStands.{own_pid}
-use Rattle.checkpoint_laws.specs.batches.Underway.{BatchMay, posts_left}
+use Rattle.checkpoint_laws.specs.batches.Underway.{BatchMay, PagesLeft, PagesMay, posts_left}
 use Rattle.checkpoint_laws.proofs.batches.MarkedPages.{passing_all, passing_rising}
 
 module _ (system : System) (log : List Entry) (p : Pid) (process : Process) (by : ClusterNo) (runs : RunsMarked system log p process) where
@@ -46,6 +46,19 @@ module _ (system : System) (log : List Entry) (p : Pid) (process : Process) (by 
   takes : TakesTo (took_by process) (state_of process) (state_of (cut_of process))
   takes = cut_takes process
 
+  -- its marked pages are left, at whatever step count and with whatever memory it is that are its own
+  left : (steps : ℕ) (memory : List ℕ) → steps ≡ (process.small).steps → memory ≡ (process.ram).bytes → PagesLeft system log p steps memory (marked_pages process)
+  left steps memory at bytes = record {
+    in_order = passing_rising (is_marked process) 0 marks;
+    within = ap (λ n. list_all (λ i. ltb i n) (marked_pages process)) (count ∙ sym marked) ∙ marked_within process;
+    unsent = passing_all (is_marked process) (λ i. not (any_since_moved system log p (is_page_at p i steps))) marks 0 marks (omega arith)
+        (λ i below is. ap (λ n. not (any_since_moved system log p (is_page_at p i n))) at ∙ ap not ((runs.marked).unsent i (subst (λ n. i < n) marked below) is));
+    account = λ i below other. (runs.marked).clean i (subst (λ n. i < n) count below) (sym (marked_has process i) ∙ other) ∙ (λ j. Some (page_at (sym bytes j) i));
+  }
+
+  pub pages_begin : MaySend system log (Cluster by) p (state_of process) → ChildrenSynced system log p → PagesMay system log by p (state_of process) (marked_pages process)
+  pages_begin may children = record { may = may; runs = runs.runs; left = left (process.small).steps (process.ram).bytes refl refl; children = children }
+
   pub batch_begins : MaySend system log (Cluster by) p (state_of process) → ChildrenSynced system log p → (is_due_by process system.syncreads system.syncsteps || is_some (took_by process) || not (has_state system log p)) ≡ true
       → BatchMay system log by p (state_of (cut_of process)) (cut_of process).read (took_by process) (marked_pages process)
   batch_begins may children due = record {
@@ -53,11 +66,7 @@ module _ (system : System) (log : List Entry) (p : Pid) (process : Process) (by 
     takes = takes;
     may = may;
     runs = subst (λ (t : ProcState). has_ended (t.small).status ≡ false) takes.after (goes_on_after (took_by process) (state_of process) takes.can runs.runs);
-    in_order = passing_rising (is_marked process) 0 marks;
-    within = ap (λ n. list_all (λ i. ltb i n) (marked_pages process)) (count ∙ sym marked) ∙ marked_within process;
-    unsent = passing_all (is_marked process) (λ i. not (any_since_moved system log p (is_page_at p i ((cut_of process).small).steps))) marks 0 marks (omega arith)
-        (λ i below is. ap (λ n. not (any_since_moved system log p (is_page_at p i n))) kept.steps ∙ ap not ((runs.marked).unsent i (subst (λ n. i < n) marked below) is));
-    account = λ i below other. (runs.marked).clean i (subst (λ n. i < n) count below) (sym (marked_has process i) ∙ other) ∙ (λ j. Some (page_at (sym kept.ram j).bytes i));
+    left = left ((cut_of process).small).steps ((cut_of process).ram).bytes kept.steps (λ j. (kept.ram j).bytes);
     reads = cut_reads system log p process runs;
     children = children;
     due = ap (λ b. b || is_some (took_by process) || not (has_state system log p)) (marks_due system log p process runs) ∙ due;

@@ -32,7 +32,7 @@ use Rattle.cert_sched.specs.Record.{has_state}
 use Rattle.cert_sched.specs.Scripted.{is_done}
 use Rattle.cert_sched.specs.Simulation.{IsUnended}
 use Rattle.cert_sched.specs.Steps.{numbers_read, page_count, saved_of, silent_upto}
-use Rattle.cert_sched.specs.Kinds.{after_take}
+use Rattle.cert_sched.specs.Kinds.{ChildrenSynced, after_take}
 use Rattle.cert_sched.specs.Rules.{ends_run}
 use Rattle.cert_sched.specs.Legal.{IsLegalBy, Stands}
 use Rattle.cert_sched.proofs.BuiltCuts.{by_home_there}
@@ -51,12 +51,12 @@ use Rattle.log_laws.proofs.pages.PagesStay.{page_count-snoc}
 use Rattle.log_laws.specs.letters.Numbered.{are_below, are_in_order}
 use Rattle.log_laws.proofs.letters.LogReads.{itself, all_saved_numbered}
 use Rattle.checkpoint_laws.specs.posts.Cut.{TakesTo}
-use Rattle.checkpoint_laws.specs.posts.Sending.{is_due_at}
+use Rattle.checkpoint_laws.specs.posts.Sending.{MaySend, is_due_at}
 use Rattle.checkpoint_laws.proofs.posts.TakeLeaves.{LeavesSame, runs_before, takes_leave}
 use Rattle.checkpoint_laws.proofs.posts.Beside.{start_stays}
 use Rattle.checkpoint_laws.proofs.marks.EntryMarks.{account_stays, sent_stay, steps_stay}
 use Rattle.checkpoint_laws.specs.batches.Between.{ComesBetween}
-use Rattle.checkpoint_laws.specs.batches.Underway.{BatchMay, posts_left, with_letters}
+use Rattle.checkpoint_laws.specs.batches.Underway.{BatchMay, PagesLeft, PagesMay, posts_left, with_letters}
 use Rattle.checkpoint_laws.proofs.batches.ChildrenStay.{children_stay, no_deed}
 use Rattle.checkpoint_laws.proofs.batches.LettersRead.{same_read}
 use Rattle.checkpoint_laws.proofs.batches.TakenLetters.{letters_come}
@@ -101,20 +101,17 @@ no_steps : (n : ℕ) (s t : ProcState) → n ≡ 0 → Replays n s [] t → t �
 no_steps zero s t none made = made.1
 no_steps (suc n) s t none made = absurd (omega (arith, none))
 
-module _ (system : System) (log : List Entry) (e : Entry) (k : ClusterNo) (p : Pid) (s : ProcState) (read : List ℕ) (took : Option ℕ) (indices : List ℕ) (comes : ComesBetween system log e k p) (b : BatchMay system log k p s read took indices) where
+-- ---- a process that may be sent
+
+module _ (system : System) (log : List Entry) (e : Entry) (k : ClusterNo) (p : Pid) (before : ProcState) (comes : ComesBetween system log e k p) (may : MaySend system log (Cluster k) p before)
+    (runs : has_ended (before.small).status ≡ false) where
   abbrev letters : List Letter
   letters = letter_for p (what e)
 
   -- ---- where the process was after the log
 
-  abbrev before : ProcState
-  before = b.before
-
-  same : LeavesSame before s
-  same = takes_leave took before s b.takes
-
   from : SilentFrom system log p (before.small).steps before
-  from = silent_from system log p (before.small).steps before (b.may).reached
+  from = silent_from system log p (before.small).steps before may.reached
 
   abbrev was : ProcState
   was = from.was
@@ -123,7 +120,7 @@ module _ (system : System) (log : List Entry) (e : Entry) (k : ClusterNo) (p : P
   there = ap (option_and_then (λ k. process_at k p)) from.before ∙ from.there
 
   open_still : has_ended (was.small).status ≡ false
-  open_still = sym (silent_upto-ends system log p (before.small).steps was before there (b.may).reached) ∙ runs_before took before s b.takes b.runs
+  open_still = sym (silent_upto-ends system log p (before.small).steps was before there may.reached) ∙ runs
 
   all : AllRoll system log
   all = all_roll Stands itself system log comes.valid comes.legal
@@ -214,42 +211,91 @@ module _ (system : System) (log : List Entry) (e : Entry) (k : ClusterNo) (p : P
   stated : has_state system (log ++ e ∷ []) p ≡ has_state system log p
   stated = has_state-snoc system log e p ∙ ap (λ b. has_state system log p || b) (comes.leaves).no_cut ∙ or_false (has_state system log p)
 
-  due_stays : is_due_at system (log ++ e ∷ []) p took (with_mail before) ≡ is_due_at system log p took before
-  due_stays =
-      λ j. nat_le system.syncreads (length (reads_stay before.mail j)) || nat_le system.syncsteps ((before.small).steps - steps_stay system log e p comes.leaves j) || is_some took || not (stated j)
-
   counted : page_count system (log ++ e ∷ []) p ≡ page_count system log p
   counted = page_count-snoc system log e p (comes.leaves).no_birth (comes.stands).applies
 
-  goes : BatchMay system (log ++ e ∷ []) k p (with_mail s) read took indices
+  may_on : MaySend system (log ++ e ∷ []) (Cluster k) p (with_mail before)
+  may_on = record { goes_on = comes.goes_on; by_home = comes.home; reached = reached ∙ ap Some (all_delivered-is before letters) }
+
+  left_on : (steps : ℕ) (memory indices : List ℕ) → PagesLeft system log p steps memory indices → PagesLeft system (log ++ e ∷ []) p steps memory indices
+  left_on steps memory indices l = record {
+    in_order = l.in_order;
+    within = ap (λ n. list_all (λ i. ltb i n) indices) counted ∙ l.within;
+    unsent = (λ j. list_all (λ i. not (sent_stay system log e p comes.leaves i steps j)) indices) ∙ l.unsent;
+    account = λ i within other. ap (λ (a : Account). page_in a.now i) (account_stays system log e p comes.leaves) ∙ l.account i (subst (λ n. i < n) counted within) other;
+  }
+
+  children_on : ChildrenSynced system log p → ChildrenSynced system (log ++ e ∷ []) p
+  children_on = children_stay system log e p comes.valid comes.legal comes.stands comes.no_deeds
+
+-- ---- its pages
+
+pub pages_stay : (system : System) (log : List Entry) (e : Entry) (k : ClusterNo) (p : Pid) (s : ProcState) (indices : List ℕ) → ComesBetween system log e k p → PagesMay system log k p s indices
+    → PagesMay system (log ++ e ∷ []) k p (with_letters s (letter_for p (what e))) indices
+pages_stay system log e k p s indices comes m =
+    subst (λ x. PagesMay system (log ++ e ∷ []) k p x indices) (sym (comes_to system log e k p s comes m.may m.runs s))
+    (record {
+      may = may_on system log e k p s comes m.may m.runs;
+      runs = m.runs;
+      left = left_on system log e k p s comes m.may m.runs (s.small).steps s.memory indices m.left;
+      children = children_on system log e k p s comes m.may m.runs m.children;
+    })
+
+-- ---- its batch
+
+module _ (system : System) (log : List Entry) (e : Entry) (k : ClusterNo) (p : Pid) (s : ProcState) (read : List ℕ) (took : Option ℕ) (indices : List ℕ) (comes : ComesBetween system log e k p) (b : BatchMay system log k p s read took indices) where
+  abbrev letters_of : List Letter
+  letters_of = letter_for p (what e)
+
+  abbrev before_it : ProcState
+  before_it = b.before
+
+  runs_it : has_ended (before_it.small).status ≡ false
+  runs_it = runs_before took before_it s b.takes b.runs
+
+  same : LeavesSame before_it s
+  same = takes_leave took before_it s b.takes
+
+  abbrev mailed : ProcState → ProcState
+  mailed = with_mail system log e k p before_it comes b.may runs_it
+
+  comes_there : (t : ProcState) → with_letters t letters_of ≡ mailed t
+  comes_there = comes_to system log e k p before_it comes b.may runs_it
+
+  reads_there : (mail : List Arrived) → numbers_read (saved_of system (log ++ e ∷ []) p) (mail ++ numbered before_it.next letters_of) ≡ numbers_read (saved_of system log p) mail
+  reads_there = reads_stay system log e k p before_it comes b.may runs_it
+
+  due_stays : is_due_at system (log ++ e ∷ []) p took (mailed before_it) ≡ is_due_at system log p took before_it
+  due_stays =
+      λ j. nat_le system.syncreads (length (reads_there before_it.mail j)) || nat_le system.syncsteps ((before_it.small).steps - steps_stay system log e p comes.leaves j) || is_some took
+      || not (stated system log e k p before_it comes b.may runs_it j)
+
+  goes : BatchMay system (log ++ e ∷ []) k p (mailed s) read took indices
   goes = record {
-    before = with_mail before;
-    takes = subst (λ (r : ProcState × ProcState). TakesTo took r.0 r.1) (λ j. (comes_to before j, comes_to s j)) (letters_come took before s letters b.takes);
-    may = record { goes_on = comes.goes_on; by_home = comes.home; reached = reached ∙ ap Some (all_delivered-is before letters) };
+    before = mailed before_it;
+    takes = subst (λ (r : ProcState × ProcState). TakesTo took r.0 r.1) (λ j. (comes_there before_it j, comes_there s j)) (letters_come took before_it s letters_of b.takes);
+    may = may_on system log e k p before_it comes b.may runs_it;
     runs = b.runs;
-    in_order = b.in_order;
-    within = ap (λ n. list_all (λ i. ltb i n) indices) counted ∙ b.within;
-    unsent = (λ j. list_all (λ i. not (sent_stay system log e p comes.leaves i (s.small).steps j)) indices) ∙ b.unsent;
-    account = λ i within other. ap (λ (a : Account). page_in a.now i) (account_stays system log e p comes.leaves) ∙ b.account i (subst (λ n. i < n) counted within) other;
-    reads = b.reads ∙ sym (reads_stay s.mail) ∙ ap (λ n. numbers_read (saved_of system (log ++ e ∷ []) p) (s.mail ++ numbered n letters)) (sym same.next);
-    children = children_stay system log e p comes.valid comes.legal comes.stands comes.no_deeds b.children;
+    left = left_on system log e k p before_it comes b.may runs_it (s.small).steps s.memory indices b.left;
+    reads = b.reads ∙ sym (reads_there s.mail) ∙ ap (λ n. numbers_read (saved_of system (log ++ e ∷ []) p) (s.mail ++ numbered n letters_of)) (sym same.next);
+    children = children_on system log e k p before_it comes b.may runs_it b.children;
     due = due_stays ∙ b.due;
   }
 
-  pub batch_stays : BatchMay system (log ++ e ∷ []) k p (with_letters s letters) read took indices
-  batch_stays = subst (λ x. BatchMay system (log ++ e ∷ []) k p x read took indices) (sym (comes_to s)) goes
+  pub batch_stays : BatchMay system (log ++ e ∷ []) k p (with_letters s letters_of) read took indices
+  batch_stays = subst (λ x. BatchMay system (log ++ e ∷ []) k p x read took indices) (sym (comes_there s)) goes
 
   -- where it was before its take, it is with the letters
-  pub batch_reached : (t : ProcState) → silent_upto system log p (s.small).steps ≡ Some t → silent_upto system (log ++ e ∷ []) p (s.small).steps ≡ Some (with_letters t letters)
+  pub batch_reached : (t : ProcState) → silent_upto system log p (s.small).steps ≡ Some t → silent_upto system (log ++ e ∷ []) p (s.small).steps ≡ Some (with_letters t letters_of)
   batch_reached t is =
-      let here : before ≡ t = same_Some before t (sym (b.may).reached ∙ ap (silent_upto system log p) (sym same.steps) ∙ is) in
-      ap (silent_upto system (log ++ e ∷ []) p) same.steps ∙ reached ∙ ap Some (sym (as_delivered before letters) ∙ ap (λ (x : ProcState). with_letters x letters) here)
+      let here : before_it ≡ t = same_Some before_it t (sym (b.may).reached ∙ ap (silent_upto system log p) (sym same.steps) ∙ is) in
+      ap (silent_upto system (log ++ e ∷ []) p) same.steps ∙ reached system log e k p before_it comes b.may runs_it ∙ ap Some (sym (as_delivered before_it letters_of) ∙ ap (λ (x : ProcState). with_letters x letters_of) here)
 
   -- so the batch is under way with the process as it is after the take from there
   pub batch_found : (at t : ProcState) → silent_upto system (log ++ e ∷ []) p (s.small).steps ≡ Some at → TakesTo took at t → BatchMay system (log ++ e ∷ []) k p t read took indices
   batch_found at t is takes =
-      let here : with_letters before letters ≡ at = same_Some (with_letters before letters) at (ap Some (as_delivered before letters) ∙ sym reached ∙ ap (silent_upto system (log ++ e ∷ []) p) (sym same.steps) ∙ is) in
-      let later : with_letters s letters ≡ t = sym (letters_come took before s letters b.takes).after ∙ ap (after_take took) here ∙ takes.after in
+      let here : with_letters before_it letters_of ≡ at = same_Some (with_letters before_it letters_of) at (ap Some (as_delivered before_it letters_of) ∙ sym (reached system log e k p before_it comes b.may runs_it) ∙ ap (silent_upto system (log ++ e ∷ []) p) (sym same.steps) ∙ is) in
+      let later : with_letters s letters_of ≡ t = sym (letters_come took before_it s letters_of b.takes).after ∙ ap (after_take took) here ∙ takes.after in
       subst (λ x. BatchMay system (log ++ e ∷ []) k p x read took indices) later batch_stays
 
 -- ---- the posts

@@ -23,10 +23,11 @@ use Rattle.cert_sched.specs.Account.{account_after}
 use Rattle.cert_sched.specs.Moved.{any_since_moved, is_page_at}
 use Rattle.cert_sched.specs.Steps.{numbers_read, page_count}
 use Rattle.cert_sched.specs.Rules.{is_by_home}
+use Rattle.cert_sched.specs.Kinds.{ChildrenSynced}
 use Rattle.log_laws.proofs.pages.OneEntry.{moves_none, any_since-goes_on}
-use Rattle.checkpoint_laws.specs.posts.Sending.{is_due_at}
+use Rattle.checkpoint_laws.specs.posts.Sending.{MaySend, is_due_at}
 use Rattle.checkpoint_laws.proofs.posts.PageEntry.{page_goes_on, page_places, page_process, page_silent, page_start, page_saved, page_stated, page_children, page_account}
-use Rattle.checkpoint_laws.specs.batches.Underway.{BatchMay, is_left, page_left}
+use Rattle.checkpoint_laws.specs.batches.Underway.{BatchMay, PagesLeft, PagesMay, is_left, page_left}
 
 -- ---- words on tests
 
@@ -87,28 +88,44 @@ module _ (system : System) (log : List Entry) (k : ClusterNo) (p : Pid) (s : Pro
 
   -- ---- the rest
 
-  pub page_sent : (read : List ℕ) (took : Option ℕ) (js : List ℕ) → BatchMay system log k p s read took (i ∷ js) → BatchMay system (log ++ page_entry ∷ []) k p s read took js
-  page_sent read took js b =
-      let order = and_parts (list_all (ltb i) js) _ b.in_order in
-      let below = and_parts (ltb i (page_count system log p)) (list_all (λ j. ltb j (page_count system log p)) js) b.within in
-      let fresh = and_parts (not (any_since_moved system log p (is_page_at p i (s.small).steps))) (list_all (λ j. not (any_since_moved system log p (is_page_at p j (s.small).steps))) js) b.unsent in
+  -- those with higher numbers are left
+  pub rest_left : (js : List ℕ) → PagesLeft system log p (s.small).steps s.memory (i ∷ js) → PagesLeft system (log ++ page_entry ∷ []) p (s.small).steps s.memory js
+  rest_left js l =
+      let order = and_parts (list_all (ltb i) js) _ l.in_order in
+      let below = and_parts (ltb i (page_count system log p)) (list_all (λ j. ltb j (page_count system log p)) js) l.within in
+      let fresh = and_parts (not (any_since_moved system log p (is_page_at p i (s.small).steps))) (list_all (λ j. not (any_since_moved system log p (is_page_at p j (s.small).steps))) js) l.unsent in
       record {
-        before = b.before;
-        takes = b.takes;
-        may = record {
-          goes_on = page_goes_on system log page_entry p (s.small).steps i bytes refl;
-          by_home = ap (λ places. is_by_home places (Cluster k) (Some p)) (page_places system log page_entry p (s.small).steps i bytes refl) ∙ (b.may).by_home;
-          reached = page_silent system log page_entry p (s.small).steps i bytes refl p ((b.before).small).steps ∙ (b.may).reached;
-        };
-        runs = b.runs;
         in_order = order.1;
         within = ap (λ n. list_all (λ j. ltb j n) js) same_count ∙ below.1;
         unsent = all_unsent js order.0 fresh.1;
-        account = λ q within other. page_now js q (b.account q (subst (λ n. q < n) same_count within)) other;
-        reads = b.reads ∙ sym (ap (λ saved. numbers_read saved s.mail) (page_saved system log page_entry p (s.small).steps i bytes refl p));
-        children = page_children system log page_entry p (s.small).steps i bytes refl p ∙ b.children;
-        due = same_due ∙ b.due;
+        account = λ q within other. page_now js q (l.account q (subst (λ n. q < n) same_count within)) other;
       }
+
+  -- the process may be sent as it was before
+  may_still : (t : ProcState) → MaySend system log (Cluster k) p t → MaySend system (log ++ page_entry ∷ []) (Cluster k) p t
+  may_still t may = record {
+    goes_on = page_goes_on system log page_entry p (s.small).steps i bytes refl;
+    by_home = ap (λ places. is_by_home places (Cluster k) (Some p)) (page_places system log page_entry p (s.small).steps i bytes refl) ∙ may.by_home;
+    reached = page_silent system log page_entry p (s.small).steps i bytes refl p (t.small).steps ∙ may.reached;
+  }
+
+  children_still : ChildrenSynced system log p → ChildrenSynced system (log ++ page_entry ∷ []) p
+  children_still synced = page_children system log page_entry p (s.small).steps i bytes refl p ∙ synced
+
+  pub pages_sent : (js : List ℕ) → PagesMay system log k p s (i ∷ js) → PagesMay system (log ++ page_entry ∷ []) k p s js
+  pages_sent js m = record { may = may_still s m.may; runs = m.runs; left = rest_left js m.left; children = children_still m.children }
+
+  pub page_sent : (read : List ℕ) (took : Option ℕ) (js : List ℕ) → BatchMay system log k p s read took (i ∷ js) → BatchMay system (log ++ page_entry ∷ []) k p s read took js
+  page_sent read took js b = record {
+    before = b.before;
+    takes = b.takes;
+    may = may_still b.before b.may;
+    runs = b.runs;
+    left = rest_left js b.left;
+    reads = b.reads ∙ sym (ap (λ saved. numbers_read saved s.mail) (page_saved system log page_entry p (s.small).steps i bytes refl p));
+    children = children_still b.children;
+    due = same_due ∙ b.due;
+  }
     where
       same_due : is_due_at system (log ++ page_entry ∷ []) p took b.before ≡ is_due_at system log p took b.before
       same_due =

@@ -21,17 +21,23 @@ use Rattle.cert_sched.proofs.LogLaws.{IsLegal-snoc}
 use Rattle.checkpoint_laws.specs.posts.Batched.{AllNew, AllStand}
 use Rattle.checkpoint_laws.proofs.posts.Standing.{page_stands, sync_stands}
 use Rattle.checkpoint_laws.proofs.posts.TakeLeaves.{takes_leave}
-use Rattle.checkpoint_laws.specs.batches.Underway.{BatchMay, page_left, posts_left, sync_left}
+use Rattle.checkpoint_laws.specs.batches.Underway.{BatchMay, PagesMay, page_left, posts_left, sync_left}
 use Rattle.checkpoint_laws.proofs.batches.PageSent.{page_sent}
 use Rattle.checkpoint_laws.proofs.batches.WholeAccount.{whole}
 
 less_of : (i n : ℕ) → ltb i n ≡ true → i < n
 less_of i n less = grind (arith, nat_tests)
 
--- the next page
+-- the next page of a process that may be sent
+pub page_may_stand : (system : System) (log : List Entry) (k : ClusterNo) (p : Pid) (s : ProcState) (i : ℕ) (js : List ℕ) → PagesMay system log k p s (i ∷ js) → Stands system log (entry_of system log (page_left k p s i))
+page_may_stand system log k p s i js m =
+    let below = and_parts (ltb i (page_count system log p)) (list_all (λ j. ltb j (page_count system log p)) js) (m.left).within in
+    page_stands system log (Cluster k) p s i m.may (less_of i (page_count system log p) below.0)
+
+-- the next page of a batch
 pub next_stands : (system : System) (log : List Entry) (k : ClusterNo) (p : Pid) (s : ProcState) (read : List ℕ) (took : Option ℕ) (i : ℕ) (js : List ℕ) → BatchMay system log k p s read took (i ∷ js) → Stands system log (entry_of system log (page_left k p s i))
 next_stands system log k p s read took i js b =
-    let below = and_parts (ltb i (page_count system log p)) (list_all (λ j. ltb j (page_count system log p)) js) b.within in
+    let below = and_parts (ltb i (page_count system log p)) (list_all (λ j. ltb j (page_count system log p)) js) (b.left).within in
     let same = takes_leave took b.before s b.takes in
     subst (λ (r : ℕ × List ℕ). Stands system log (entry_of system log (record { by = Cluster k; what = Page p r.0 i (page_at r.1 i) }))) (λ j. (sym same.steps j, sym same.memory j))
     (page_stands system log (Cluster k) p b.before i b.may (less_of i (page_count system log p) below.0))
@@ -60,5 +66,5 @@ rest_stands system log k p s read took (i ∷ js) valid legal b =
 pub rest_is_new : (system : System) (log : List Entry) (k : ClusterNo) (p : Pid) (s : ProcState) (read : List ℕ) (took : Option ℕ) (indices : List ℕ) → BatchMay system log k p s read took indices → AllNew system log (posts_left k p s read took indices)
 rest_is_new system log k p s read took [] b = (refl, tt)
 rest_is_new system log k p s read took (i ∷ js) b =
-    let fresh = and_parts (not (any_since_moved system log p (is_page_at p i (s.small).steps))) (list_all (λ j. not (any_since_moved system log p (is_page_at p j (s.small).steps))) js) b.unsent in
+    let fresh = and_parts (not (any_since_moved system log p (is_page_at p i (s.small).steps))) (list_all (λ j. not (any_since_moved system log p (is_page_at p j (s.small).steps))) js) (b.left).unsent in
     (fresh.0, rest_is_new system (log ++ entry_of system log (page_left k p s i) ∷ []) k p s read took js (page_sent system log k p s i read took js b))

@@ -53,7 +53,7 @@ there = option_map_or (λ s. s) (silent_upto named [] it 64) (root_state it 6553
 -- its batch is under way, with its page left
 begins : BatchMay named [] (cluster 0) it there [] None (0 ∷ [])
 unfolding boot one_step steps silently plain_after placement told is_over silent_upto account_after
-begins = record { before = there; takes = record { can = refl; after = refl }; may = record { goes_on = refl; by_home = refl; reached = refl }; runs = refl; in_order = refl; within = refl; unsent = refl; account = account; reads = refl; children = refl; due = refl }
+begins = record { before = there; takes = record { can = refl; after = refl }; may = record { goes_on = refl; by_home = refl; reached = refl }; runs = refl; left = record { in_order = refl; within = refl; unsent = refl; account = account }; reads = refl; children = refl; due = refl }
   where
     account : (i : ℕ) → i < 1 → is_left (0 ∷ []) i ≡ false → page_in (account_after named [] it).now i ≡ Some (page_at (there.memory) i)
     account zero within other = absurd (true≢false other)
@@ -90,7 +90,7 @@ last = rest_stands named (page_log ++ loss ∷ []) (cluster 0) it there [] None 
 -- its page is not left once it was sent at that step count
 not_again : BatchMay named page_log (cluster 0) it there [] None (0 ∷ []) → ⊥
 unfolding boot one_step steps silently plain_after placement told silent_upto
-not_again b = true≢false (sym b.unsent)
+not_again b = true≢false (sym (b.left).unsent)
 
 -- ---- a signal that is taken
 

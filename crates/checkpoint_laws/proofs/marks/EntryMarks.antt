@@ -108,7 +108,7 @@ module _ (system : System) (log : List Entry) (e : Entry) (p : Pid) (leaves : Le
         by_process None there some = absurd (true≢false (sym some))
         by_process (Some now) there some = record { now = now; rolls = (all_roll Stands itself system log valid legal).rolls p now there (unended_open Stands itself system log p valid legal unended now there) }
 
-    below_stay : (next : ℕ) → next ≤ arrived_count log p → arrived_below next (saved_of system (log ++ e ∷ []) p) ≡ arrived_below next (saved_of system log p)
+    pub below_stay : (next : ℕ) → next ≤ arrived_count log p → arrived_below next (saved_of system (log ++ e ∷ []) p) ≡ arrived_below next (saved_of system log p)
     below_stay next low =
         ap (λ (o : Option ProcState). arrived_below next (option_map_or (saved_letters (log ++ e ∷ []) p) o [])) (start_stays system log e p leaves.no_cut leaves.no_birth ∙ rolls.started)
         ∙ ap (arrived_below next) (saved_letters-other log e p rolls.start quiet)

@@ -60,7 +60,7 @@ none_of_mail next mail =
 -- ---- the marks
 
 -- where none of so many marks is set, no page is marked
-unmarked : (marks : List Bool) (n i : ℕ) → marks ≡ replicate n false → option_map_or (λ (b : Bool). b) (slice_get marks i) false ≡ false
+pub unmarked : (marks : List Bool) (n i : ℕ) → marks ≡ replicate n false → option_map_or (λ (b : Bool). b) (slice_get marks i) false ≡ false
 unmarked marks n i none = ap (λ marks. option_map_or (λ (b : Bool). b) (slice_get marks i) false) none ∙ no_mark n i
 
 -- a process that is as it starts again, with its saved letters and the pages that came, without a mark and with no letter read, is marked as the log says

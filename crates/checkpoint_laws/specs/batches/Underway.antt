@@ -44,6 +44,21 @@ abbrev pub are_rising : List ℕ → Bool
 are_rising [] = true
 are_rising (i ∷ indices) = list_all (nat_lt i) indices && are_rising indices
 
+-- Of a process with so many steps and this memory, the numbers of the pages that are left rise, each is one of its pages, and none was sent at that step count since a crash
+-- moved it; any other page is that of its account.
+pub record PagesLeft (system : System) (log : List Entry) (p : Pid) (steps : ℕ) (memory : List ℕ) (indices : List ℕ) : Type 0 where
+  pub in_order : are_rising indices ≡ true
+  pub within : list_all (λ i. nat_lt i (page_count system log p)) indices ≡ true
+  pub unsent : list_all (λ i. not (any_since_moved system log p (is_page_at p i steps))) indices ≡ true
+  pub account : (i : ℕ) → i < page_count system log p → is_left indices i ≡ false → page_in (account_after system log p).now i ≡ Some (page_at memory i)
+
+-- The home k of the process may send it as it is; it has not ended, its children have synchronised, and these of its pages are left.
+pub record PagesMay (system : System) (log : List Entry) (k : ClusterNo) (p : Pid) (s : ProcState) (indices : List ℕ) : Type 0 where
+  pub may : MaySend system log (Cluster k) p s
+  pub runs : has_ended (s.small).status ≡ false
+  pub left : PagesLeft system log p (s.small).steps s.memory indices
+  pub children : ChildrenSynced system log p
+
 -- ---- the process
 
 -- after these letters came to it, one after the other
@@ -51,18 +66,14 @@ abbrev pub with_letters : ProcState → List Letter → ProcState
 with_letters s [] = s
 with_letters s (l ∷ letters) = with_letters (delivered s l) letters
 
--- The home k of the process may send it as it is before it takes the signal that is told, if one is; s is the process after that, and has not ended. The numbers of the
--- pages that are left rise, each is one of its pages, and none was sent at its step count since a crash moved it; any other page is that of its account. These are the
--- letters that it has read, its children have synchronised, and it is due, takes a signal, or is a child that was never cut.
+-- The home k of the process may send it as it is before it takes the signal that is told, if one is; s is the process after that, and has not ended. These of its pages are
+-- left, these are the letters that it has read, its children have synchronised, and it is due, takes a signal, or is a child that was never cut.
 pub record BatchMay (system : System) (log : List Entry) (k : ClusterNo) (p : Pid) (s : ProcState) (read : List ℕ) (took : Option ℕ) (indices : List ℕ) : Type 0 where
   pub before : ProcState
   pub takes : TakesTo took before s
   pub may : MaySend system log (Cluster k) p before
   pub runs : has_ended (s.small).status ≡ false
-  pub in_order : are_rising indices ≡ true
-  pub within : list_all (λ i. nat_lt i (page_count system log p)) indices ≡ true
-  pub unsent : list_all (λ i. not (any_since_moved system log p (is_page_at p i (s.small).steps))) indices ≡ true
-  pub account : (i : ℕ) → i < page_count system log p → is_left indices i ≡ false → page_in (account_after system log p).now i ≡ Some (page_at s.memory i)
+  pub left : PagesLeft system log p (s.small).steps s.memory indices
   pub reads : rising read ≡ numbers_read (saved_of system log p) s.mail
   pub children : ChildrenSynced system log p
   pub due : is_due_at system log p took before ≡ true

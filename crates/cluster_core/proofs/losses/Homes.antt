@@ -96,7 +96,7 @@ home_here places k ns p differ same here =
 
 -- ---- that no pid stands twice
 
-differ_of : (qs : List Placed) → NoTwo (placed_pids qs) → pids_differ qs ≡ true
+pub differ_of : (qs : List Placed) → NoTwo (placed_pids qs) → pids_differ qs ≡ true
 differ_of [] two = refl
 differ_of (q ∷ qs) two = λ i. not ((any_placed qs ∙ two.0) i) && differ_of qs two.1 i
   where
