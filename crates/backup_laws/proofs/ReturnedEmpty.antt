@@ -74,6 +74,13 @@ next_lives places p to is = by_found (unended_at places p) is
     by_found None e = absurd (true≢false (sym (ap is_some e)))
     by_found (Some q) e = by_test q (q.ended || is_some q.backup) e
 
+-- so does the cluster of any new backup
+pub renewed_lives : (system : System) (log : List Entry) (e : Entry) (to : ClusterNo) (fresh : Bool) (recs : List BackRec) → KindHolds system log e (Rebackup to fresh recs) → lives_in (placement system log) to ≡ true
+renewed_lives system log e to true [] kind = absurd kind
+renewed_lives system log e to false [] kind = absurd kind
+renewed_lives system log e to true (r ∷ rs) kind = next_lives (placement system log) r.pid to kind.backup
+renewed_lives system log e to false (r ∷ rs) kind = next_lives (placement system log) r.pid to kind.backup
+
 -- ---- the backups of those that have not ended
 
 BackedAt : Places → Placed → Type 0
@@ -159,12 +166,6 @@ module _ (system : System) (log : List Entry) (e : Entry) (stands : Stands syste
       by_name true e = let same : to ≡ b = ap (λ (o : Option ClusterNo). unwrap_or o to) e in ap (lives_in here) (sym same) ∙ lives
       by_name false e = backed b e
 
-  to_lives : (to : ClusterNo) (fresh : Bool) (recs : List BackRec) → KindHolds system log e (Rebackup to fresh recs) → lives_in here to ≡ true
-  to_lives to true [] kind = absurd kind
-  to_lives to false [] kind = absurd kind
-  to_lives to true (r ∷ rs) kind = next_lives here r.pid to kind.backup
-  to_lives to false (r ∷ rs) kind = next_lives here r.pid to kind.backup
-
   backed_by : (w : What) → what e ≡ w → KindHolds system log e w → is_by_right here (e.post).by w ≡ true → AllBacked (placement system (log ++ e ∷ []))
   unfolding AllBacked placement BackedAt
   backed_by (Birth parent at child end) is kind right = birth_backed parent at child end is (born_rightly here (e.post).by parent child right kind.child_is)
@@ -184,7 +185,7 @@ module _ (system : System) (log : List Entry) (e : Entry) (stands : Stands syste
   backed_by (Rebackup to fresh recs) is kind right =
       after_is (Rebackup to fresh recs) is
       (by_map here (placed_after here (Rebackup to fresh recs)) (after_rebackup to fresh recs) (backup_keeps to fresh recs) refl
-      (λ p q found. renewed_backed to fresh recs q (to_lives to fresh recs kind) (all.backed p q found)))
+      (λ p q found. renewed_backed to fresh recs q (renewed_lives system log e to fresh recs kind) (all.backed p q found)))
   backed_by w is kind right = after_is w is all.backed
 
 -- ---- the start

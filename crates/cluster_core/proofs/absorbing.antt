@@ -8,6 +8,8 @@ pub mod Serials
 pub mod Served
 pub mod Counted
 pub mod Following
+pub mod Fallen
+pub mod Renewed
 pub mod Absorbed
 pub mod Arriving
 pub mod Noting

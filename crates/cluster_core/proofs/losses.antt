@@ -1,12 +1,12 @@
 pub mod BeginWaits
 pub mod Homes
 pub mod HeldAtHome
+pub mod RenewedHomes
 pub mod NotMoved
 pub mod MovedRecords
 pub mod RecoveredHere
 pub mod HomesMoved
 pub mod Moving
-pub mod BackupsLive
 pub mod LostQueue
 pub mod Losing
 pub mod OwningWaits

@@ -8,3 +8,4 @@ pub mod Paged
 pub mod Answering
 pub mod Fetching
 pub mod Lacking
+pub mod WithoutAnswer

@@ -34,6 +34,7 @@ use Rattle.cluster_core.specs.declared.hurt.Hurt.TheVariants.{Disk, NoMemory}
 use Rattle.cluster_core.specs.declared.quantum.Forking.{Forking}
 use Rattle.cluster_core.specs.ChildrenFirst.{child_before}
 use Rattle.cluster_core.specs.Quantum.{ComesToFork, EndsChildless, Moves, Sends, post_told}
+use Rattle.cluster_core.specs.Queue.{left_queued}
 use Rattle.cluster_core.specs.Serving.{FailsNext}
 use Rattle.cluster_core.specs.Changed.{with_changed}
 use Rattle.cluster_core.specs.ForkingAgain.{RollsAgain}
@@ -101,9 +102,9 @@ here_after (PageIs pid index bytes) here = with_page_come pid index bytes here
 here_after (Birth parent at child end) here = with_born parent child here
 here_after w here = here
 
--- the cluster with one more entry of the log taken in, by one kernel step; at the loss of another the processes that this moves here wait for their pages, and it has no record of them
-abbrev pub absorbed : ClusterView → Entry → ClusterView
-absorbed c e = record c {
+-- the cluster with one more entry of the log taken in, by one kernel step, but for its queue; at the loss of another the processes that this moves here wait for their pages, and it has no record of them
+abbrev pub with_entry : ClusterView → Entry → ClusterView
+with_entry c e = record c {
   cursor = c.cursor + 1;
   places = placed_after c.places (what e);
   here = with_all_waiting (moved_by c.places c.number (what e) (records_after c.number (what e) c.records)) (here_after (what e) c.here);
@@ -111,6 +112,10 @@ absorbed c e = record c {
   family = family_after (what e) c.family;
   steps = next_count c.steps;
 }
+
+-- and a queued post that falls is there no more
+abbrev pub absorbed : ClusterView → Entry → ClusterView
+absorbed c e = record (with_entry c e) { queue = left_queued c.places (what e) c.queue }
 
 -- ---- working
 

@@ -2,16 +2,18 @@
 use Rattle.std.specs.Prelude.{ℕ, ◌≡◌, Bool, true, false, if◌then◌else◌, List, [], ◌∷◌, ◌++◌, find, Option, Some, None, option_map, ⊤}
 use Rattle.std.specs.Option.{option_map_or}
 use Rattle.t32_base.specs.declared.process.Pid.{Pid}
+use Rattle.t32_base.specs.declared.process.ClusterNo.{ClusterNo}
 use Rattle.sys_text.specs.declared.system.System.{System}
 use Rattle.proc_state.specs.State.{ProcState}
 use Rattle.bus_msg.specs.declared.entry.What.{What}
 use Rattle.bus_msg.specs.declared.entry.What.TheVariants.{Mail, Exit, Sync, Fetch, PageIs, Rebackup}
 use Rattle.bus_msg.specs.declared.entry.Post.{Post}
 use Rattle.bus_msg.specs.declared.entry.Entry.{Entry}
-use Rattle.bus_msg.specs.Places.{same_pid}
+use Rattle.bus_msg.specs.Places.{Places, is_moved_by, placed_at, same_pid}
 use Rattle.cert_sched.specs.Appended.{entry_of}
 use Rattle.cert_sched.specs.Steps.{process_of, silent_upto, after_items}
 use Rattle.cert_sched.specs.Kinds.{after_take}
+use Rattle.cert_sched.specs.Told.{cluster_lost}
 
 abbrev pub is_rebackup : What → Bool
 is_rebackup (Rebackup to fresh recs) = true
@@ -55,6 +57,24 @@ pub record IsQueued (queue : List Post) : Type 0 where
   pub queued : Queued
   pub posts : queue ≡ posts_of queued
   pub together : AreTogether queued
+
+-- ---- what falls
+
+-- the loss of a cluster moves a process from where it is placed
+abbrev pub is_moved_from : Places → Pid → ClusterNo → Bool
+is_moved_from before p lost = option_map_or (is_moved_by lost) (placed_at before p) false
+
+-- An entry, by the places before it, makes a queued post fall: any does so of a new backup, and the loss that moves its process of a page that comes.
+abbrev pub falls : Places → What → What → Bool
+falls before w (Rebackup to fresh recs) = true
+falls before w (PageIs p index bytes) = option_map_or (is_moved_from before p) (cluster_lost w) false
+falls before w _ = false
+
+-- What an entry leaves of a queue: such a post is the last one, and goes.
+abbrev pub left_queued : Places → What → List Post → List Post
+left_queued before w [] = []
+left_queued before w (post ∷ []) = if falls before w post.what then [] else post ∷ []
+left_queued before w (post ∷ next ∷ rest) = post ∷ left_queued before w (next ∷ rest)
 
 -- ---- a process that has moved ahead of the log
 

@@ -13,6 +13,7 @@ ghost use Rattle.cluster_core.specs.Calls.{Absorbs, absorbed, FollowsSome, GoesO
 
 use crate::absorb::{note, tell};
 use crate::booting::{limits_of, parts_at_boot};
+use crate::falling::drop_fallen;
 use crate::families::join;
 use crate::hurt::Hurt;
 use crate::residents::Residents;
@@ -227,7 +228,7 @@ impl<D: PageDisk + Drop> Cluster<D> {
     /// process here that waits for it, which goes on from its record once all have come. At its own birth the parent forks, and the
     /// child runs beside it; any birth joins the children that never synchronised, and one that synchronised or ended leaves
     /// them. At the loss of another cluster the processes that this moves here wait for their pages, or for their parent's
-    /// fork, and their records are kept no more. A call of its disk that fails leaves a cluster that has failed, in which there is no process. After want of memory nothing is said of the cluster but
+    /// fork, and their records are kept no more. A new backup here brings its records. A queued post that falls at the entry is to be sent no more. A call of its disk that fails leaves a cluster that has failed, in which there is no process. After want of memory nothing is said of the cluster but
     /// that it can be dropped.
     pub fn absorb(&mut self, entry: &Entry) -> Result<(), Hurt>
         requires room { self.old.cursor < 2 ^ 64 - 1 }
@@ -257,6 +258,7 @@ impl<D: PageDisk + Drop> Cluster<D> {
         note(self.number, &mut self.records, entry)?;
         join(&mut self.family, entry)?;
         tell(self.alloc, self.number, &mut self.here, entry)?;
+        drop_fallen(&self.places, entry, &mut self.queue);
         self.cursor += 1;
         take_over(
             self.alloc,

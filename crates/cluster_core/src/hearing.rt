@@ -23,6 +23,7 @@ ghost use Rattle.cert_sched.specs.Losses.{is_crash_of};
 ghost use Rattle.cert_sched.specs.Schedule.{placement};
 ghost use Rattle.page_server.specs.Account.{PagerState};
 ghost use Rattle.backup_records.specs.Records.{are_rising, records_after};
+ghost use Rattle.cluster_core.specs.Queue.{is_rebackup};
 ghost use Rattle.cluster_core.specs.Hearing.{FollowsHeard, KnowsPlaces, after_sent_heard, with_heard};
 ghost use Rattle.cluster_core.specs.Recovered.{left_by, moved_by};
 ghost use Rattle.cluster_core.specs.Serving.{Serves};
@@ -36,10 +37,10 @@ pub fn unheard_entries_are_passed_over()
         → FollowsHeard c.system log c → FollowsHeard c.system (log ++ e ∷ []) c }
 {}
 
-/// A law and no code: what a cluster knows of the placement it goes on to know, whichever entry comes to it, and a loss moves the same
-/// records here by what it knows.
+/// A law and no code: what a cluster knows of the placement it goes on to know, whichever entry but a new backup comes to it, and a loss moves
+/// the same records here by what it knows.
 pub fn placements_stay_known()
-    ensures known { (system : System) (k : AClusterNo) (known places : Places) (w : What) → is_built w ≡ true → KnowsPlaces system k known places
+    ensures known { (system : System) (k : AClusterNo) (known places : Places) (w : What) → is_built w ≡ true → is_rebackup w ≡ false → KnowsPlaces system k known places
         → KnowsPlaces system k (placed_after known w) (placed_after places w) }
     ensures moved { (system : System) (k : AClusterNo) (known places : Places) (w : What) (recs : List BackRec) → KnowsPlaces system k known places
         → moved_by known k w recs ≡ moved_by places k w recs }
@@ -47,14 +48,14 @@ pub fn placements_stay_known()
         → left_by known k w recs ≡ left_by places k w recs }
 {}
 
-/// A law and no code: a cluster that follows a log takes in the next entry that goes to it, where that is another's and not its
-/// own loss, and follows the log with it.
+/// A law and no code: a cluster that follows a log takes in the next entry that goes to it, where that is another's, not its own loss and no
+/// new backup, and follows the log with it.
 pub fn heard_entries_are_followed()
     ensures { (c : ClusterView) (log : List Entry) (e : Entry) (server : Option PagerState) → is_system c.system ≡ true
         → IsOpen MayStand c.system log → IsOpen MayStand c.system (log ++ e ∷ []) → goes_to e.dests c.number ≡ true
         → is_by_cluster c.number e ≡ false → is_crash_of c.number (what e) ≡ false
         → are_rising (moved_by c.places c.number (what e) (records_after c.number (what e) c.records)) ≡ true
-        → Serves (placement c.system log) e c.server server → FollowsHeard c.system log c
+        → Serves (placement c.system log) e c.server server → is_rebackup (what e) ≡ false → FollowsHeard c.system log c
         → FollowsHeard c.system (log ++ e ∷ []) (with_server server (with_heard c e)) }
 {}
 

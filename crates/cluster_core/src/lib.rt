@@ -4,6 +4,7 @@
 mod absorb;
 mod booting;
 pub mod cluster;
+mod falling;
 mod families;
 pub mod hearing;
 pub mod hurt;

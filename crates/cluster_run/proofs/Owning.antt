@@ -330,7 +330,7 @@ tells_turn b mid after c caught new same taken is empty tells =
     record {
       owned = t.owned;
       adds = t.adds;
-      empty = λ lives. ap (λ (v : ClusterView). v.queue) is ∙ takes.queue ∙ empty;
+      empty = λ lives. ap (λ (v : ClusterView). v.queue) is ∙ takes.queue empty;
       spends = spent t.rests;
       lasts = lasting takes (t.adds).system t.rests;
       gets_on = getting t.rests;
@@ -369,7 +369,7 @@ waits_turn b mid c caught new same own taken is empty waits answered =
     subst (λ x. TurnsOwn b x c new) (sym same) (record {
       owned = own.0;
       adds = adds_none c.number b;
-      empty = λ lives. ap (λ (v : ClusterView). v.queue) is ∙ takes.queue ∙ empty;
+      empty = λ lives. ap (λ (v : ClusterView). v.queue) is ∙ takes.queue empty;
       spends = inr (inr (refl, inr refl));
       lasts = inr (subst (λ x. IsAtMost (remaining_of b c) (remaining_of b x)) (sym is) (taken_most b c caught takes));
       gets_on = inr (inr rest);

@@ -1,8 +1,9 @@
 -- A cluster that takes in the next entry of a log goes on to follow it, whichever kind the entry is of.
-use Rattle.std.proofs.Common.{◌≡◌, ◌⊎◌, ℕ, ◌+◌, refl, sym, ◌∙◌, ap, subst, List, [], ◌∷◌, ◌++◌, true, false, Bool, eqb-true, Option, Some, None, is_some, inl, inr, true≢false}
+use Rattle.std.proofs.Common.{◌≡◌, ◌⊎◌, ℕ, ◌+◌, refl, sym, ◌∙◌, ap, subst, List, [], ◌∷◌, ◌++◌, true, false, Bool, cond, eqb-true, Option, Some, None, is_some, inl, inr, true≢false}
 use Rattle.std.specs.Prelude.{filter, option_map}
 use Rattle.t32_base.specs.declared.process.Pid.{Pid}
 use Rattle.proc_state.specs.declared.process.Process.{Process}
+use Rattle.proc_state.specs.State.{state_of}
 use Rattle.sys_text.specs.Valid.{is_system}
 use Rattle.channel_table.specs.Changes.{CanBeAbsorbed}
 use Rattle.bus_msg.specs.declared.entry.What.{What}
@@ -28,9 +29,9 @@ use Rattle.cluster_core.specs.View.{ClusterView, Held, Runs, with_server, Waits,
 use Rattle.cluster_core.specs.Parts.{AllOwn}
 use Rattle.cluster_core.specs.Recovered.{moved_by, CanWait, with_all_waiting}
 use Rattle.cluster_core.specs.Follows.{FollowsBuilt, IsOpen, StandsBetween}
-use Rattle.cluster_core.specs.Queue.{IsQueued, is_lone}
+use Rattle.cluster_core.specs.Queue.{AreTogether, IsQueued, Queued, Nothing, One, falls, is_lone, left_queued, posts_of}
 use Rattle.cluster_core.specs.Syncing.{Synchronises}
-use Rattle.cluster_core.specs.Calls.{Absorbs, IsReady, ReadyFor, absorbed, here_after}
+use Rattle.cluster_core.specs.Calls.{Absorbs, IsReady, ReadyFor, absorbed, with_entry, here_after}
 use Rattle.cluster_core.proofs.absorbing.ByKind.{IsLoss, OneOf, by_kind, by_page, by_sync, is_of_page, is_of_sync}
 use Rattle.cluster_core.proofs.losses.Homes.{HomeHere, differ_built, home_here}
 use Rattle.cluster_core.proofs.losses.Losing.{follows_lost, can_wait, still_here}
@@ -45,6 +46,10 @@ use Rattle.cluster_core.proofs.here.Owning.{own_after, own_later, own_page}
 use Rattle.cluster_core.proofs.absorbing.Following.{Left, apart, follows_foreign, follows_own, found_stays, left_of, next_of, told_taken}
 use Rattle.cluster_core.proofs.here.Beside.{FollowsBeside, all_of, beside_of, built_of}
 use Rattle.cluster_core.proofs.absorbing.AfterSent.{sent_is}
+use Rattle.cluster_core.proofs.absorbing.Fallen.{IsComing, NoneFalls, batch_left, empty_falls_none, fallen_comes, left_falls_none, own_left}
+use Rattle.cluster_core.proofs.absorbing.Renewed.{follows_renewed, renewal_taken}
+use Rattle.cluster_core.proofs.absorbing.Renewed.{home_same as home_same_renewed}
+use Rattle.cluster_core.proofs.paging.WithoutAnswer.{without_answer}
 use Rattle.cluster_core.specs.Bearing.{BearsChild}
 use Rattle.cluster_core.proofs.births.BirthQueued.{birth_is, without_birth}
 use Rattle.cluster_core.proofs.births.BirthTaken.{follows_beside_birth, follows_own_birth}
@@ -70,10 +75,10 @@ use Rattle.cert_sched.specs.Deeds.{letter_for}
 -- beside what is queued the cluster follows the log with it, whichever kind it is of
 beside_next : (which : Pid → Bool) (c : ClusterView) (log : List Entry) (e : Entry) (server : Option PagerState) → is_system c.system ≡ true → AllOwn c.cursor c.here → are_rising (moved_by c.places c.number (what e) (records_after c.number (what e) c.records)) ≡ true
     → IsOpen MayStand c.system log → IsOpen MayStand c.system (log ++ e ∷ []) → Serves (placement c.system log) e c.server server → FollowsBeside which c.system log c → is_by_cluster c.number e ≡ false → is_crash_of c.number (what e) ≡ false
-    → FollowsBeside which c.system (log ++ e ∷ []) (with_server server (absorbed c e))
-beside_next which c log e server valid own order now later serves f foreign spared = by_kind_of (one_of c.system log e later)
+    → NoneFalls (placement c.system log) (what e) c.queue → FollowsBeside which c.system (log ++ e ∷ []) (with_server server (with_entry c e))
+beside_next which c log e server valid own order now later serves f foreign spared unfallen = by_kind_of (one_of c.system log e later)
   where
-    by_kind_of : OneOf (what e) → FollowsBeside which c.system (log ++ e ∷ []) (with_server server (absorbed c e))
+    by_kind_of : OneOf (what e) → FollowsBeside which c.system (log ++ e ∷ []) (with_server server (with_entry c e))
     by_kind_of (inl tells) =
         let n = next_of c.system log e tells now later in
         subst (λ v. FollowsBeside which c.system (log ++ e ∷ []) (with_server server v)) (sym (told_taken c e tells)) (follows_foreign which c log e n server valid (differ_built c.system log valid n.legal) own f foreign serves)
@@ -81,9 +86,10 @@ beside_next which c log e server valid own order now later serves f foreign spar
     by_kind_of (inr (inr (inl l))) =
         let moved : are_rising (filter (moves_here (placement c.system log) l.lost c.number) c.records) ≡ true =
         ap (λ places. are_rising (filter (moves_here places l.lost c.number) c.records)) (sym (f.log).places) ∙ sym (ap (λ w. are_rising (moved_by c.places c.number w (records_after c.number w c.records))) l.same) ∙ order in
-        follows_lost c.system valid log e l.lost l.cause (loss_of c.system log e l now later) c.number (other_lost c e l spared) which c server serves refl refl own f foreign moved
+        follows_lost c.system valid log e l.lost l.cause (loss_of c.system log e l now later) c.number (other_lost c e l spared) which c server serves refl refl own f foreign moved unfallen
     by_kind_of (inr (inr (inr (inl of)))) = follows_sync c.system valid log e of now later which c server own serves f foreign
-    by_kind_of (inr (inr (inr (inr b)))) = follows_birth c.system valid log e b.parent b.at b.child b.end b.same now later which c server (records_kept c.system log e c.number c.records valid (built_stands c.system (log ++ e ∷ []) later.0) (ap changes_in_place b.same) f.records) own serves f foreign
+    by_kind_of (inr (inr (inr (inr (inr y))))) = follows_renewed c.system valid log e y now later which c server own serves f foreign
+    by_kind_of (inr (inr (inr (inr (inl b))))) = follows_birth c.system valid log e b.parent b.at b.child b.end b.same now later which c server (records_kept c.system log e c.number c.records valid (built_stands c.system (log ++ e ∷ []) later.0) (ap changes_in_place b.same) f.records) own serves f foreign
 
 -- ---- beside a batch, or a birth
 
@@ -106,13 +112,14 @@ module _ (c : ClusterView) (log : List Entry) (e : Entry) (p : Pid) (process : P
       by_kind_of (inr (inl of)) = ap (λ places. home_at places p) (places_same c.system valid log e of now later)
       by_kind_of (inr (inr (inl l))) = home_stays c.system valid log e l.lost l.cause (loss_of c.system log e l now later) c.number (other_lost c e l spared) p home_is ∙ sym home_is
       by_kind_of (inr (inr (inr (inl of)))) = home_same c.system valid log e of now later p
-      by_kind_of (inr (inr (inr (inr b)))) = (spares_here c.system valid log e b.parent b.at b.child b.end b.same now later c.number foreign p home).home
+      by_kind_of (inr (inr (inr (inr (inr y))))) = home_same_renewed c.system valid log e y now later p
+      by_kind_of (inr (inr (inr (inr (inl b))))) = (spares_here c.system valid log e b.parent b.at b.child b.end b.same now later c.number foreign p home).home
 
   -- it is held as before, with letters more at most
   same_process : (h : Held) → held_at c p ≡ Some h → h ≡ Runs process
   same_process h at = let same : Some h ≡ Some (Runs process) = sym at ∙ there in cc
 
-  stays : (h : Held) → held_at (absorbed c e) p ≡ Some h → RunsStill (letter_for p (what e)) process h
+  stays : (h : Held) → held_at (with_entry c e) p ≡ Some h → RunsStill (letter_for p (what e)) process h
   stays h at = by_kind_of (one_of c.system log e later)
     where
       by_kind_of : OneOf (what e) → RunsStill (letter_for p (what e)) process h
@@ -130,31 +137,35 @@ module _ (c : ClusterView) (log : List Entry) (e : Entry) (p : Pid) (process : P
           let still = still_here c.system valid log e l.lost l.cause (loss_of c.system log e l now later) c.number (other_lost c e l spared) c.records c.here p h f.records moved home (ap (λ here. held_of here p) (sym here) ∙ at) in
           subst (RunsStill (letter_for p (what e)) process) (sym (same_process h still)) (still_itself process (letter_for p (what e)) (ap (letter_for p) l.same))
       by_kind_of (inr (inr (inr (inl of)))) = subst (RunsStill (letter_for p (what e)) process) (sym (same_process h (ap (λ (v : ClusterView). held_at v p) (sym (sync_taken c e of)) ∙ at))) (still_itself process (letter_for p (what e)) (by_sync (λ w. letter_for p w ≡ []) (λ pid at index bytes. refl) (λ pid small read took. refl) (what e) of))
-      by_kind_of (inr (inr (inr (inr b)))) = subst (RunsStill (letter_for p (what e)) process) (sym (same_process h (ap (λ (v : ClusterView). held_at v p) (sym (birth_taken c e b.parent b.at b.child b.end b.same (parent_not_here c.system valid log e b.parent b.at b.child b.end b.same now later c.number foreign c.here (f.processes).each_once))) ∙ at))) (still_itself process (letter_for p (what e)) (ap (letter_for p) b.same))
+      by_kind_of (inr (inr (inr (inr (inr y))))) = subst (RunsStill (letter_for p (what e)) process) (sym (same_process h (ap (λ (v : ClusterView). held_at v p) (sym (renewal_taken c e y.to y.fresh y.recs y.same)) ∙ at))) (still_itself process (letter_for p (what e)) (ap (letter_for p) y.same))
+      by_kind_of (inr (inr (inr (inr (inl b))))) = subst (RunsStill (letter_for p (what e)) process) (sym (same_process h (ap (λ (v : ClusterView). held_at v p) (sym (birth_taken c e b.parent b.at b.child b.end b.same (parent_not_here c.system valid log e b.parent b.at b.child b.end b.same now later c.number foreign c.here (f.processes).each_once))) ∙ at))) (still_itself process (letter_for p (what e)) (ap (letter_for p) b.same))
 
 -- ---- the whole
 
--- a cluster that takes in an entry for which it is ready
-pub absorbs : (c : ClusterView) (e : Entry) (server : Option PagerState) → is_system c.system ≡ true → AllOwn c.cursor c.here → are_rising (moved_by c.places c.number (what e) (records_after c.number (what e) c.records)) ≡ true
-    → Serves c.places e c.server server → Absorbs e c (with_server server (absorbed c e))
-absorbs c e server valid own order serves log now later ready = by_ready ready
+-- a cluster that takes in an entry for which it is ready, at which nothing that it has queued falls
+pub follows_entry : (c : ClusterView) (e : Entry) (server : Option PagerState) → is_system c.system ≡ true → AllOwn c.cursor c.here → are_rising (moved_by c.places c.number (what e) (records_after c.number (what e) c.records)) ≡ true
+    → Serves c.places e c.server server → left_queued c.places (what e) c.queue ≡ c.queue → Absorbs e c (with_server server (with_entry c e))
+follows_entry c e server valid own order serves left log now later ready = by_ready ready
   where
     serves_there : c.places ≡ placement c.system log → Serves (placement c.system log) e c.server server
     serves_there same = subst (λ before. Serves before e c.server server) same serves
 
-    foreign : (f : FollowsBuilt c.system log c) → is_by_cluster c.number e ≡ false → is_crash_of c.number (what e) ≡ false → IsQueued c.queue ⊎ Synchronises c.system log c ⊎ BearsChild c.system log c → FollowsBuilt c.system (log ++ e ∷ []) (with_server server (absorbed c e))
+    unfallen : c.places ≡ placement c.system log → NoneFalls (placement c.system log) (what e) c.queue
+    unfallen same = subst (λ before. NoneFalls before (what e) c.queue) same (left_falls_none c.places (what e) c.queue left)
+
+    foreign : (f : FollowsBuilt c.system log c) → is_by_cluster c.number e ≡ false → is_crash_of c.number (what e) ≡ false → IsQueued c.queue ⊎ Synchronises c.system log c ⊎ BearsChild c.system log c → FollowsBuilt c.system (log ++ e ∷ []) (with_server server (with_entry c e))
     foreign f other spared (inl alone) =
-        built_of c.system (log ++ e ∷ []) (with_server server (absorbed c e)) (beside_next all_of c log e server valid own order now later (serves_there (f.log).places) (beside_of c.system log c f alone) other spared)
+        built_of c.system (log ++ e ∷ []) (with_server server (with_entry c e)) (beside_next all_of c log e server valid own order now later (serves_there (f.log).places) (beside_of c.system log c f alone) other spared (unfallen (f.log).places))
     foreign f other spared (inr (inr b)) =
         follows_beside_birth c log e b valid now later f other spared server
-        (beside_next all_of (unqueued c) log e server valid own order now later (serves_there (f.log).places) (without_birth c.system log c b valid now f) other spared)
+        (beside_next all_of (unqueued c) log e server valid own order now later (serves_there (f.log).places) (without_birth c.system log c b valid now f) other spared (empty_falls_none (placement c.system log) (what e)))
         (same_home c log e b.pid b.process b.there valid now later f other spared order) (stays c log e b.pid b.process b.there valid now later f other spared order)
     foreign f other spared (inr (inl y)) =
-        stays_with_batch c log e y valid now later f other (with_server server (absorbed c e)) refl refl refl
-        (beside_next (all_but y.pid) (unqueued c) log e server valid own order now later (serves_there (f.log).places) (without_batch c.system log c y valid now f) other spared)
+        stays_with_batch c log e y valid now later f other (with_server server (with_entry c e)) refl refl refl
+        (beside_next (all_but y.pid) (unqueued c) log e server valid own order now later (serves_there (f.log).places) (without_batch c.system log c y valid now f) other spared (empty_falls_none (placement c.system log) (what e)))
         (same_home c log e y.pid y.process y.there valid now later f other spared order) (stays c log e y.pid y.process y.there valid now later f other spared order)
 
-    sent : (s : StandsBetween FollowsBuilt c.system log e c) → Left c log e → OneOf (what e) → FollowsBuilt c.system (log ++ e ∷ []) (with_server server (absorbed c e))
+    sent : (s : StandsBetween FollowsBuilt c.system log e c) → Left c log e → OneOf (what e) → FollowsBuilt c.system (log ++ e ∷ []) (with_server server (with_entry c e))
     sent s l (inl tells) =
         let n = next_of c.system log e tells now later in
         subst (λ v. FollowsBuilt c.system (log ++ e ∷ []) (with_server server v)) (sym (told_taken c e tells)) (follows_own c log e n l server valid (differ_built c.system log valid n.legal) own (serves_there (places_of l)))
@@ -164,9 +175,10 @@ absorbs c e server valid own order serves log now later ready = by_ready ready
     sent s l (inr (inl of)) = follows_own_page c.system valid log e of now later c l server refl (serves_there (ap (λ (d : ClusterView). d.places) l.same ∙ ((l.followed).log).places))
     sent s l (inr (inr (inl loss))) = absurd (own_no_loss c log e loss s)
     sent s l (inr (inr (inr (inl of)))) = absurd (true≢false (sym l.lone ∙ sync_not_alone (what e) of))
-    sent s l (inr (inr (inr (inr b)))) = absurd (true≢false (sym l.lone ∙ ap is_lone b.same))
+    sent s l (inr (inr (inr (inr (inl b))))) = absurd (true≢false (sym l.lone ∙ ap is_lone b.same))
+    sent s l (inr (inr (inr (inr (inr y))))) = absurd (true≢false (sym l.lone ∙ ap is_lone y.same))
 
-    own_post : (s : StandsBetween FollowsBuilt c.system log e c) → IsQueued (s.before).queue ⊎ Synchronises c.system log s.before ⊎ BearsChild c.system log s.before → FollowsBuilt c.system (log ++ e ∷ []) (with_server server (absorbed c e))
+    own_post : (s : StandsBetween FollowsBuilt c.system log e c) → IsQueued (s.before).queue ⊎ Synchronises c.system log s.before ⊎ BearsChild c.system log s.before → FollowsBuilt c.system (log ++ e ∷ []) (with_server server (with_entry c e))
     own_post s (inl alone) = sent s (left_of c log e s alone) (one_of c.system log e later)
     own_post s (inr (inr b)) = follows_own_birth c log e server valid own now later s b (serves_there (ap (λ (d : ClusterView). d.places) (s.sent ∙ sent_is s.before (s.before).queue) ∙ ((s.followed).log).places))
     own_post s (inr (inl y)) = follows_own_batch c log e server valid own now later s y serves_log
@@ -174,9 +186,53 @@ absorbs c e server valid own order serves log now later ready = by_ready ready
         serves_log : Serves (placement c.system log) e c.server server
         serves_log = serves_there (ap (λ (d : ClusterView). d.places) (s.sent ∙ sent_is s.before (s.before).queue) ∙ ((s.followed).log).places)
 
-    by_ready : IsReady log e c → FollowsBuilt c.system (log ++ e ∷ []) (with_server server (absorbed c e))
+    by_ready : IsReady log e c → FollowsBuilt c.system (log ++ e ∷ []) (with_server server (with_entry c e))
     by_ready (inl f) = foreign f.0 f.1 f.2 (f.0).queued
     by_ready (inr s) = own_post s (s.followed).queued
+
+-- ---- a post that falls
+
+-- a cluster that takes in an entry at which the one post that it has queued falls
+follows_fallen : (c : ClusterView) (log : List Entry) (e : Entry) (server : Option PagerState) (post : Post) → c.queue ≡ post ∷ [] → (kind : IsComing post.what) → is_system c.system ≡ true → AllOwn c.cursor c.here
+    → are_rising (moved_by c.places c.number (what e) (records_after c.number (what e) c.records)) ≡ true → Serves c.places e c.server server → IsOpen MayStand c.system log → IsOpen MayStand c.system (log ++ e ∷ [])
+    → FollowsBuilt c.system log c → is_by_cluster c.number e ≡ false → is_crash_of c.number (what e) ≡ false → FollowsBuilt c.system (log ++ e ∷ []) (with_server server (with_entry (unqueued c) e))
+follows_fallen c log e server post posts kind valid own order serves now later f other spared =
+    built_of c.system (log ++ e ∷ []) (with_server server (with_entry (unqueued c) e))
+    (beside_next all_of (unqueued c) log e server valid own order now later (subst (λ before. Serves before e c.server server) (f.log).places serves) (without_answer c.system log c post posts kind valid now f) other spared
+    (empty_falls_none (placement c.system log) (what e)))
+
+-- a cluster that takes in an entry for which it is ready
+pub absorbs : (c : ClusterView) (e : Entry) (server : Option PagerState) → is_system c.system ≡ true → AllOwn c.cursor c.here → are_rising (moved_by c.places c.number (what e) (records_after c.number (what e) c.records)) ≡ true
+    → Serves c.places e c.server server → Absorbs e c (with_server server (absorbed c e))
+absorbs c e server valid own order serves log now later ready = by_ready ready
+  where
+    queued : List Post → ClusterView
+    queued posts = with_server server (record (with_entry c e) { queue = posts })
+
+    whole : left_queued c.places (what e) c.queue ≡ c.queue → FollowsBuilt c.system (log ++ e ∷ []) (with_server server (absorbed c e))
+    whole left = subst (λ posts. FollowsBuilt c.system (log ++ e ∷ []) (queued posts)) (sym left) (follows_entry c e server valid own order serves left log now later ready)
+
+    by_post : (f : FollowsBuilt c.system log c) → is_by_cluster c.number e ≡ false → is_crash_of c.number (what e) ≡ false → (q : Queued) → c.queue ≡ posts_of q → AreTogether q → FollowsBuilt c.system (log ++ e ∷ []) (with_server server (absorbed c e))
+    by_post f other spared Nothing posts together = whole (ap (left_queued c.places (what e)) posts ∙ sym posts)
+    by_post f other spared (One post) posts together = by_test (falls c.places (what e) post.what) refl
+      where
+        left : left_queued c.places (what e) c.queue ≡ cond (falls c.places (what e) post.what) [] (post ∷ [])
+        left = ap (left_queued c.places (what e)) posts
+
+        by_test : (b : Bool) → falls c.places (what e) post.what ≡ b → FollowsBuilt c.system (log ++ e ∷ []) (with_server server (absorbed c e))
+        by_test false is = whole (left ∙ ap (λ b. cond b [] (post ∷ [])) is ∙ sym posts)
+        by_test true is =
+            subst (λ ps. FollowsBuilt c.system (log ++ e ∷ []) (queued ps)) (sym (left ∙ ap (λ b. cond b [] (post ∷ [])) is))
+            (follows_fallen c log e server post posts (fallen_comes c.places (what e) post.what together is) valid own order serves now later f other spared)
+
+    foreign : (f : FollowsBuilt c.system log c) → is_by_cluster c.number e ≡ false → is_crash_of c.number (what e) ≡ false → IsQueued c.queue ⊎ Synchronises c.system log c ⊎ BearsChild c.system log c → FollowsBuilt c.system (log ++ e ∷ []) (with_server server (absorbed c e))
+    foreign f other spared (inl alone) = by_post f other spared alone.queued alone.posts alone.together
+    foreign f other spared (inr (inr b)) = whole (ap (left_queued c.places (what e)) b.posts ∙ sym b.posts)
+    foreign f other spared (inr (inl y)) = whole (ap (left_queued c.places (what e)) y.posts ∙ batch_left c.places (what e) c.number y.pid (state_of y.process) y.read y.took y.indices ∙ sym y.posts)
+
+    by_ready : IsReady log e c → FollowsBuilt c.system (log ++ e ∷ []) (with_server server (absorbed c e))
+    by_ready (inl f) = foreign f.0 f.1 f.2 (f.0).queued
+    by_ready (inr s) = whole (own_left c log e s)
 
 -- ---- what it brings
 
@@ -205,7 +261,8 @@ may_wait c e valid r = by_loss (one_of c.system r.log e r.open_next)
     by_loss (inr (inl of)) = nobody (none_by_page (what e) of)
     by_loss (inr (inr (inl l))) = lost l r.ready
     by_loss (inr (inr (inr (inl of)))) = nobody (by_sync (λ w. moved_by c.places c.number w (records_after c.number w c.records) ≡ []) (λ pid at index bytes. refl) (λ pid small read took. refl) (what e) of)
-    by_loss (inr (inr (inr (inr b)))) = nobody (ap (λ w. moved_by c.places c.number w (records_after c.number w c.records)) b.same)
+    by_loss (inr (inr (inr (inr (inl b))))) = nobody (ap (λ w. moved_by c.places c.number w (records_after c.number w c.records)) b.same)
+    by_loss (inr (inr (inr (inr (inr y))))) = nobody (ap (λ w. moved_by c.places c.number w (records_after c.number w c.records)) y.same)
 
 -- a page that comes may come to its process
 pub may_come : (c : ClusterView) (e : Entry) → is_system c.system ≡ true → ReadyFor e c → CanCome (what e) c.here
@@ -240,7 +297,8 @@ may_come c e valid r = by_loss (one_of c.system r.log e r.open_next)
     by_loss (inr (inl of)) = page (what e) of refl
     by_loss (inr (inr (inl l))) = subst (λ w. CanCome w c.here) (sym l.same) tt
     by_loss (inr (inr (inr (inl of)))) = by_sync (λ w. CanCome w c.here) (λ pid at index bytes. tt) (λ pid small read took. tt) (what e) of
-    by_loss (inr (inr (inr (inr b)))) = subst (λ w. CanCome w c.here) (sym b.same) tt
+    by_loss (inr (inr (inr (inr (inl b))))) = subst (λ w. CanCome w c.here) (sym b.same) tt
+    by_loss (inr (inr (inr (inr (inr y))))) = subst (λ w. CanCome w c.here) (sym y.same) tt
 
 -- ---- that it may be taken in, and what it makes of those that are here
 
@@ -272,7 +330,8 @@ ready_own c e r own = by_loss (one_of c.system r.log e r.open_next)
     by_loss (inr (inl of)) = by_page (λ w. AllOwn (c.cursor + 1) (here_after w c.here)) (λ pid index. later) (λ pid index bytes. own_page (c.cursor + 1) pid index bytes c.here later) (what e) of
     by_loss (inr (inr (inl l))) = subst (λ w. AllOwn (c.cursor + 1) (here_after w c.here)) (sym l.same) later
     by_loss (inr (inr (inr (inl of)))) = by_sync (λ w. AllOwn (c.cursor + 1) (here_after w c.here)) (λ pid at index bytes. later) (λ pid small read took. later) (what e) of
-    by_loss (inr (inr (inr (inr b)))) = subst (λ w. AllOwn (c.cursor + 1) (here_after w c.here)) (sym b.same) (own_born (c.cursor + 1) b.parent b.child c.here later)
+    by_loss (inr (inr (inr (inr (inr y))))) = subst (λ w. AllOwn (c.cursor + 1) (here_after w c.here)) (sym y.same) later
+    by_loss (inr (inr (inr (inr (inl b))))) = subst (λ w. AllOwn (c.cursor + 1) (here_after w c.here)) (sym b.same) (own_born (c.cursor + 1) b.parent b.child c.here later)
 
 -- what is here as it was, or nothing, is its own
 pub own_either : (cursor : ℕ) (was now : List (Pid × Held)) → AllOwn cursor was → (now ≡ was) ⊎ (now ≡ []) → AllOwn cursor now

@@ -1,8 +1,9 @@
--- The kinds of entries that are built: those that tell of steps or close the log, those of pages, losses, those by which a process synchronises, and births. What holds of each of some kinds holds of every entry of them.
+-- The kinds of entries that are built: those that tell of steps or close the log, those of pages, losses, those by which a process synchronises, births, and new backups. What holds of each of some kinds holds of every entry of them.
 use Rattle.std.proofs.Common.{◌≡◌, ◌⊎◌, ℕ, refl, sym, List, Bool, true, false, Option, true≢false, inl, inr}
 use Rattle.t32_base.specs.declared.process.Pid.{Pid}
 use Rattle.t32_base.specs.declared.process.End.{End}
 use Rattle.t32_base.specs.declared.letter.Letter.{Letter}
+use Rattle.t32_base.specs.declared.letter.BackRec.{BackRec}
 use Rattle.t32_base.specs.Small.{SmallState}
 use Rattle.bus_msg.specs.declared.entry.What.{What}
 use Rattle.bus_msg.specs.declared.entry.What.TheVariants.{Mail, Birth, Exit, Page, Sync, Fetch, PageIs, Crash, Return, Rebackup, Done, Stop}
@@ -58,19 +59,26 @@ pub record IsBirth (w : What) : Type 0 where
   pub end : ℕ
   pub same : w ≡ Birth parent at child end
 
--- an entry that is built tells or closes, is of a page, is a loss, is one by which a process synchronises, or is a birth
+-- a new backup
+pub record IsRenewal (w : What) : Type 0 where
+  pub to : ClusterNo
+  pub fresh : Bool
+  pub recs : List BackRec
+  pub same : w ≡ Rebackup to fresh recs
+
+-- an entry that is built tells or closes, is of a page, is a loss, is one by which a process synchronises, is a birth, or a new backup
 abbrev pub OneOf : What → Type 0
-OneOf w = (tells_or_closes w ≡ true) ⊎ (is_of_page w ≡ true) ⊎ IsLoss w ⊎ (is_of_sync w ≡ true) ⊎ IsBirth w
+OneOf w = (tells_or_closes w ≡ true) ⊎ (is_of_page w ≡ true) ⊎ IsLoss w ⊎ (is_of_sync w ≡ true) ⊎ IsBirth w ⊎ IsRenewal w
 
 pub kind_is : (w : What) → is_built w ≡ true → OneOf w
 kind_is (Fetch pid index) built = inr (inl refl)
 kind_is (PageIs pid index bytes) built = inr (inl refl)
 kind_is (Crash k cause) built = inr (inr (inl (record { lost = k; cause = cause; same = refl })))
-kind_is (Birth parent at child end) built = inr (inr (inr (inr (record { parent = parent; at = at; child = child; end = end; same = refl }))))
+kind_is (Birth parent at child end) built = inr (inr (inr (inr (inl (record { parent = parent; at = at; child = child; end = end; same = refl })))))
 kind_is (Page pid at index bytes) built = inr (inr (inr (inl refl)))
 kind_is (Sync pid small read took) built = inr (inr (inr (inl refl)))
 kind_is (Return k) built = absurd (true≢false (sym built))
-kind_is (Rebackup to fresh recs) built = absurd (true≢false (sym built))
+kind_is (Rebackup to fresh recs) built = inr (inr (inr (inr (inr (record { to = to; fresh = fresh; recs = recs; same = refl })))))
 kind_is _ built = inl refl
 
 -- what is sent alone tells, or is of a page

@@ -59,7 +59,7 @@ use Rattle.cluster_core.specs.Parts.{AllOwn}
 use Rattle.cluster_core.specs.Queue.{AreTogether, IsQueued, Queued, Nothing, One, posts_of, is_lone, IsQueueLegal, tells_steps, is_move_of, move_of, taken_by, state_by, state_now, with_queue}
 use Rattle.cluster_core.specs.Holds.{CarriesMarks, HoldsMarks, IsHeldAs, HoldsPages, MarkedIfThere, process_in, is_fetch_queued, unended_process, HoldsLimits}
 use Rattle.cluster_core.specs.Follows.{FollowsBuilt, IsOpen, StandsBetween}
-use Rattle.cluster_core.specs.Calls.{absorbed, here_after}
+use Rattle.cluster_core.specs.Calls.{with_entry, here_after}
 use Rattle.cluster_core.specs.Recovered.{left_by, moved_by, with_all_waiting}
 use Rattle.cluster_core.proofs.births.FamilyNext.{family_next}
 use Rattle.cluster_core.specs.ForksAgain.{HoldsForks}
@@ -75,6 +75,8 @@ use Rattle.cluster_core.proofs.syncs.Marking.{arrival_marked, exit_other, marked
 use Rattle.cluster_core.proofs.losses.Homes.{HomeHere, home_exit, home_here, pids_home, without}
 use Rattle.cluster_core.proofs.absorbing.ByKind.{by_kind, by_page, lone_is, may_told, is_of_page, told_may}
 use Rattle.cluster_core.proofs.absorbing.Counted.{capped_less, capped_next, count_more, lost_before}
+use Rattle.cluster_core.proofs.absorbing.Fallen.{page_stays_queued}
+use Rattle.cert_sched.specs.Told.{cluster_lost}
 use Rattle.cluster_core.proofs.absorbing.Served.{accounts_next, foreign_no_answer, accounts_sent, ahead_after}
 use Rattle.cluster_core.specs.Serving.{IsAheadThere, Serves}
 use Rattle.page_server.specs.Account.{PagerState}
@@ -293,6 +295,9 @@ told_starts_none p e = by_kind (λ w. (is_cut p w || is_birth_of p w) ≡ false)
 told_loses_none : (k : ClusterNo) (w : What) → tells_or_closes w ≡ true → is_crash_of k w ≡ false
 told_loses_none k = by_kind (λ w. is_crash_of k w ≡ false) (λ at letter. refl) (λ pid at end. refl) (λ rests. refl) refl
 
+told_loses : (w : What) → tells_or_closes w ≡ true → cluster_lost w ≡ None
+told_loses = by_kind (λ w. cluster_lost w ≡ None) (λ at letter. refl) (λ pid at end. refl) (λ rests. refl) refl
+
 -- an entry tells of no deed of another process
 no_deeds : (p q : Pid) (at : ℕ) (m : Emission) (w : What) → Tells q at m w → p.0 ≢ q.0 → deeds_in p w ≡ []
 no_deeds p q at m w tells other = by_emission m tells
@@ -364,7 +369,7 @@ abbrev pub taken_in : ClusterView → Entry → ClusterView
 taken_in c e = record c { cursor = c.cursor + 1; places = placed_after c.places (what e); here = here_after (what e) c.here; records = records_after c.number (what e) c.records; family = family_after (what e) c.family; steps = next_count c.steps }
 
 -- that is what the cluster is then
-pub told_taken : (c : ClusterView) (e : Entry) → tells_or_closes (what e) ≡ true → absorbed c e ≡ taken_in c e
+pub told_taken : (c : ClusterView) (e : Entry) → tells_or_closes (what e) ≡ true → with_entry c e ≡ taken_in c e
 told_taken c e tells =
     let here = by_kind (λ w. with_all_waiting (moved_by c.places c.number w (records_after c.number w c.records)) (here_after w c.here) ≡ here_after w c.here) (λ at letter. refl) (λ pid at end. refl) (λ rests. refl) refl (what e) tells in
     let recs = by_kind (λ w. left_by c.places c.number w (records_after c.number w c.records) ≡ records_after c.number w c.records) (λ at letter. refl) (λ pid at end. refl) (λ rests. refl) refl (what e) tells in
@@ -438,7 +443,7 @@ queue_foreign c log e n (One post) together valid differ foreign own legal = (by
 
     by_kind_of : (tells_or_closes post.what ≡ true) ⊎ (is_of_page post.what ≡ true) → UnlostMayFollow c.system (log ++ e ∷ []) (entry_of c.system (log ++ e ∷ []) post)
     by_kind_of (inl tells) = may_told c.system (log ++ e ∷ []) (entry_of c.system (log ++ e ∷ []) post) (post_stays c.system log e n c.number post valid differ foreign from (told_may c.system log (entry_of c.system log post) legal.0 tells))
-    by_kind_of (inr of) = page_post_stays c.system valid log e c.number post (n.legal, n.before) (n.more, n.goes_on) foreign (told_loses_none c.number (what e) (n.may).built) from of legal.0
+    by_kind_of (inr of) = page_post_stays c.system valid log e c.number post (n.legal, n.before) (n.more, n.goes_on) foreign (told_loses_none c.number (what e) (n.may).built) from of (page_stays_queued (placement c.system log) (what e) post.what of (told_loses (what e) (n.may).built)) legal.0
 
 -- each process that is here then has its marks still
 marks_foreign : (which : Pid → Bool) (c : ClusterView) (log : List Entry) (e : Entry) (n : Next c.system log e) → is_system c.system ≡ true → pids_differ (placement c.system log).placed ≡ true → AllOwn c.cursor c.here

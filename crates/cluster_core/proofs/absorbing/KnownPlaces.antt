@@ -7,15 +7,18 @@ use Rattle.t32_base.specs.declared.process.ClusterNo.{ClusterNo}
 use Rattle.t32_base.specs.declared.letter.BackRec.{BackRec}
 use Rattle.sys_text.specs.declared.system.System.{System}
 use Rattle.bus_msg.specs.declared.entry.What.{What}
-use Rattle.bus_msg.specs.declared.entry.What.TheVariants.{Birth, Exit, Sync, Crash, Return, Rebackup}
+use Rattle.bus_msg.specs.declared.entry.What.TheVariants.{Birth, Exit, PageIs, Sync, Crash, Return, Rebackup}
+use Rattle.bus_msg.specs.declared.entry.Post.{Post}
 use Rattle.bus_msg.specs.declared.placed.Placed.{Placed}
-use Rattle.bus_msg.specs.Places.{Places, is_cluster, placed_at, same_cluster, same_pid, unended_at}
+use Rattle.bus_msg.specs.Places.{Places, is_cluster, is_moved_by, placed_at, same_cluster, same_pid, unended_at}
 use Rattle.bus_msg.specs.PlacedAfter.{after_exit, after_loss, after_sync, changed_at, child_of, lost_cluster, moved_to, placed_after, raised_serial, with_birth}
 use Rattle.cert_sched.specs.Built.{is_built}
 use Rattle.cert_sched.specs.Record.{is_root}
+use Rattle.cert_sched.specs.Told.{cluster_lost}
 use Rattle.cert_sched.proofs.UnendedLaws.{loss_keeps}
 use Rattle.crash_notice.specs.Splitting.{is_moved_here, moves_here, stays}
 use Rattle.cluster_core.specs.Hearing.{KnowsEach, KnowsPlaced, KnowsPlaces, concerns, may_miss}
+use Rattle.cluster_core.specs.Queue.{falls, is_moved_from, is_rebackup, left_queued}
 use Rattle.cluster_core.specs.Recovered.{left_by, moved_by}
 use Rattle.cluster_core.proofs.heard.Unheard.{is_elsewhere}
 
@@ -184,24 +187,24 @@ birth_known system k child known places (Some r) (Some q) knows found = by_found
     by_found (inl same) = subst (λ x. KnowsPlaces system k (with_birth known child (Some x)) (with_birth places child (Some q))) (sym same) (born q.home (child_of q child))
     by_found (inr m) = subst (λ x. KnowsPlaces system k (with_birth known child (Some x)) (with_birth places child (Some q))) (sym m.1) (born q.home (child_of q child))
 
--- what is known before an entry of a kind that is built leads to what is known after it
-pub known_after : (system : System) (k : ClusterNo) (known places : Places) (w : What) → is_built w ≡ true → KnowsPlaces system k known places
+-- what is known before an entry of a kind that is built, other than a new backup, leads to what is known after it
+pub known_after : (system : System) (k : ClusterNo) (known places : Places) (w : What) → is_built w ≡ true → is_rebackup w ≡ false → KnowsPlaces system k known places
     → KnowsPlaces system k (placed_after known w) (placed_after places w)
-known_after system k known places (Birth parent at child end) built knows =
+known_after system k known places (Birth parent at child end) built other knows =
     birth_known system k child known places (placed_at known parent) (placed_at places parent) knows
     (found_known system k (λ (q : Placed). same_pid q.pid parent) (λ q. refl) known.placed places.placed knows.placed)
-known_after system k known places (Exit pid at end) built knows =
+known_after system k known places (Exit pid at end) built other knows =
     record { clusters = knows.clusters; pager = knows.pager; placed = goes_each system k (after_exit pid) (exit_goes system k pid) known.placed places.placed knows.placed }
-known_after system k known places (Sync pid small read took) built knows =
+known_after system k known places (Sync pid small read took) built other knows =
     record { clusters = knows.clusters; pager = knows.pager; placed = sync_knows system k pid known.placed places.placed knows.placed }
-known_after system k known places (Crash lost cause) built knows = record {
+known_after system k known places (Crash lost cause) built other knows = record {
   clusters = ap (λ cs. changed_at lost.0 lost_cluster (slice_get cs lost.0) cs) knows.clusters;
   pager = knows.pager;
   placed = goes_each system k (after_loss lost) (loss_goes system lost k) known.placed places.placed knows.placed;
 }
-known_after system k known places (Return j) built knows = absurd (true≢false (sym built))
-known_after system k known places (Rebackup to fresh recs) built knows = absurd (true≢false (sym built))
-known_after system k known places _ built knows = knows
+known_after system k known places (Return j) built other knows = absurd (true≢false (sym built))
+known_after system k known places (Rebackup to fresh recs) built other knows = absurd (true≢false other)
+known_after system k known places _ built other knows = knows
 
 -- ---- the records that move
 
@@ -216,3 +219,21 @@ moved_alike system k known places _ recs knows = refl
 pub left_alike : (system : System) (k : ClusterNo) (known places : Places) (w : What) (recs : List BackRec) → KnowsPlaces system k known places → left_by known k w recs ≡ left_by places k w recs
 left_alike system k known places (Crash lost cause) recs knows = filters_alike (stays known lost k) (stays places lost k) (λ r. ap not (moves_alike system k lost known places knows r)) recs
 left_alike system k known places _ recs knows = refl
+
+-- ---- the posts that fall
+
+-- the same posts fall
+falls_alike : (system : System) (k : ClusterNo) (known places : Places) (w queued : What) → KnowsPlaces system k known places → falls known w queued ≡ falls places w queued
+falls_alike system k known places w (PageIs p index bytes) knows = by_loss (cluster_lost w)
+  where
+    by_loss : (o : Option ClusterNo) → option_map_or (is_moved_from known p) o false ≡ option_map_or (is_moved_from places p) o false
+    by_loss None = refl
+    by_loss (Some lost) =
+        asked_alike system k (is_moved_by lost) (λ q. refl) (placed_at known p) (placed_at places p) (found_known system k (λ (q : Placed). same_pid q.pid p) (λ q. refl) known.placed places.placed knows.placed)
+falls_alike system k known places w (Rebackup to fresh recs) knows = refl
+falls_alike system k known places w _ knows = refl
+
+pub queues_alike : (system : System) (k : ClusterNo) (known places : Places) (w : What) (queue : List Post) → KnowsPlaces system k known places → left_queued known w queue ≡ left_queued places w queue
+queues_alike system k known places w [] knows = refl
+queues_alike system k known places w (post ∷ []) knows = ap (λ b. cond b [] (post ∷ [])) (falls_alike system k known places w post.what knows)
+queues_alike system k known places w (post ∷ next ∷ rest) knows = ap (λ ps. post ∷ ps) (queues_alike system k known places w (next ∷ rest) knows)

@@ -26,11 +26,14 @@ use Rattle.bus_msg.specs.Places.{Places, ClusterPlace, lives_in, same_pid, same_
 use Rattle.bus_msg.specs.PlacedAfter.{what}
 use Rattle.bus_msg.specs.Route.{backup_of, home_of, bits_of, letter_dests, route, to_list, to_all}
 use Rattle.cert_sched.specs.Built.{MayStand, tells_or_closes}
+use Rattle.cert_sched.specs.Kinds.{KindHolds}
 use Rattle.cert_sched.specs.Schedule.{placement}
 use Rattle.cert_sched.specs.Record.{backup_record}
-use Rattle.backup_records.specs.Records.{CanNote, record_in, record_after, record_of_child, records_after, is_receiver, after_birth, with_child_of, with_record, with_saved, with_counted, with_cut}
+use Rattle.backup_records.specs.Records.{CanNote, record_in, record_after, record_of_child, records_after, is_receiver, after_birth, records_renewed, with_child_of, with_record, with_records, with_saved, with_counted, with_cut}
 use Rattle.log_laws.specs.records.Kept.{KeepsRecords, has_backup_in}
 use Rattle.log_laws.proofs.records.BuiltLaws.{built_can_note}
+use Rattle.log_laws.proofs.records.Standing.{built_stands}
+use Rattle.backup_laws.proofs.ReturnedEmpty.{backups_live, renewed_lives}
 use Rattle.cert_sched.proofs.LogLaws.{IsLegal-last}
 use Rattle.cluster_core.specs.View.{ClusterView}
 use Rattle.cluster_core.specs.Calls.{IsReady, ReadyFor}
@@ -38,7 +41,6 @@ use Rattle.cluster_core.specs.Absorbing.{IsNotedHere, goes_to}
 use Rattle.cluster_core.proofs.here.Here.{pid_same, same_itself}
 use Rattle.cluster_core.proofs.absorbing.ByKind.{OneOf, by_kind, by_page, by_sync, kind_is}
 use Rattle.cluster_core.proofs.absorbing.AfterSent.{sent_is}
-use Rattle.cluster_core.proofs.losses.BackupsLive.{BackupsLive, backups_live}
 
 -- ---- the clusters that an entry goes to
 
@@ -93,6 +95,10 @@ within places k lives = by_place (slice_get places.clusters k.0) refl lives
 pub all_named : (places : Places) (k : ClusterNo) → lives_in places k ≡ true → list_any (λ j. same_cluster j k) (all_clusters places) ≡ true
 all_named places k lives = in_range k 0 (length places.clusters) (omega arith) (omega (arith, within places k lives))
 
+-- what goes to all goes to each that lives
+pub all_hear : (places : Places) (k : ClusterNo) → lives_in places k ≡ true → goes_to (to_all places) k ≡ true
+all_hear places k lives = named_goes places k (all_clusters places) lives (all_named places k lives)
+
 -- the backup of a process that has not ended
 backup_named : (places : Places) (k : ClusterNo) (p : Pid) → option_map_or (λ (q : Placed). is_cluster q.backup k) (unended_at places p) false ≡ true → list_any (λ j. same_cluster j k) (backup_of places p) ≡ true
 backup_named places k p h = by_placed (unended_at places p) h
@@ -123,6 +129,10 @@ sender_goes places k from (Proc q end) lives named =
     (list_any-append (λ j. same_cluster j k) (home_of places q ++ backup_of places q) (backup_of places from)
     ∙ or_right (list_any (λ j. same_cluster j k) (home_of places q ++ backup_of places q)) _ named)
 sender_goes places k from (Tty t) lives named = named_goes places k (backup_of places from) lives named
+
+-- the backup of a process that has not ended lives
+abbrev BackupsLive : Places → Type 0
+BackupsLive places = (p : Pid) (q : Placed) (b : ClusterNo) → unended_at places p ≡ Some q → q.backup ≡ Some b → lives_in places b ≡ true
 
 -- a cluster that has the backup of a process lives
 backup_lives : (system : System) (log : List Entry) (k : ClusterNo) (p : Pid) → BackupsLive (placement system log) → has_backup_in system log k p ≡ true → lives_in (placement system log) k ≡ true
@@ -240,6 +250,16 @@ noted_here system log e k recs routed tells live keeps elsewhere =
     (λ pid at end away. exit_left system log k recs pid at end live keeps away)
     (λ rests away. refl) (λ away. refl) (what e) tells (ap (λ dests. goes_to dests k) (sym routed) ∙ elsewhere)
 
+-- those of a new backup that does not go here come elsewhere
+renewal_left : (places : Places) (k to : ClusterNo) (more recs : List BackRec) → lives_in places to ≡ true → goes_to (to_all places) k ≡ false → records_renewed to k more recs ≡ recs
+renewal_left places k to more recs lives elsewhere = by_test (same_cluster to k) refl
+  where
+    by_test : (b : Bool) → same_cluster to k ≡ b → cond b (with_records more recs) recs ≡ recs
+    by_test true is =
+        let same : to ≡ k = λ i. record { 0 = eqb-true to.0 k.0 is i } in
+        absurd (true≢false (sym (all_hear places k (ap (lives_in places) (sym same) ∙ lives)) ∙ elsewhere))
+    by_test false is = refl
+
 -- ---- the entry for which a cluster is ready
 
 -- what a cluster that is ready for the next entry of a log holds of it
@@ -270,15 +290,22 @@ noted_next c e valid r elsewhere = by_loss (kind_is (what e) may.built)
     may : MayStand c.system r.log e
     may = IsLegal-last MayStand c.system r.log e (r.open_next).0
 
+    live : BackupsLive (placement c.system r.log)
+    live p q b found is = backups_live c.system r.log p q b valid (built_stands c.system r.log (r.open_log).0) found is
+
     by_loss : OneOf (what e) → records_after c.number (what e) c.records ≡ c.records
-    by_loss (inl tells) = noted_here c.system r.log e c.number c.records (((may.stands).placed).1) tells (backups_live c.system r.log valid (r.open_log).0) (kept_of c r.log e r.ready).records elsewhere
+    by_loss (inl tells) = noted_here c.system r.log e c.number c.records (((may.stands).placed).1) tells live (kept_of c r.log e r.ready).records elsewhere
     by_loss (inr (inl page)) = by_page (λ w. records_after c.number w c.records ≡ c.records) (λ pid index. refl) (λ pid index bytes. refl) (what e) page
     by_loss (inr (inr (inl loss))) = ap (λ w. records_after c.number w c.records) loss.same
-    by_loss (inr (inr (inr (inr b)))) =
+    by_loss (inr (inr (inr (inr (inl b))))) =
         ap (λ w. records_after c.number w c.records) b.same
-        ∙ birth_left c.system r.log c.number c.records b.parent b.child (backups_live c.system r.log valid (r.open_log).0) (kept_of c r.log e r.ready).records
+        ∙ birth_left c.system r.log c.number c.records b.parent b.child live (kept_of c r.log e r.ready).records
         (sym (ap (λ w. goes_to (route (placement c.system r.log) w) c.number) b.same) ∙ ap (λ dests. goes_to dests c.number) (sym (((may.stands).placed).1)) ∙ elsewhere)
+    by_loss (inr (inr (inr (inr (inr y))))) =
+        ap (λ w. records_after c.number w c.records) y.same
+        ∙ renewal_left (placement c.system r.log) c.number y.to y.recs c.records (renewed_lives c.system r.log e y.to y.fresh y.recs (subst (KindHolds c.system r.log e) y.same (may.stands).kind))
+        (sym (ap (λ w. goes_to (route (placement c.system r.log) w) c.number) y.same) ∙ ap (λ dests. goes_to dests c.number) (sym (((may.stands).placed).1)) ∙ elsewhere)
     by_loss (inr (inr (inr (inl of)))) =
         by_sync (λ w. goes_to (route (placement c.system r.log) w) c.number ≡ false → records_after c.number w c.records ≡ c.records) (λ pid at index bytes away. refl)
-        (λ pid small read took away. cut_left c.system r.log c.number c.records pid small read took (backups_live c.system r.log valid (r.open_log).0) (kept_of c r.log e r.ready).records away) (what e) of
+        (λ pid small read took away. cut_left c.system r.log c.number c.records pid small read took live (kept_of c r.log e r.ready).records away) (what e) of
         (ap (λ dests. goes_to dests c.number) (sym (((may.stands).placed).1)) ∙ elsewhere)

@@ -1,5 +1,5 @@
 -- What a cluster keeps as a page server stays what the log says: after an entry, and where a post is queued.
-use Rattle.std.proofs.Common.{◌≡◌, ℕ, ◌+◌, ◌≤◌, refl, sym, ◌∙◌, ap, subst, arith, List, [], ◌∷◌, ◌++◌, Bool, true, false, cond, ◌&&◌, eq-eqb, Option, Some, None, is_some, inl, inr, true≢false}
+use Rattle.std.proofs.Common.{◌≡◌, ℕ, ◌+◌, ◌≤◌, refl, sym, ◌∙◌, ap, subst, arith, List, [], ◌∷◌, ◌++◌, Bool, true, false, cond, ◌&&◌, eq-eqb, Option, Some, None, is_some, true≢false}
 use Rattle.std.specs.Prelude.{Ok, ⊤}
 use Rattle.std.specs.Option.{option_map_or}
 use Rattle.page_server.specs.Account.{PagerState}
@@ -12,7 +12,7 @@ use Rattle.t32_base.specs.Streams.{one_more}
 use Rattle.t32_base.specs.declared.process.ClusterNo.{ClusterNo}
 use Rattle.t32_base.proofs.Facts.{and_false}
 use Rattle.bus_msg.specs.declared.entry.What.{What}
-use Rattle.bus_msg.specs.declared.entry.What.TheVariants.{Page}
+use Rattle.bus_msg.specs.declared.entry.What.TheVariants.{Page, Rebackup}
 use Rattle.bus_msg.specs.declared.entry.Post.{Post}
 use Rattle.bus_msg.specs.declared.entry.Entry.{Entry}
 use Rattle.bus_msg.specs.Places.{Places}
@@ -22,14 +22,12 @@ use Rattle.cert_sched.specs.Built.{UnlostMayFollow, is_unlost}
 use Rattle.cert_sched.specs.Losses.{capped, is_by_cluster, is_from, is_page_entry, is_page_is_entry, least_calls, was_lost_in}
 use Rattle.cert_sched.specs.Schedule.{placement}
 use Rattle.cert_sched.specs.Scripted.{is_server}
-use Rattle.cert_sched.proofs.UnlostLaws.{unlost_built}
 use Rattle.cluster_core.specs.Holds.{HoldsAccounts, KeepsIfThere}
 use Rattle.cluster_core.specs.Queue.{Queued, Nothing, One, posts_of, IsQueueLegal, is_rebackup, with_queue}
 use Rattle.cluster_core.specs.Serving.{BeginsToServe, IsAheadThere, Serves}
 use Rattle.cluster_core.specs.View.{ClusterView, failing_in}
 use Rattle.cluster_core.specs.Work.{AnswersNext}
 use Rattle.page_accounts.proofs.Counts.{ahead_passed}
-use Rattle.cluster_core.proofs.absorbing.ByKind.{OneOf, by_kind, by_page, by_sync, kind_is}
 use Rattle.cluster_core.proofs.absorbing.Counted.{count_by-snoc, lost_before}
 
 -- ---- what a cluster has answered
@@ -58,31 +56,25 @@ least_more system log e k =
 -- ---- a post more
 
 -- a post adds one call where it is an answer of the cluster
-abbrev owed : ClusterNo → Queued → ℕ
+abbrev pub owed : ClusterNo → Queued → ℕ
 owed k Nothing = 0
 owed k (One post) = cond (is_page_is_entry post.what && is_from k post.by) 1 0
 
 -- what stands in a log as it is queued
-abbrev IsPlain : Queued → Type 0
+abbrev pub IsPlain : Queued → Type 0
 IsPlain Nothing = ⊤
 IsPlain (One post) = is_rebackup post.what ≡ false
 
 plain_kind : (w : What) → is_unlost w ≡ true → is_rebackup w ≡ false
-plain_kind w unlost = by_one (kind_is w (unlost_built w unlost))
-  where
-    by_one : OneOf w → is_rebackup w ≡ false
-    by_one (inl tells) = by_kind (λ w. is_rebackup w ≡ false) (λ at letter. refl) (λ pid at end. refl) (λ rests. refl) refl w tells
-    by_one (inr (inl of)) = by_page (λ w. is_rebackup w ≡ false) (λ pid index. refl) (λ pid index bytes. refl) w of
-    by_one (inr (inr (inl loss))) = ap is_rebackup loss.same
-    by_one (inr (inr (inr (inl of)))) = by_sync (λ w. is_rebackup w ≡ false) (λ pid at index bytes. refl) (λ pid small read took. refl) w of
-    by_one (inr (inr (inr (inr b)))) = ap is_rebackup b.same
+plain_kind (Rebackup to fresh recs) unlost = absurd (true≢false (sym unlost))
+plain_kind _ unlost = refl
 
 plain_post : (system : System) (log : List Entry) (q : Queued) → IsQueueLegal UnlostMayFollow system log (posts_of q) → IsPlain q
 plain_post system log Nothing legal = tt
 plain_post system log (One post) legal = plain_kind post.what (legal.0).built
 
 -- the least calls of a log with at most one post
-least_queued : (system : System) (log : List Entry) (q : Queued) (k : ClusterNo) → IsPlain q → least_calls system log (with_queue system log (posts_of q)) k ≡ least_calls system log log k + owed k q
+pub least_queued : (system : System) (log : List Entry) (q : Queued) (k : ClusterNo) → IsPlain q → least_calls system log (with_queue system log (posts_of q)) k ≡ least_calls system log log k + owed k q
 least_queued system log Nothing k plain = omega arith
 least_queued system log (One post) k plain =
     let stands : with_queue system log (post ∷ []) ≡ log ++ entry_of system log post ∷ [] = ap (λ b. cond b log (log ++ entry_of system log post ∷ [])) plain in

@@ -55,10 +55,11 @@ use Rattle.cluster_core.specs.Holds.{IsHeldAs, is_fetch_queued, CarriesMarks, Ma
 use Rattle.cluster_core.specs.Follows.{IsOpen}
 use Rattle.cluster_core.proofs.births.FamilyNext.{family_next}
 use Rattle.cluster_core.proofs.here.Beside.{FollowsBeside, HeldOf, of_them, one_of_them}
-use Rattle.cluster_core.specs.Calls.{absorbed}
+use Rattle.cluster_core.specs.Calls.{with_entry}
 use Rattle.cluster_core.specs.Serving.{Serves}
 use Rattle.cluster_core.proofs.absorbing.ByKind.{by_kind, is_of_page, lone_is, may_told, told_may}
 use Rattle.cluster_core.proofs.absorbing.Counted.{lost_before}
+use Rattle.cluster_core.proofs.absorbing.Fallen.{page_stays_queued}
 use Rattle.cluster_core.proofs.absorbing.Following.{counted_foreign, may_end_still, post_may}
 use Rattle.cluster_core.proofs.absorbing.Posted.{moves_it, no_end}
 use Rattle.cluster_core.proofs.syncs.Marking.{marked_after, queue_tells}
@@ -174,7 +175,7 @@ module _ (system : System) (valid : is_system system ≡ true) (log : List Entry
 
       by_kind_of : (tells_or_closes post.what ≡ true) ⊎ (is_of_page post.what ≡ true) → UnlostMayFollow system later (entry_of system later post)
       by_kind_of (inl tells) = may_told system later (entry_of system later post) (post_stays k post spares from (told_may system log (entry_of system log post) legal.0 tells))
-      by_kind_of (inr page) = page_post_stays system valid log e k post now next foreign (loses_none k) from page legal.0
+      by_kind_of (inr page) = page_post_stays system valid log e k post now next foreign (loses_none k) from page (page_stays_queued places (what e) post.what page n.no_loss) legal.0
 
   -- ---- the processes
 
@@ -223,9 +224,9 @@ module _ (system : System) (valid : is_system system ≡ true) (log : List Entry
 
   -- ---- the whole
 
-  pub follows_passed : (which : Pid → Bool) (c : ClusterView) (server : Option PagerState) → absorbed c e ≡ passed c e → ((p : Pid) → HomeHere places p c.number → Spares system log e p)
+  pub follows_passed : (which : Pid → Bool) (c : ClusterView) (server : Option PagerState) → with_entry c e ≡ passed c e → ((p : Pid) → HomeHere places p c.number → Spares system log e p)
       → pids_home c.number (placement system later).placed ≡ pids_home c.number places.placed → KeepsRecords system later c.number (records_after c.number (what e) c.records) → ForksLeft (family_after (what e) c.family) c.here → AllOwn c.cursor c.here → Serves places e c.server server → FollowsBeside which system log c
-      → is_by_cluster c.number e ≡ false → FollowsBeside which system later (with_server server (absorbed c e))
+      → is_by_cluster c.number e ≡ false → FollowsBeside which system later (with_server server (with_entry c e))
   follows_passed which c server taken spares pids records forks own serves f foreign = subst (λ v. FollowsBeside which system later (with_server server v)) (sym taken) (record {
     log = record {
       cursor = ap (λ m. m + 1) (f.log).cursor ∙ sym (length-append log (e ∷ []));

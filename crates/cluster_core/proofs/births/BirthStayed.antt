@@ -154,7 +154,7 @@ module _ (system : System) (valid : is_system system ≡ true) (log : List Entry
       ap (λ places. next_serial_in places k) (placement-snoc system log e)
       ∙ by_built (λ w. is_by_right places (e.post).by w ≡ true → KindHolds system log e w → next_serial_in (placed_after places w) k ≡ next_serial_in places k)
       (λ at letter right kind. refl) (λ parent at child end right kind. serial_born places child k (placed_at places parent) (parent_away parent child right kind.child_is)) (λ r at end right kind. refl) (λ r index right kind. refl) (λ r index bytes right kind. refl)
-      (λ lost cause right kind. serial_lost places.clusters lost.0 k.0) (λ r at index bytes right kind. refl) (λ r small read took right kind. refl) (λ rests right kind. refl) (λ right kind. refl) (what e) may_e.built (may_e.stands).by_right (may_e.stands).kind
+      (λ lost cause right kind. serial_lost places.clusters lost.0 k.0) (λ r at index bytes right kind. refl) (λ r small read took right kind. refl) (λ to fresh recs right kind. refl) (λ rests right kind. refl) (λ right kind. refl) (what e) may_e.built (may_e.stands).by_right (may_e.stands).kind
 
   -- so the next child of a process at home here has the pid that it had, where the process stays at home
   pub child_after : (p child : Pid) → HomeHere places p k → home_at (placement system later) p ≡ home_at places p → option_map (next_child_at places) (unended_at places p) ≡ Some child → option_map (next_child_at (placement system later)) (unended_at (placement system later) p) ≡ Some child

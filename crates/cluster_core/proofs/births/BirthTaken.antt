@@ -43,7 +43,7 @@ use Rattle.cluster_core.specs.Holds.{CarriesMarks, IsHeldAs, MarkedIfThere, proc
 use Rattle.cluster_core.specs.Follows.{FollowsBuilt, IsOpen, StandsBetween}
 use Rattle.cluster_core.specs.Bearing.{BearsChild, birth_post, forked, newborn, with_born}
 use Rattle.cluster_core.specs.Recovered.{left_by, moved_by, with_all_waiting}
-use Rattle.cluster_core.specs.Calls.{absorbed, here_after}
+use Rattle.cluster_core.specs.Calls.{with_entry, here_after}
 use Rattle.cluster_core.specs.Serving.{Serves}
 use Rattle.cluster_core.proofs.syncs.Batching.{unqueued}
 use Rattle.cluster_core.proofs.here.Beside.{FollowsBeside, all_of}
@@ -63,10 +63,10 @@ use Rattle.cert_sched.specs.Deeds.{letter_for}
 -- ---- an entry of another cluster
 
 pub follows_beside_birth : (c : ClusterView) (log : List Entry) (e : Entry) (b : BearsChild c.system log c) → is_system c.system ≡ true → IsOpen MayStand c.system log → IsOpen MayStand c.system (log ++ e ∷ []) → FollowsBuilt c.system log c
-    → is_by_cluster c.number e ≡ false → is_crash_of c.number (what e) ≡ false → (server : Option PagerState) → FollowsBeside all_of c.system (log ++ e ∷ []) (with_server server (absorbed (unqueued c) e))
-    → home_at (placement c.system (log ++ e ∷ [])) b.pid ≡ home_at (placement c.system log) b.pid → ((h : Held) → held_at (absorbed c e) b.pid ≡ Some h → RunsStill (letter_for b.pid (what e)) b.process h) → FollowsBuilt c.system (log ++ e ∷ []) (with_server server (absorbed c e))
+    → is_by_cluster c.number e ≡ false → is_crash_of c.number (what e) ≡ false → (server : Option PagerState) → FollowsBeside all_of c.system (log ++ e ∷ []) (with_server server (with_entry (unqueued c) e))
+    → home_at (placement c.system (log ++ e ∷ [])) b.pid ≡ home_at (placement c.system log) b.pid → ((h : Held) → held_at (with_entry c e) b.pid ≡ Some h → RunsStill (letter_for b.pid (what e)) b.process h) → FollowsBuilt c.system (log ++ e ∷ []) (with_server server (with_entry c e))
 follows_beside_birth c log e b valid now later f other spared server beside same_home stays =
-    let new : ClusterView = with_server server (absorbed c e) in
+    let new : ClusterView = with_server server (with_entry c e) in
     with_birth c.system (log ++ e ∷ []) new (bears_still c log e b valid now later (f.processes).each_once other spared new refl refl refl (beside.processes).each_once same_home stays) valid later beside
 
 -- ---- the birth itself
@@ -187,7 +187,7 @@ module _ (system : System) (valid : is_system system ≡ true) (log : List Entry
   }
 
   -- so it is the cluster that has taken the entry in
-  pub taken_born : absorbed (record v { queue = []; tried = false }) e ≡ born_view
+  pub taken_born : with_entry (record v { queue = []; tried = false }) e ≡ born_view
   taken_born = ap taken is ∙ sym (ap made is)
     where
       taken : What → ClusterView
@@ -207,9 +207,9 @@ module _ (system : System) (valid : is_system system ≡ true) (log : List Entry
 
 -- a cluster that takes in the birth that it had queued
 pub follows_own_birth : (c : ClusterView) (log : List Entry) (e : Entry) (server : Option PagerState) → is_system c.system ≡ true → AllOwn c.cursor c.here → IsOpen MayStand c.system log → IsOpen MayStand c.system (log ++ e ∷ [])
-    → (s : StandsBetween FollowsBuilt c.system log e c) → BearsChild c.system log s.before → Serves (placement c.system log) e c.server server → FollowsBuilt c.system (log ++ e ∷ []) (with_server server (absorbed c e))
+    → (s : StandsBetween FollowsBuilt c.system log e c) → BearsChild c.system log s.before → Serves (placement c.system log) e c.server server → FollowsBuilt c.system (log ++ e ∷ []) (with_server server (with_entry c e))
 follows_own_birth c log e server valid own now later s b serves =
-    subst (λ (d : ClusterView). FollowsBuilt c.system (log ++ e ∷ []) (with_server server (absorbed d e))) (sym same)
+    subst (λ (d : ClusterView). FollowsBuilt c.system (log ++ e ∷ []) (with_server server (with_entry d e))) (sym same)
     (subst (λ (d : ClusterView). FollowsBuilt c.system (log ++ e ∷ []) (with_server server d)) (sym (taken_born c.system valid log v s.followed s.tried mine b e whole now later))
     (follows_born c.system valid log v s.followed s.tried mine b e whole now later server (subst (λ (d : ClusterView). Serves (placement c.system log) e d.server server) same serves)))
   where

@@ -45,7 +45,7 @@ use Rattle.cluster_core.specs.View.{ClusterView, Held, held_of, next_count, with
 use Rattle.cluster_core.specs.Parts.{AllOwn}
 use Rattle.cluster_core.specs.Recovered.{left_by, moved_by, with_all_waiting}
 use Rattle.cluster_core.specs.Follows.{IsOpen}
-use Rattle.cluster_core.specs.Calls.{absorbed, here_after}
+use Rattle.cluster_core.specs.Calls.{with_entry, here_after}
 use Rattle.cluster_core.specs.Serving.{Serves}
 use Rattle.cluster_core.proofs.here.Beside.{FollowsBeside}
 use Rattle.cert_sched.proofs.BirthClusters.{birth_living}
@@ -61,7 +61,7 @@ use Rattle.cluster_core.proofs.absorbing.Telling.{done_is}
 
 -- ---- what the cluster is then
 
-pub birth_taken : (c : ClusterView) (e : Entry) (parent : Pid) (at : ℕ) (child : Pid) (end : ℕ) → what e ≡ Birth parent at child end → held_of c.here parent ≡ None → absorbed c e ≡ passed c e
+pub birth_taken : (c : ClusterView) (e : Entry) (parent : Pid) (at : ℕ) (child : Pid) (end : ℕ) → what e ≡ Birth parent at child end → held_of c.here parent ≡ None → with_entry c e ≡ passed c e
 birth_taken c e parent at child end is away = ap taken is ∙ ap (λ o. record (spared (Birth parent at child end)) { here = option_map_or (λ (h : Held). with_fork parent child h c.here) o c.here }) away ∙ sym (ap spared is)
   where
     taken : What → ClusterView
@@ -174,7 +174,7 @@ module _ (system : System) (valid : is_system system ≡ true) (log : List Entry
   }
 
   pub follows_birth : (which : Pid → Bool) (c : ClusterView) (server : Option PagerState) → KeepsRecords system later c.number (records_after c.number (what e) c.records) → AllOwn c.cursor c.here → Serves places e c.server server → FollowsBeside which system log c → is_by_cluster c.number e ≡ false
-      → FollowsBeside which system later (with_server server (absorbed c e))
+      → FollowsBeside which system later (with_server server (with_entry c e))
   follows_birth which c server records own serves f foreign =
       follows_passed system valid log e now next brings_nothing which c server (birth_taken c e parent at child end is (parent_not_here c.number foreign c.here (f.processes).each_once)) (spares_here c.number foreign) (pids_same c.number foreign) records
       (subst (λ w. ForksLeft (family_after w c.family) c.here) (sym is) (forks_elsewhere c.family c.here parent child (parent_not_here c.number foreign c.here (f.processes).each_once) f.forks)) own serves f foreign

@@ -5,13 +5,16 @@ use Rattle.std.specs.List.{list_any}
 use Rattle.std.proofs.lemmas.Bool.{and_parts}
 use Rattle.std.proofs.lemmas.List.Folds.{list_any-append}
 use Rattle.t32_base.specs.declared.process.Pid.{Pid}
+use Rattle.t32_base.specs.declared.process.ClusterNo.{ClusterNo}
 use Rattle.t32_base.specs.declared.process.Counts.{Counts}
+use Rattle.t32_base.specs.declared.letter.BackRec.{BackRec}
 use Rattle.t32_base.specs.declared.letter.Letter.{Letter}
 use Rattle.proc_state.specs.declared.process.Process.{Process}
 use Rattle.sys_calls.specs.declared.steps.Emission.TheVariants.{Mail as Sent, Exit as Ended}
 use Rattle.sys_calls.specs.Calls.{Next, Silent, Blocked, Forks, Emits, Over}
 use Rattle.sys_calls.specs.Next.{next_step}
 use Rattle.bus_msg.specs.declared.entry.What.{What}
+use Rattle.bus_msg.specs.declared.entry.What.TheVariants.{Rebackup}
 use Rattle.bus_msg.specs.Places.{same_pid}
 use Rattle.cert_sched.specs.Built.{tells_or_closes}
 use Rattle.cert_sched.specs.Deeds.{is_end_of}
@@ -166,6 +169,16 @@ forks_told w births here tells = forks_kept births (family_after w births) here 
 pub forks_synced : (w : What) (births : List Pair) (here : List (Pid × Held)) → is_of_sync w ≡ true → ForksLeft births here → ForksLeft (family_after w births) here
 forks_synced w births here of =
     forks_kept births (family_after w births) here here (by_sync (λ w. AreAmong (family_after w births) births) (λ pid at index bytes parent child born. born) (λ pid small read took. filter_among (λ (b : Pair). not (same_pid b.1 pid)) births) w of) (λ p h at. record { was = h; there = at; same = same_forks h })
+
+-- at a new backup, where the process that has run leaves them
+pub forks_renewed : (to : ClusterNo) (fresh : Bool) (recs : List BackRec) (births : List Pair) (here : List (Pid × Held)) → ForksLeft births here → ForksLeft (family_after (Rebackup to fresh recs) births) here
+forks_renewed to fresh recs births here =
+    forks_kept births (family_after (Rebackup to fresh recs) births) here here (by_form fresh recs) (λ p h at. record { was = h; there = at; same = same_forks h })
+  where
+    by_form : (fresh : Bool) (recs : List BackRec) → AreAmong (family_after (Rebackup to fresh recs) births) births
+    by_form false recs = λ parent child born. born
+    by_form true [] = λ parent child born. born
+    by_form true (r ∷ rs) = filter_among (λ (b : Pair). not (same_pid b.1 r.pid)) births
 
 -- ---- a birth
 

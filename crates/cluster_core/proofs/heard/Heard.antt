@@ -28,6 +28,7 @@ use Rattle.log_laws.proofs.births.OtherEntries.{ended_goes, others_leave, synced
 use Rattle.page_server.specs.Account.{PagerState}
 use Rattle.backup_records.specs.Records.{are_rising, records_after}
 use Rattle.cluster_core.specs.Absorbing.{goes_to}
+use Rattle.cluster_core.specs.Queue.{is_rebackup}
 use Rattle.cluster_core.specs.Calls.{ReadyFor, absorbed, here_after}
 use Rattle.cluster_core.specs.Follows.{FollowsBuilt, IsOpen}
 use Rattle.cluster_core.specs.Hearing.{FollowsHeard, KnowsPlaces, concerns, family_heard, heard_in, with_heard}
@@ -47,7 +48,7 @@ use Rattle.log_laws.proofs.births.NewBirth.{birth_last, stands_in_none}
 use Rattle.cluster_core.proofs.absorbing.Absorbed.{absorbs, ready_own}
 use Rattle.cluster_core.proofs.absorbing.Counted.{capped_next, count_by-snoc, lost_before}
 use Rattle.cluster_core.proofs.losses.FirstServer.{lost_other, same_pager}
-use Rattle.cluster_core.proofs.absorbing.KnownPlaces.{known_after, left_alike, moved_alike, concerns_alike}
+use Rattle.cluster_core.proofs.absorbing.KnownPlaces.{known_after, left_alike, moved_alike, concerns_alike, queues_alike}
 use Rattle.cluster_core.proofs.losses.OwningWaits.{owns_waiting}
 use Rattle.cluster_core.proofs.heard.PassedOver.{own_upto}
 use Rattle.cluster_core.proofs.heard.Shadow.{alike, queued_back, shadow, shadow_follows}
@@ -132,7 +133,7 @@ sync_keeps_concerns places k pid small read took b =
 module _ (c : ClusterView) (log : List Entry) (e : Entry) (server : Option PagerState) (valid : is_system c.system ≡ true) (now : IsOpen MayStand c.system log)
     (next : IsOpen MayStand c.system (log ++ e ∷ [])) (comes : goes_to e.dests c.number ≡ true) (foreign : is_by_cluster c.number e ≡ false) (spared : is_crash_of c.number (what e) ≡ false)
     (order : are_rising (moved_by c.places c.number (what e) (records_after c.number (what e) c.records)) ≡ true) (serves : Serves (placement c.system log) e c.server server)
-    (f : FollowsHeard c.system log c) where
+    (unrenewed : is_rebackup (what e) ≡ false) (f : FollowsHeard c.system log c) where
   abbrev k : ClusterNo
   k = c.number
 
@@ -181,8 +182,11 @@ module _ (c : ClusterView) (log : List Entry) (e : Entry) (server : Option Pager
   recs_are : taken.records ≡ heard.records
   recs_are = sym same_left
 
+  queue_is : taken.queue ≡ heard.queue
+  queue_is = sym (queues_alike c.system k c.places places (what e) c.queue (f.log).places)
+
   as_heard : taken ≡ alike heard taken.cursor taken.places taken.family taken.steps
-  as_heard = λ i. record heard { cursor = taken.cursor; places = taken.places; here = here_is i; records = recs_are i; family = taken.family; steps = taken.steps }
+  as_heard = λ i. record heard { cursor = taken.cursor; places = taken.places; here = here_is i; records = recs_are i; family = taken.family; queue = queue_is i; steps = taken.steps }
 
   still : FollowsBuilt c.system later (alike heard taken.cursor taken.places taken.family taken.steps)
   still = subst (FollowsBuilt c.system later) as_heard goes_on
@@ -204,7 +208,6 @@ module _ (c : ClusterView) (log : List Entry) (e : Entry) (server : Option Pager
   asks_stay t same (Birth parent at child end) is other = birth_keeps t same places child (placed_at places parent) k
   asks_stay t same (Crash lost cause) is other = ap (λ o. option_map_or t o false) (lost_other places.clusters lost.0 k.0 other)
   asks_stay t same (Return j) is other = absurd (true≢false (sym is))
-  asks_stay t same (Rebackup to fresh more) is other = absurd (true≢false (sym is))
   asks_stay t same _ is other = refl
 
   asked_later : (t : ClusterPlace → Bool) → ((c : ClusterPlace) → t (raised_serial c) ≡ t c)
@@ -347,7 +350,7 @@ module _ (c : ClusterView) (log : List Entry) (e : Entry) (server : Option Pager
       ∙ ap (filter (concerns (placement c.system later) k)) (sym (synced_goes c.system log e pid small read took is))
   family_kept (Crash lost cause) is kind other = alike_here (Crash lost cause) is refl (loss_concerns lost cause other)
   family_kept (Return j) is kind other = absurd (true≢false (sym kind))
-  family_kept (Rebackup to fresh more) is kind other = absurd (true≢false (sym kind))
+  family_kept (Rebackup to fresh more) is kind other = absurd (true≢false (sym (ap is_rebackup is) ∙ unrenewed))
   family_kept w is kind other = alike_here w is refl (λ b. refl)
 
   -- ---- the whole
@@ -365,7 +368,7 @@ module _ (c : ClusterView) (log : List Entry) (e : Entry) (server : Option Pager
     log = record {
       within = omega (arith, place_is, length-append log (e ∷ []));
       none_left = ap (λ n. list_any (λ (e : Entry). goes_to e.dests k) (drop (n + 1) later)) place_is ∙ ap (list_any (λ (e : Entry). goes_to e.dests k)) (all_dropped log e);
-      places = subst (λ ps. KnowsPlaces c.system k (placed_after c.places (what e)) ps) (sym at_later) (known_after c.system k c.places places (what e) may.built (f.log).places);
+      places = subst (λ ps. KnowsPlaces c.system k (placed_after c.places (what e)) ps) (sym at_later) (known_after c.system k c.places places (what e) may.built unrenewed (f.log).places);
     };
     processes = record { held = (still.processes).held; each_once = (still.processes).each_once };
     queue = record { own = (still.queue).own; legal = (still.queue).legal };
@@ -396,6 +399,6 @@ module _ (c : ClusterView) (log : List Entry) (e : Entry) (server : Option Pager
 pub taken_in_heard : (c : ClusterView) (log : List Entry) (e : Entry) (server : Option PagerState) → is_system c.system ≡ true → IsOpen MayStand c.system log
     → IsOpen MayStand c.system (log ++ e ∷ []) → goes_to e.dests c.number ≡ true → is_by_cluster c.number e ≡ false
     → is_crash_of c.number (what e) ≡ false → are_rising (moved_by c.places c.number (what e) (records_after c.number (what e) c.records)) ≡ true → Serves (placement c.system log) e c.server server
-    → FollowsHeard c.system log c
+    → is_rebackup (what e) ≡ false → FollowsHeard c.system log c
     → FollowsHeard c.system (log ++ e ∷ []) (with_server server (with_heard c e))
-taken_in_heard c log e server valid now next comes foreign spared order serves f = heard_follows c log e server valid now next comes foreign spared order serves f
+taken_in_heard c log e server valid now next comes foreign spared order serves unrenewed f = heard_follows c log e server valid now next comes foreign spared order serves unrenewed f

@@ -22,13 +22,14 @@ use Rattle.log_laws.specs.births.Unsynced.{unsynced_births}
 use Rattle.log_laws.proofs.births.OtherEntries.{synced_goes}
 use Rattle.backup_records.specs.Records.{are_rising, records_after}
 use Rattle.cluster_core.specs.Absorbing.{goes_to}
-use Rattle.cluster_core.specs.Calls.{ReadyFor, absorbed, here_after}
+use Rattle.cluster_core.specs.Calls.{ReadyFor, with_entry, here_after}
 use Rattle.cluster_core.specs.Follows.{FollowsBuilt, IsOpen, StandsBetween}
 use Rattle.cluster_core.specs.Hearing.{FollowsHeard, KnowsPlaces, after_head_heard, after_sent_heard, concerns, heard_in}
 use Rattle.cluster_core.specs.Queue.{IsQueueLegal}
 use Rattle.cluster_core.specs.Recovered.{with_all_waiting}
 use Rattle.cluster_core.specs.View.{ClusterView, Held, after_head, after_sent, head_of, held_of, with_server}
-use Rattle.cluster_core.proofs.absorbing.Absorbed.{absorbs}
+use Rattle.cluster_core.proofs.absorbing.Absorbed.{follows_entry}
+use Rattle.cluster_core.proofs.absorbing.Fallen.{own_left}
 use Rattle.cluster_core.proofs.absorbing.Arriving.{comes_here, goes_elsewhere}
 use Rattle.cluster_core.proofs.absorbing.Counted.{capped_less, count_by-snoc, lost_before}
 use Rattle.cluster_core.proofs.heard.Heard.{any_less, sync_keeps_concerns, without_child}
@@ -105,12 +106,12 @@ module _ (c : ClusterView) (log : List Entry) (e : Entry) (valid : is_system c.s
   recs_stay = noted_next (shadow log left) e valid ready away
 
   abbrev taken : ClusterView
-  taken = with_server c.server (absorbed (shadow log left) e)
+  taken = with_server c.server (with_entry (shadow log left) e)
 
   goes_on : FollowsBuilt c.system later taken
   goes_on =
-      absorbs (shadow log left) e c.server valid (own_upto c.cursor (length log) c.here (f.log).within f.own) (ap are_rising (none_moved c log e valid now next away f _))
-      (serves c log e valid now next away f c.server refl) log now next (inr between)
+      follows_entry (shadow log left) e c.server valid (own_upto c.cursor (length log) c.here (f.log).within f.own) (ap are_rising (none_moved c log e valid now next away f _))
+      (serves c log e valid now next away f c.server refl) (own_left (shadow log left) log e between) log now next (inr between)
 
   as_left : taken ≡ alike left taken.cursor taken.places taken.family taken.steps
   as_left = λ i. record left {
@@ -140,7 +141,7 @@ module _ (c : ClusterView) (log : List Entry) (e : Entry) (valid : is_system c.s
   known_places =
       subst (KnowsPlaces c.system k knows.places) (sym (at_later c log e valid now next away f))
       (of_it c log e valid now next away f (λ w. KnowsPlaces c.system k (after_head_heard c w).places (placed_after places w)) (λ at letter. (f.log).places) (λ pid at index bytes. (f.log).places)
-      (λ pid small read took. known_after c.system k c.places places (Sync pid small read took) refl (f.log).places) (λ pid index. (f.log).places) (λ pid index bytes. (f.log).places))
+      (λ pid small read took. known_after c.system k c.places places (Sync pid small read took) refl refl (f.log).places) (λ pid index. (f.log).places) (λ pid index bytes. (f.log).places))
 
   known_births : knows.family ≡ filter (concerns (placement c.system later) k) (unsynced_births c.system later)
   known_births =

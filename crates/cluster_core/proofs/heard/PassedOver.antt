@@ -21,6 +21,7 @@ use Rattle.bus_msg.specs.Route.{backup_of, home_of, route, to_clusters}
 use Rattle.cert_sched.specs.Built.{MayStand}
 use Rattle.cert_sched.specs.Losses.{capped, is_by_cluster, is_crash_of, least_steps}
 use Rattle.cert_sched.specs.Rules.{is_by, is_by_home, is_by_right}
+use Rattle.cert_sched.specs.Told.{cluster_lost}
 use Rattle.cert_sched.specs.Schedule.{placement}
 use Rattle.cert_sched.proofs.LogLaws.{IsLegal-last, placement-snoc}
 use Rattle.cert_sched.proofs.UnendedLaws.{sync_keeps, unended_map}
@@ -31,7 +32,7 @@ use Rattle.page_server.specs.Account.{PagerState}
 use Rattle.page_accounts.proofs.Followed.{makes_keeps}
 use Rattle.backup_records.specs.Records.{records_after, are_rising}
 use Rattle.cluster_core.specs.Absorbing.{goes_to}
-use Rattle.cluster_core.specs.Calls.{ReadyFor, absorbed, here_after, with_page_come}
+use Rattle.cluster_core.specs.Calls.{ReadyFor, with_entry, here_after, with_page_come}
 use Rattle.cluster_core.specs.Follows.{FollowsBuilt, IsOpen}
 use Rattle.cluster_core.specs.Hearing.{FollowsHeard, KnowsEach, KnowsPlaces, concerns, heard_in}
 use Rattle.cluster_core.specs.Parts.{AllOwn, IsHeldOwn}
@@ -39,7 +40,8 @@ use Rattle.cluster_core.specs.Recovered.{left_by, moved_by, with_all_waiting}
 use Rattle.cluster_core.specs.Residents.{pids_in}
 use Rattle.cluster_core.specs.Serving.{Serves}
 use Rattle.cluster_core.specs.View.{ClusterView, Held, Waits, held_of, page_held, with_server}
-use Rattle.cluster_core.proofs.absorbing.Absorbed.{absorbs}
+use Rattle.cluster_core.proofs.absorbing.Absorbed.{follows_entry}
+use Rattle.cluster_core.proofs.absorbing.Fallen.{legal_left}
 use Rattle.cluster_core.proofs.absorbing.Arriving.{comes_here, goes_elsewhere}
 use Rattle.cluster_core.proofs.absorbing.Counted.{count_by-snoc, lost_before}
 use Rattle.cluster_core.proofs.absorbing.Following.{by_home_of}
@@ -113,6 +115,9 @@ module _ (c : ClusterView) (log : List Entry) (e : Entry) (valid : is_system c.s
 
   pub no_loss : is_crash_of k (what e) ≡ false
   no_loss = of_it (λ w. is_crash_of k w ≡ false) (λ at letter. refl) (λ pid at index bytes. refl) (λ pid small read took. refl) (λ pid index. refl) (λ pid index bytes. refl)
+
+  no_cluster_lost : cluster_lost (what e) ≡ None
+  no_cluster_lost = of_it (λ w. cluster_lost w ≡ None) (λ at letter. refl) (λ pid at index bytes. refl) (λ pid small read took. refl) (λ pid index. refl) (λ pid index bytes. refl)
 
   pub differ : pids_differ places.placed ≡ true
   differ = differ_built c.system log valid now.0
@@ -302,11 +307,11 @@ module _ (c : ClusterView) (log : List Entry) (e : Entry) (valid : is_system c.s
             by_child b false same = sym (stays b) ∙ ap (λ x. not x && concerns (placement c.system later) k b) (sym same)
 
     abbrev taken : ClusterView
-    taken = with_server c.server (absorbed (shadow log c) e)
+    taken = with_server c.server (with_entry (shadow log c) e)
 
     goes_on : FollowsBuilt c.system later taken
     goes_on =
-        absorbs (shadow log c) e c.server valid (own_upto c.cursor (length log) c.here (f.log).within f.own) (ap are_rising (none_moved _)) (serves c.server refl) log now next
+        follows_entry (shadow log c) e c.server valid (own_upto c.cursor (length log) c.here (f.log).within f.own) (ap are_rising (none_moved _)) (serves c.server refl) (legal_left c.system places (what e) log c.queue no_cluster_lost (f.queue).legal) log now next
         (inl (built, foreign, no_loss))
 
     here_is : taken.here ≡ c.here

@@ -15,7 +15,7 @@ use Rattle.bus_msg.specs.declared.entry.What.TheVariants.{Mail, Page, Sync, Fetc
 use Rattle.bus_msg.specs.declared.entry.By.{By}
 use Rattle.bus_msg.specs.declared.entry.By.TheVariants.{Cluster, Bus}
 use Rattle.bus_msg.specs.declared.placed.Placed.{Placed}
-use Rattle.bus_msg.specs.Places.{Places, all_clusters, is_cluster, lives_in, same_cluster, same_pid, servers_in, unended_at}
+use Rattle.bus_msg.specs.Places.{Places, is_cluster, lives_in, same_cluster, same_pid, servers_in, unended_at}
 use Rattle.bus_msg.specs.PlacedAfter.{after_sync}
 use Rattle.bus_msg.specs.Route.{backup_of, home_of, route, to_all, to_list}
 use Rattle.cert_sched.specs.Losses.{is_from}
@@ -24,12 +24,9 @@ use Rattle.cert_sched.specs.Rules.{is_by}
 use Rattle.cluster_core.specs.Absorbing.{goes_to}
 use Rattle.cluster_core.specs.Hearing.{KnowsEach, KnowsPlaced}
 use Rattle.cluster_core.proofs.losses.Homes.{HomeHere}
-use Rattle.cluster_core.proofs.absorbing.Noting.{all_named, named_goes, other_bit}
+use Rattle.cluster_core.proofs.absorbing.Noting.{all_hear, named_goes, other_bit}
 
 -- ---- its kind
-
-all_hear : (places : Places) (k : ClusterNo) → lives_in places k ≡ true → goes_to (to_all places) k ≡ true
-all_hear places k lives = named_goes places k (all_clusters places) lives (all_named places k lives)
 
 -- what holds of each kind that may pass a cluster by holds of every entry that does
 pub by_unheard : (P : What → Type 0) → ((at : ℕ) (letter : Letter) → P (Mail at letter)) → ((pid : Pid) (at index : ℕ) (bytes : List ℕ) → P (Page pid at index bytes))

@@ -57,7 +57,7 @@ use Rattle.cluster_core.specs.Queue.{AreTogether, Queued, posts_of, IsQueueLegal
 use Rattle.cluster_core.specs.Recovered.{left_by, moved_by, CanWait, with_all_waiting}
 use Rattle.cluster_core.specs.Holds.{IsHeldAs, is_fetch_queued, process_in, CarriesMarks, MarkedIfThere, unended_process}
 use Rattle.cluster_core.proofs.here.Beside.{FollowsBeside, HeldOf, of_them, one_of_them}
-use Rattle.cluster_core.specs.Calls.{absorbed, here_after}
+use Rattle.cluster_core.specs.Calls.{with_entry, here_after}
 use Rattle.cluster_core.proofs.here.Here.{is_among, pid_same}
 use Rattle.cluster_core.proofs.losses.Homes.{HomeHere, differ_built, home_here}
 use Rattle.cluster_core.proofs.losses.HomesMoved.{any_moved, homes_after, pids_moved, put_same, same_in_order}
@@ -70,6 +70,7 @@ use Rattle.cluster_core.proofs.absorbing.Served.{accounts_next, foreign_no_answe
 use Rattle.cluster_core.specs.Serving.{Serves}
 use Rattle.page_server.specs.Account.{PagerState}
 use Rattle.replay_laws.proofs.pages.RecordPages.{HasPages, has_pages, starts_so}
+use Rattle.cluster_core.proofs.absorbing.Fallen.{NoneFalls}
 use Rattle.cluster_core.proofs.losses.LostQueue.{NextLoss, no_fetch_queued, no_move_queued, not_here_lost, places_after, queue_stays, found_after}
 use Rattle.cert_sched.specs.Legal.{Stands}
 use Rattle.replay_laws.specs.pages.Waits.{first_wait, none_queued}
@@ -336,8 +337,8 @@ module _ (system : System) (valid : is_system system ≡ true) (log : List Entry
   -- ---- the whole
 
   pub follows_lost : (which : Pid → Bool) (c : ClusterView) (server : Option PagerState) → Serves places e c.server server → c.system ≡ system → c.number ≡ k → AllOwn c.cursor c.here → FollowsBeside which system log c → is_by_cluster k e ≡ false
-      → are_rising (filter (moves_here places lost k) c.records) ≡ true → FollowsBeside which system later (with_server server (absorbed c e))
-  follows_lost which c server serves system_is number_is own f foreign order = subst (λ v. FollowsBeside which system later (with_server server v)) (sym whole) (record {
+      → are_rising (filter (moves_here places lost k) c.records) ≡ true → NoneFalls places (what e) c.queue → FollowsBeside which system later (with_server server (with_entry c e))
+  follows_lost which c server serves system_is number_is own f foreign order unfallen = subst (λ v. FollowsBeside which system later (with_server server v)) (sym whole) (record {
     log = record {
       cursor = ap (λ m. m + 1) (f.log).cursor ∙ sym (length-append log (e ∷ []));
       places = sym there_after;
@@ -381,14 +382,17 @@ module _ (system : System) (valid : is_system system ≡ true) (log : List Entry
       posts_legal : IsQueueLegal UnlostMayFollow system log (posts_of q)
       posts_legal = subst (IsQueueLegal UnlostMayFollow system log) queue_is (f.queue).legal
 
+      posts_unfallen : NoneFalls places (what e) (posts_of q)
+      posts_unfallen = subst (NoneFalls places (what e)) queue_is unfallen
+
       legal_still : IsQueueLegal UnlostMayFollow system later c.queue
-      legal_still = subst (IsQueueLegal UnlostMayFollow system later) (sym queue_is) (queue_stays system valid log e lost cause n k apart q (f.queued).together posts_own foreign posts_legal)
+      legal_still = subst (IsQueueLegal UnlostMayFollow system later) (sym queue_is) (queue_stays system valid log e lost cause n k apart q (f.queued).together posts_own foreign posts_unfallen posts_legal)
 
       -- what the cluster is after it
       after : ClusterView
       after = record c { cursor = c.cursor + 1; places = placed_after places (Crash lost cause); here = with_all_waiting moved c.here; records = filter (stays places lost c.number) c.records; steps = next_count c.steps }
 
-      whole : absorbed c e ≡ after
+      whole : with_entry c e ≡ after
       whole =
           (λ i. record c {
             cursor = c.cursor + 1;
@@ -438,7 +442,7 @@ module _ (system : System) (valid : is_system system ≡ true) (log : List Entry
           let leaves : Leaves system log p (what e) = (ap (is_cut p) n.same, ap (is_birth_of p) n.same, ap (is_some_page p) n.same, stays) in
           marked_after system log e p q h h valid (built_stands system later n.more) (ap is_some home.found)
           (ap is_some (found_after system valid log e lost cause n k apart p ∙ ap (option_map (after_loss lost)) home.found)) (f.queued).together
-          (queue_tells system log k q posts_own posts_legal) (queue_tells system later k q posts_own (queue_stays system valid log e lost cause n k apart q (f.queued).together posts_own foreign posts_legal))
+          (queue_tells system log k q posts_own posts_legal) (queue_tells system later k q posts_own (queue_stays system valid log e lost cause n k apart q (f.queued).together posts_own foreign posts_unfallen posts_legal))
           (subst (λ ps. IsHeldAs system log ps p h) queue_is (one_of_them which system log c.queue p h among ((f.processes).held p h there))) now leaves (ap (is_exit_of p) n.same) (λ m. m)
           (subst (λ ps. MarkedIfThere CarriesMarks system (with_queue system log ps) p (unended_process h)) queue_is (f.marks p h there among))
 

@@ -28,7 +28,7 @@ use Rattle.cert_sched.specs.Schedule.{items_of, placement}
 use Rattle.cert_sched.proofs.CoverLaws.{lives_on}
 use Rattle.cert_sched.proofs.LogLaws.{IsLegal-last, placement-snoc}
 use Rattle.cert_sched.proofs.UnendedLaws.{loss_keeps, unended_map}
-use Rattle.cluster_core.specs.Queue.{is_lone, AreTogether, Queued, Nothing, One, posts_of, IsQueueLegal, is_move_of, move_of}
+use Rattle.cluster_core.specs.Queue.{is_lone, AreTogether, Queued, Nothing, One, posts_of, IsQueueLegal, falls, is_move_of, move_of}
 use Rattle.cluster_core.proofs.absorbing.ByKind.{by_kind, by_page, is_of_page, lone_is, may_told, told_may}
 use Rattle.cluster_core.proofs.here.Here.{pid_same}
 use Rattle.cluster_core.proofs.losses.Homes.{differ_built}
@@ -40,6 +40,7 @@ use Rattle.cluster_core.proofs.absorbing.Posted.{moves_it, no_end}
 use Rattle.cert_sched.specs.Moved.{is_fetch}
 use Rattle.cluster_core.specs.Holds.{is_fetch_queued}
 use Rattle.cluster_core.proofs.paging.PagePosts.{page_post_stays}
+use Rattle.cluster_core.proofs.absorbing.Fallen.{NoneFalls}
 use Rattle.cluster_core.proofs.paging.HasPages.{waits_after}
 use Rattle.cert_sched.specs.Deeds.{deeds_in, is_birth_of, is_cut, letter_for}
 use Rattle.sys_calls.proofs.RunLemma.{all_delivered}
@@ -158,17 +159,18 @@ module _ (system : System) (valid : is_system system ≡ true) (log : List Entry
           ap (λ b. is_living (placement system later) b && is_by b (home_at (placement system later) u.pid)) by_k
           ∙ (λ i. lives i && is_by (Cluster k) (home_stays u.pid home i)) ∙ eq-eqb k.0 k.0 refl
 
-  -- so may one of a page
-  post_stays : (post : Post) → is_lone post.what ≡ true → is_from k post.by ≡ true → is_by_cluster k e ≡ false → UnlostMayFollow system log (entry_of system log post) → UnlostMayFollow system later (entry_of system later post)
-  post_stays post lone own foreign may = by_what (lone_is post.what lone)
+  -- so may one of a page that does not fall
+  post_stays : (post : Post) → is_lone post.what ≡ true → is_from k post.by ≡ true → is_by_cluster k e ≡ false → falls places (what e) post.what ≡ false → UnlostMayFollow system log (entry_of system log post) → UnlostMayFollow system later (entry_of system later post)
+  post_stays post lone own foreign unfallen may = by_what (lone_is post.what lone)
     where
       by_what : (tells_or_closes post.what ≡ true) ⊎ (is_of_page post.what ≡ true) → UnlostMayFollow system later (entry_of system later post)
       by_what (inl tells) = may_told system later (entry_of system later post) (told_stays post own (told_may system log (entry_of system log post) may tells))
-      by_what (inr of) = page_post_stays system valid log e k post (n.legal, n.before) (n.more, n.goes_on) foreign not_here_lost own of may
+      by_what (inr of) = page_post_stays system valid log e k post (n.legal, n.before) (n.more, n.goes_on) foreign not_here_lost own of unfallen may
 
-  pub queue_stays : (q : Queued) → AreTogether q → list_all (λ (post : Post). is_from k post.by) (posts_of q) ≡ true → is_by_cluster k e ≡ false → IsQueueLegal UnlostMayFollow system log (posts_of q) → IsQueueLegal UnlostMayFollow system later (posts_of q)
-  queue_stays Nothing together own foreign legal = tt
-  queue_stays (One post) together own foreign legal = (post_stays post together (and_parts (is_from k post.by) true own).0 foreign legal.0, tt)
+  pub queue_stays : (q : Queued) → AreTogether q → list_all (λ (post : Post). is_from k post.by) (posts_of q) ≡ true → is_by_cluster k e ≡ false → NoneFalls places (what e) (posts_of q) → IsQueueLegal UnlostMayFollow system log (posts_of q)
+      → IsQueueLegal UnlostMayFollow system later (posts_of q)
+  queue_stays Nothing together own foreign unfallen legal = tt
+  queue_stays (One post) together own foreign unfallen legal = (post_stays post together (and_parts (is_from k post.by) true own).0 foreign (unfallen post refl) legal.0, tt)
 
   -- nothing is queued for a process that is at home elsewhere: no move of it,
   pub no_move_queued : (q : Queued) (p : Pid) → AreTogether q → list_all (λ (post : Post). is_from k post.by) (posts_of q) ≡ true → IsQueueLegal UnlostMayFollow system log (posts_of q) → (home_at places p ≡ Some k → ⊥) → move_of p (posts_of q) ≡ None

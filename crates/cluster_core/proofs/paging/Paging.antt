@@ -38,7 +38,7 @@ use Rattle.cluster_core.specs.Queue.{AreTogether, Queued, Nothing, One, posts_of
 use Rattle.cluster_core.specs.Recovered.{left_by, moved_by, with_all_waiting}
 use Rattle.cluster_core.specs.Holds.{IsHeldAs, is_fetch_queued, process_in, CarriesMarks, MarkedIfThere, unended_process, HoldsLimits}
 use Rattle.cluster_core.specs.Follows.{FollowsBuilt, IsOpen}
-use Rattle.cluster_core.specs.Calls.{absorbed, here_after}
+use Rattle.cluster_core.specs.Calls.{with_entry, here_after}
 use Rattle.cluster_core.proofs.births.FamilyNext.{family_next}
 use Rattle.cluster_core.proofs.absorbing.ByKind.{by_page, is_of_page, lone_is, may_told, page_unlost, told_may}
 use Rattle.cluster_core.proofs.here.Beside.{FollowsBeside, HeldOf, WaitsAs, any_of, one_of_them, told_waits, waits_as}
@@ -46,6 +46,8 @@ use Rattle.cluster_core.proofs.here.Here.{is_among, pid_same}
 use Rattle.cluster_core.proofs.losses.Homes.{HomeHere, differ_built, home_here, pids_home}
 use Rattle.cluster_core.proofs.absorbing.Telling.{Telling, telling}
 use Rattle.cluster_core.proofs.absorbing.Counted.{lost_before}
+use Rattle.cluster_core.proofs.absorbing.Fallen.{page_stays_queued}
+use Rattle.cert_sched.specs.Told.{cluster_lost}
 use Rattle.cluster_core.proofs.absorbing.Posted.{no_end}
 use Rattle.cluster_core.proofs.absorbing.Following.{counted_foreign, may_end_still, post_may, Left, by_home_of, by_one, counted_left, letter_pids, page_queued, marked_own}
 use Rattle.cluster_core.proofs.absorbing.Served.{accounts_next, foreign_no_answer, accounts_sent, ahead_after}
@@ -115,7 +117,7 @@ pids_paged w here = by_page (λ w. pids_in (here_after w here) ≡ pids_in here)
 abbrev pub paged : ClusterView → Entry → ClusterView
 paged c e = record c { cursor = c.cursor + 1; places = placed_after c.places (what e); here = here_after (what e) c.here; family = family_after (what e) c.family; steps = next_count c.steps }
 
-pub page_taken : (c : ClusterView) (e : Entry) → is_of_page (what e) ≡ true → absorbed c e ≡ paged c e
+pub page_taken : (c : ClusterView) (e : Entry) → is_of_page (what e) ≡ true → with_entry c e ≡ paged c e
 page_taken c e =
     by_page (λ w. record c {
       cursor = c.cursor + 1;
@@ -145,6 +147,9 @@ module _ (system : System) (valid : is_system system ≡ true) (log : List Entry
   -- it loses no cluster
   loses_none : (k : ClusterNo) → is_crash_of k (what e) ≡ false
   loses_none k = by_page (λ w. is_crash_of k w ≡ false) (λ pid index. refl) (λ pid index bytes. refl) (what e) of
+
+  no_loss : cluster_lost (what e) ≡ None
+  no_loss = by_page (λ w. cluster_lost w ≡ None) (λ pid index. refl) (λ pid index bytes. refl) (what e) of
 
   -- ---- the queue
 
@@ -179,7 +184,7 @@ module _ (system : System) (valid : is_system system ≡ true) (log : List Entry
 
       by_kind_of : (tells_or_closes post.what ≡ true) ⊎ (is_of_page post.what ≡ true) → UnlostMayFollow system later (entry_of system later post)
       by_kind_of (inl tells) = may_told system later (entry_of system later post) (post_stays k post from (told_may system log (entry_of system log post) legal.0 tells))
-      by_kind_of (inr page) = page_post_stays system valid log e k post now next foreign (loses_none k) from page legal.0
+      by_kind_of (inr page) = page_post_stays system valid log e k post now next foreign (loses_none k) from page (page_stays_queued (placement system log) (what e) post.what page no_loss) legal.0
 
   -- ---- the processes
 
@@ -333,7 +338,7 @@ module _ (system : System) (valid : is_system system ≡ true) (log : List Entry
   home_of k here p h once there = home_here (placement system log) k (pids_in here) p differ once (is_among here p h there)
 
   pub follows_page : (which : Pid → Bool) (c : ClusterView) (server : Option PagerState) → Serves (placement system log) e c.server server → FollowsBeside which system log c → is_by_cluster c.number e ≡ false
-      → FollowsBeside which system later (with_server server (absorbed c e))
+      → FollowsBeside which system later (with_server server (with_entry c e))
   follows_page which c server serves f foreign = subst (λ v. FollowsBeside which system later (with_server server v)) (sym (page_taken c e of)) (record {
     log = record {
       cursor = ap (λ m. m + 1) (f.log).cursor ∙ sym (length-append log (e ∷ []));
@@ -404,7 +409,7 @@ module _ (system : System) (valid : is_system system ≡ true) (log : List Entry
           let before = was_paged (what e) c.here p h of at in
           has_after c.queue c.number p before.was (home_of c.number c.here p before.was once before.there) (waits_as which system log c.queue p before.was ((f.processes).held p before.was before.there)) (f.pages p before.was before.there) (ap (λ x. is_some (process_in x)) (sym before.same) ∙ runs)
 
-  pub follows_own_page : (c : ClusterView) (l : Left c log e) (server : Option PagerState) → system ≡ c.system → Serves (placement system log) e c.server server → FollowsBuilt system later (with_server server (absorbed c e))
+  pub follows_own_page : (c : ClusterView) (l : Left c log e) (server : Option PagerState) → system ≡ c.system → Serves (placement system log) e c.server server → FollowsBuilt system later (with_server server (with_entry c e))
   follows_own_page c l server system_is serves = subst (λ v. FollowsBuilt system later (with_server server v)) (sym (page_taken c e of)) (record {
     log = record {
       cursor = ap (λ m. m + 1) (ap (λ (d : ClusterView). d.cursor) l.same ∙ (f.log).cursor) ∙ sym (length-append log (e ∷ []));

@@ -36,7 +36,7 @@ use Rattle.cluster_core.specs.Holds.{IsHeldAs, is_fetch_queued, CarriesMarks, Ma
 use Rattle.cluster_core.specs.Syncing.{Synchronises}
 use Rattle.cluster_core.specs.Bearing.{BearsChild}
 use Rattle.cluster_core.specs.Follows.{FollowsBuilt, IsOpen, StandsBetween}
-use Rattle.cluster_core.specs.Calls.{absorbed}
+use Rattle.cluster_core.specs.Calls.{with_entry}
 use Rattle.cluster_core.specs.Serving.{Serves}
 use Rattle.cluster_core.proofs.births.FamilyNext.{family_next}
 use Rattle.cluster_core.proofs.syncs.BatchPosts.{batch_fetches_none, batch_moves, batch_moves_other}
@@ -170,7 +170,7 @@ module _ (system : System) (valid : is_system system ≡ true) (log : List Entry
 
 -- After the entry that the head of its batch became, a cluster follows the log with it: it has the rest of the batch to send, or nothing once that was the cut.
 pub follows_own_batch : (c : ClusterView) (log : List Entry) (e : Entry) (server : Option PagerState) → is_system c.system ≡ true → AllOwn c.cursor c.here → IsOpen MayStand c.system log → IsOpen MayStand c.system (log ++ e ∷ [])
-    → (s : StandsBetween FollowsBuilt c.system log e c) → Synchronises c.system log s.before → Serves (placement c.system log) e c.server server → FollowsBuilt c.system (log ++ e ∷ []) (with_server server (absorbed c e))
+    → (s : StandsBetween FollowsBuilt c.system log e c) → Synchronises c.system log s.before → Serves (placement c.system log) e c.server server → FollowsBuilt c.system (log ++ e ∷ []) (with_server server (with_entry c e))
 follows_own_batch c log e server valid own now next s y serves = by_indices y.indices y.posts y.may
   where
     system : System
@@ -186,10 +186,10 @@ follows_own_batch c log e server valid own now next s y serves = by_indices y.in
     from_head : (head : Post) (rest : List Post) → b.queue ≡ head ∷ rest → after_sent b (head ∷ rest) ≡ left b rest → is_of_sync head.what ≡ true → process_of head.what ≡ Some y.pid → AsideOf y.pid (head ∷ rest) → AsideOf y.pid rest
         → state_now system (log ++ entry_of system log head ∷ []) rest y.pid ((y.process).small).steps ≡ Some state
         → IsQueued rest ⊎ Synchronises system (log ++ entry_of system log head ∷ []) (with_server server (passed (left b rest) (entry_of system log head)))
-        → FollowsBuilt system (log ++ e ∷ []) (with_server server (absorbed c e))
+        → FollowsBuilt system (log ++ e ∷ []) (with_server server (with_entry c e))
     from_head head rest posts sent of told aside_all aside runs queued =
-        subst (λ x. FollowsBuilt system (log ++ x ∷ []) (with_server server (absorbed c x))) whole
-        (subst (λ v. FollowsBuilt system (log ++ entry_of system log head ∷ []) (with_server server (absorbed v (entry_of system log head)))) (sym same)
+        subst (λ x. FollowsBuilt system (log ++ x ∷ []) (with_server server (with_entry c x))) whole
+        (subst (λ v. FollowsBuilt system (log ++ entry_of system log head ∷ []) (with_server server (with_entry v (entry_of system log head)))) (sym same)
         (subst (λ v. FollowsBuilt system (log ++ entry_of system log head ∷ []) (with_server server v)) (sym (sync_taken (left b rest) (entry_of system log head) of))
         (follows_head system valid log b s.followed s.tried (subst (λ (v : ClusterView). AllOwn v.cursor v.here) same own) y.pid y.process y.there head rest posts of told now (subst (λ x. IsOpen MayStand system (log ++ x ∷ [])) (sym whole) next)
         server (subst (λ x. Serves (placement system log) x b.server server) (sym whole) (subst (λ (v : ClusterView). Serves (placement system log) e v.server server) same serves)) aside_all aside runs queued)))
@@ -200,7 +200,7 @@ follows_own_batch c log e server valid own now next s y serves = by_indices y.in
         same : c ≡ left b rest
         same = s.sent ∙ ap (after_sent b) posts ∙ sent
 
-    by_indices : (indices : List ℕ) → b.queue ≡ posts_left b.number y.pid state y.read y.took indices → BatchMay system log b.number y.pid state y.read y.took indices → FollowsBuilt system (log ++ e ∷ []) (with_server server (absorbed c e))
+    by_indices : (indices : List ℕ) → b.queue ≡ posts_left b.number y.pid state y.read y.took indices → BatchMay system log b.number y.pid state y.read y.took indices → FollowsBuilt system (log ++ e ∷ []) (with_server server (with_entry c e))
     by_indices [] posts may =
         from_head (sync_left b.number y.pid state y.read y.took) [] posts refl refl refl (batch_aside b.number y.pid state y.read y.took []) (none_aside y.pid)
         (at_once system _ y.pid state (cut_process system log _ y.pid state (last_cuts system log b.number y.pid state y.read y.took may))) (inl (record { queued = Nothing; posts = refl; together = tt }))

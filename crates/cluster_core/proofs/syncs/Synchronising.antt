@@ -48,7 +48,7 @@ use Rattle.cluster_core.specs.Recovered.{left_by, moved_by, with_all_waiting}
 use Rattle.cluster_core.specs.Holds.{IsHeldAs}
 use Rattle.cluster_core.specs.Follows.{IsOpen}
 use Rattle.cluster_core.proofs.here.Beside.{FollowsBeside}
-use Rattle.cluster_core.specs.Calls.{absorbed, here_after}
+use Rattle.cluster_core.specs.Calls.{with_entry, here_after}
 use Rattle.cluster_core.specs.Serving.{Serves}
 use Rattle.cluster_core.proofs.absorbing.ByKind.{by_sync, is_of_sync}
 use Rattle.cluster_core.proofs.absorbing.Following.{by_home_of, by_one}
@@ -62,7 +62,7 @@ use Rattle.checkpoint_laws.specs.marks.Beside.{is_some_page}
 use Rattle.cluster_core.proofs.forks.ForksAgain.{forks_synced}
 use Rattle.cluster_core.proofs.absorbing.Spared.{BringsNothing, Spares, emission_stays, follows_passed, held_stays, passed, silent_stays}
 
-pub sync_taken : (c : ClusterView) (e : Entry) → is_of_sync (what e) ≡ true → absorbed c e ≡ passed c e
+pub sync_taken : (c : ClusterView) (e : Entry) → is_of_sync (what e) ≡ true → with_entry c e ≡ passed c e
 sync_taken c e =
     by_sync (λ w. record c {
       cursor = c.cursor + 1;
@@ -213,7 +213,7 @@ module _ (system : System) (valid : is_system system ≡ true) (log : List Entry
   records_stay k recs keeps = records_kept system log e k recs valid (built_stands system later next.0) (by_sync (λ w. changes_in_place w ≡ true) (λ pid at index bytes. refl) (λ pid small read took. refl) (what e) of) keeps
 
   pub follows_sync : (which : Pid → Bool) (c : ClusterView) (server : Option PagerState) → AllOwn c.cursor c.here → Serves places e c.server server → FollowsBeside which system log c → is_by_cluster c.number e ≡ false
-      → FollowsBeside which system later (with_server server (absorbed c e))
+      → FollowsBeside which system later (with_server server (with_entry c e))
   follows_sync which c server own serves f foreign =
       follows_passed system valid log e now next brings_nothing which c server (sync_taken c e of) (λ p home. spares_other p (other_here c.number p home foreign)) (pids_same c.number)
       (records_stay c.number c.records f.records) (forks_synced (what e) c.family c.here of f.forks) own serves f foreign

@@ -1,6 +1,10 @@
 use Rattle.std.proofs.Common.{◌≡◌, ◌+◌, ◌-◌, ◌^◌, ◌<◌, ap, subst, sym, ◌∙◌, arith, true}
 use Rattle.std.specs.Arc.{arc_value}
+use Rattle.std.specs.List.{list_all}
+use Rattle.bus_msg.specs.declared.entry.Post.{Post}
 use Rattle.bus_msg.specs.PlacedAfter.{what, placed_after}
+use Rattle.cert_sched.specs.Built.{is_unlost}
+use Rattle.cert_sched.specs.Losses.{is_from}
 use Rattle.sys_text.specs.Valid.{is_system}
 use Rattle.sys_text.proofs.Bounds.{system_bounds}
 use Rattle.channel_table.specs.Changes.{CanBeAbsorbed}
@@ -12,8 +16,10 @@ use Rattle.cluster_core.specs.Parts.{AllOwn}
 use Rattle.cluster_core.specs.Recovered.{CanWait, left_by, moved_by, with_all_waiting}
 use Rattle.cluster_core.specs.Calls.{Absorbs, absorbed, here_after}
 use Rattle.cluster_core.specs.Families.{CanJoin, family_after}
+use Rattle.cluster_core.specs.Queue.{left_queued}
 use Rattle.cluster_core.specs.Absorbing.{CanBeBorn, CanCome, ComesHere, IsNotedHere}
 use Rattle.cluster_core.proofs.absorbing.Arriving.{comes_here}
+use Rattle.cluster_core.proofs.absorbing.Fallen.{left_all}
 use Rattle.cluster_core.proofs.absorbing.Noting.{can_note_next, noted_next}
 use Rattle.cluster_core.proofs.here.Owning.{has_room}
 use Rattle.cluster_core.proofs.absorbing.Absorbed.{absorbs, may_come, may_wait, own_either, ready_absorbable, ready_joins, ready_own}
@@ -94,8 +100,8 @@ invariant_of-self-in_err-take_over g c =
       has = c.self.invariant.has;
       limits_are = c.take_over.ensures.limits ∙ c.tell.ensures.limits ∙ c.self.invariant.limits_are;
       residents = own_either (c.self.inside.cursor + 1) c.tell.new.here.here c.take_over.new.here.here (subst (AllOwn (c.self.inside.cursor + 1)) (sym c.in_ok-tell.ensures.ok) told) c.in_err-take_over.ensures.err;
-      own = c.self.invariant.own;
-      built = c.self.invariant.built;
+      own = subst (λ posts. list_all (λ (post : Post). is_from c.self.inside.number post.by) posts ≡ true) (sym c.drop_fallen.ensures) (left_all (λ (post : Post). is_from c.self.inside.number post.by) c.self.inside.places w c.self.inside.queue.items c.self.invariant.own);
+      built = subst (λ posts. list_all (λ (post : Post). is_unlost post.what) posts ≡ true) (sym c.drop_fallen.ensures) (left_all (λ (post : Post). is_unlost post.what) c.self.inside.places w c.self.inside.queue.items c.self.invariant.built);
     }
 
 pub invariant_of-self-in_err-absorb : goal.invariant_of-self-in_err-absorb
@@ -117,8 +123,8 @@ invariant_of-self-in_err-absorb g c =
       has = c.self.invariant.has;
       limits_are = c.take_over.ensures.limits ∙ c.tell.ensures.limits ∙ c.self.invariant.limits_are;
       residents = subst (AllOwn (c.self.inside.cursor + 1)) (sym here) mine;
-      own = c.self.invariant.own;
-      built = c.self.invariant.built;
+      own = subst (λ posts. list_all (λ (post : Post). is_from c.self.inside.number post.by) posts ≡ true) (sym c.drop_fallen.ensures) (left_all (λ (post : Post). is_from c.self.inside.number post.by) c.self.inside.places w c.self.inside.queue.items c.self.invariant.own);
+      built = subst (λ posts. list_all (λ (post : Post). is_unlost post.what) posts ≡ true) (sym c.drop_fallen.ensures) (left_all (λ (post : Post). is_unlost post.what) c.self.inside.places w c.self.inside.queue.items c.self.invariant.built);
     }
 
 pub invariant_of-self-2 : goal.invariant_of-self-2
@@ -140,8 +146,8 @@ invariant_of-self-2 g c =
       has = c.self.invariant.has;
       limits_are = c.take_over.ensures.limits ∙ c.tell.ensures.limits ∙ c.self.invariant.limits_are;
       residents = subst (AllOwn (c.self.inside.cursor + 1)) (sym here) mine;
-      own = c.self.invariant.own;
-      built = c.self.invariant.built;
+      own = subst (λ posts. list_all (λ (post : Post). is_from c.self.inside.number post.by) posts ≡ true) (sym c.drop_fallen.ensures) (left_all (λ (post : Post). is_from c.self.inside.number post.by) c.self.inside.places w c.self.inside.queue.items c.self.invariant.own);
+      built = subst (λ posts. list_all (λ (post : Post). is_unlost post.what) posts ≡ true) (sym c.drop_fallen.ensures) (left_all (λ (post : Post). is_unlost post.what) c.self.inside.places w c.self.inside.queue.items c.self.invariant.built);
     }
 
 pub returns-clause-follows : goal.returns-clause-follows
@@ -154,9 +160,9 @@ returns-clause-follows g c =
     let server = c.serve.new.server in
     let whole : c.count_step.new.self ≡ with_server server (absorbed old e) =
     c.count_step.ensures
-    ∙ ap (λ (v : ClusterView). record v { cursor = v.cursor + 1; places = c.absorb.new.self; here = c.take_over.new.here.here; records = c.take_over.new.records; family = c.join.new.family; server = server; steps = next_count v.steps }) c.self.view_is
-    ∙ (λ i. record old { cursor = old.cursor + 1; places = c.in_ok-absorb.ensures.ok i; here = here i; records = recs i; family = c.in_ok-join.ensures.ok i; server = server; steps = next_count old.steps })
-    ∙ ap (λ (v : ClusterView). record old { cursor = old.cursor + 1; places = placed_after v.places w; here = with_all_waiting (moved_by v.places v.number w (records_after v.number w v.records)) (here_after w v.here); records = left_by v.places v.number w (records_after v.number w v.records); family = family_after w v.family; server = server; steps = next_count old.steps }) c.self.view_is in
+    ∙ ap (λ (v : ClusterView). record v { cursor = v.cursor + 1; places = c.absorb.new.self; here = c.take_over.new.here.here; records = c.take_over.new.records; family = c.join.new.family; server = server; queue = c.drop_fallen.new.queue.items; steps = next_count v.steps }) c.self.view_is
+    ∙ (λ i. record old { cursor = old.cursor + 1; places = c.in_ok-absorb.ensures.ok i; here = here i; records = recs i; family = c.in_ok-join.ensures.ok i; server = server; queue = c.drop_fallen.ensures i; steps = next_count old.steps })
+    ∙ ap (λ (v : ClusterView). record old { cursor = old.cursor + 1; places = placed_after v.places w; here = with_all_waiting (moved_by v.places v.number w (records_after v.number w v.records)) (here_after w v.here); records = left_by v.places v.number w (records_after v.number w v.records); family = family_after w v.family; server = server; queue = left_queued v.places w v.queue; steps = next_count old.steps }) c.self.view_is in
     let valid : is_system old.system ≡ true = subst (λ (v : ClusterView). is_system v.system ≡ true) c.self.view_is c.self.invariant.valid in
     let own = subst (λ (v : ClusterView). AllOwn v.cursor v.here) c.self.view_is c.self.invariant.residents in
     let order : are_rising (moved_by old.places old.number w (records_after old.number w old.records)) ≡ true =

@@ -1,0 +1,121 @@
+-- What an entry leaves of a queue: a page that comes falls at the loss that moves its process, and nothing else that is queued so far falls.
+use Rattle.std.proofs.Common.{◌≡◌, ℕ, zero, suc, ◌+◌, arith, length, refl, sym, ◌∙◌, ap, List, [], ◌∷◌, ◌++◌, Bool, true, false, cond, Option, Some, None, true≢false}
+use Rattle.std.specs.Prelude.{option_map, slice_index_or}
+use Rattle.std.specs.List.{list_all}
+use Rattle.std.specs.Option.{option_map_or}
+use Rattle.std.proofs.lemmas.Bool.{and_from, and_parts}
+use Rattle.std.proofs.lemmas.Option.{same_Some}
+use Rattle.t32_base.specs.declared.process.Pid.{Pid}
+use Rattle.t32_base.specs.declared.process.ClusterNo.{ClusterNo}
+use Rattle.sys_text.specs.declared.system.System.{System}
+use Rattle.proc_state.specs.State.{ProcState}
+use Rattle.bus_msg.specs.declared.entry.What.{What}
+use Rattle.bus_msg.specs.declared.entry.What.TheVariants.{PageIs, Crash, Rebackup}
+use Rattle.bus_msg.specs.declared.entry.Post.{Post}
+use Rattle.bus_msg.specs.declared.entry.Entry.{Entry}
+use Rattle.bus_msg.specs.Places.{Places}
+use Rattle.bus_msg.specs.PlacedAfter.{what}
+use Rattle.cert_sched.specs.Appended.{entry_of}
+use Rattle.cert_sched.specs.Built.{UnlostMayFollow, is_unlost}
+use Rattle.cert_sched.specs.Told.{cluster_lost}
+use Rattle.checkpoint_laws.specs.batches.Underway.{page_left, posts_left}
+use Rattle.cluster_core.specs.Follows.{FollowsBuilt, StandsBetween}
+use Rattle.cluster_core.specs.Queue.{IsQueueLegal, falls, is_lone, is_moved_from, left_queued}
+use Rattle.cluster_core.specs.View.{ClusterView, after_sent, head_of}
+use Rattle.cluster_core.proofs.absorbing.ByKind.{by_page, is_of_page}
+
+-- the one post of a queue, if it is one, does not fall
+abbrev pub NoneFalls : Places → What → List Post → Type 0
+NoneFalls before w queue = (post : Post) → queue ≡ post ∷ [] → falls before w post.what ≡ false
+
+pub empty_falls_none : (before : Places) (w : What) → NoneFalls before w []
+empty_falls_none before w post is = cc
+
+-- so it is where the whole queue is left
+pub left_falls_none : (before : Places) (w : What) (queue : List Post) → left_queued before w queue ≡ queue → NoneFalls before w queue
+left_falls_none before w queue left post is = by_test (falls before w post.what) (sym (ap (left_queued before w) is) ∙ left ∙ is)
+  where
+    by_test : (b : Bool) → cond b [] (post ∷ []) ≡ post ∷ [] → b ≡ false
+    by_test true h = let none : ◌≡◌ {A = List Post} [] (post ∷ []) = h in cc
+    by_test false h = refl
+
+-- the last post alone may go
+pub left_of_last : (before : Places) (w : What) (front : List Post) (last : Post) → falls before w last.what ≡ true → left_queued before w (front ++ last ∷ []) ≡ front
+left_of_last before w [] last is = ap (λ b. cond b [] (last ∷ [])) is
+left_of_last before w (post ∷ []) last is = ap (λ ps. post ∷ ps) (left_of_last before w [] last is)
+left_of_last before w (post ∷ next ∷ front) last is = ap (λ ps. post ∷ ps) (left_of_last before w (next ∷ front) last is)
+
+pub left_by_last : (before : Places) (w : What) (queue : List Post) (n : ℕ) (last : Post) → length queue ≡ n + 1 → last ≡ slice_index_or queue n last → falls before w last.what ≡ false → left_queued before w queue ≡ queue
+left_by_last before w [] n last long is stays = absurd (omega (arith, long))
+left_by_last before w (post ∷ []) zero last long is stays = ap (λ b. cond b [] (post ∷ [])) (ap (λ (p : Post). falls before w p.what) (sym is) ∙ stays)
+left_by_last before w (post ∷ []) (suc n) last long is stays = absurd (omega (arith, long))
+left_by_last before w (post ∷ next ∷ rest) zero last long is stays = absurd (omega (arith, long))
+left_by_last before w (post ∷ next ∷ rest) (suc n) last long is stays = ap (λ ps. post ∷ ps) (left_by_last before w (next ∷ rest) n last (omega (arith, long)) is stays)
+
+-- what holds of each post holds of each that is left
+pub left_all : (t : Post → Bool) (before : Places) (w : What) (queue : List Post) → list_all t queue ≡ true → list_all t (left_queued before w queue) ≡ true
+left_all t before w [] all = refl
+left_all t before w (post ∷ []) all = by_test (falls before w post.what)
+  where
+    by_test : (b : Bool) → list_all t (cond b [] (post ∷ [])) ≡ true
+    by_test true = refl
+    by_test false = all
+left_all t before w (post ∷ next ∷ rest) all =
+    let parts = and_parts (t post) (list_all t (next ∷ rest)) all in
+    and_from (t post) (list_all t (left_queued before w (next ∷ rest))) parts.0 (left_all t before w (next ∷ rest) parts.1)
+
+-- ---- an entry that loses no cluster
+
+-- no page that is asked for or comes falls
+pub page_stays_queued : (before : Places) (w queued : What) → is_of_page queued ≡ true → cluster_lost w ≡ None → falls before w queued ≡ false
+page_stays_queued before w queued of none = by_page (λ x. falls before w x ≡ false) (λ pid index. refl) (λ pid index bytes. ap (λ o. option_map_or (is_moved_from before pid) o false) none) queued of
+
+unlost_stays : (before : Places) (w queued : What) → is_unlost queued ≡ true → cluster_lost w ≡ None → falls before w queued ≡ false
+unlost_stays before w (Rebackup to fresh recs) unlost none = absurd (true≢false (sym unlost))
+unlost_stays before w (PageIs pid index bytes) unlost none = ap (λ o. option_map_or (is_moved_from before pid) o false) none
+unlost_stays before w _ unlost none = refl
+
+-- nor anything else that is legal without a loss
+pub legal_left : (system : System) (before : Places) (w : What) (log : List Entry) (queue : List Post) → cluster_lost w ≡ None → IsQueueLegal UnlostMayFollow system log queue → left_queued before w queue ≡ queue
+legal_left system before w log [] none legal = refl
+legal_left system before w log (post ∷ []) none legal = ap (λ b. cond b [] (post ∷ [])) (unlost_stays before w post.what (legal.0).built none)
+legal_left system before w log (post ∷ next ∷ rest) none legal = ap (λ ps. post ∷ ps) (legal_left system before w (log ++ entry_of system log post ∷ []) (next ∷ rest) none legal.1)
+
+-- ---- a batch
+
+pub batch_left : (before : Places) (w : What) (k : ClusterNo) (p : Pid) (s : ProcState) (read : List ℕ) (took : Option ℕ) (indices : List ℕ) → left_queued before w (posts_left k p s read took indices) ≡ posts_left k p s read took indices
+batch_left before w k p s read took [] = refl
+batch_left before w k p s read took (i ∷ []) = refl
+batch_left before w k p s read took (i ∷ j ∷ indices) = ap (λ ps. page_left k p s i ∷ ps) (batch_left before w k p s read took (j ∷ indices))
+
+-- ---- after the head was sent
+
+unlost_loses_none : (w : What) → is_unlost w ≡ true → cluster_lost w ≡ None
+unlost_loses_none (Crash k cause) unlost = absurd (true≢false (sym unlost))
+unlost_loses_none _ unlost = refl
+
+-- at the entry that the head became nothing falls of the rest
+pub own_left : (c : ClusterView) (log : List Entry) (e : Entry) → StandsBetween FollowsBuilt c.system log e c → left_queued c.places (what e) c.queue ≡ c.queue
+own_left c log e s = by_queue (s.before).queue ((s.followed).queue).legal s.head (ap (λ (d : ClusterView). d.queue) s.sent)
+  where
+    by_queue : (queue : List Post) → IsQueueLegal UnlostMayFollow c.system log queue → option_map (entry_of c.system log) (head_of queue) ≡ Some e → c.queue ≡ (after_sent s.before queue).queue → left_queued c.places (what e) c.queue ≡ c.queue
+    by_queue [] legal head is = let none : ◌≡◌ {A = Option Entry} None (Some e) = head in cc
+    by_queue (post ∷ rest) legal head is =
+        let whole : entry_of c.system log post ≡ e = same_Some (entry_of c.system log post) e head in
+        let none : cluster_lost (what e) ≡ None = ap (λ (x : Entry). cluster_lost (what x)) (sym whole) ∙ unlost_loses_none post.what (legal.0).built in
+        ap (left_queued c.places (what e)) is ∙ legal_left c.system c.places (what e) (log ++ entry_of c.system log post ∷ []) rest none legal.1 ∙ sym is
+
+-- ---- what falls
+
+-- a page that comes
+pub record IsComing (w : What) : Type 0 where
+  pub pid : Pid
+  pub index : ℕ
+  pub bytes : List ℕ
+  pub same : w ≡ PageIs pid index bytes
+
+-- what falls of the posts that are sent alone is such a one
+pub fallen_comes : (before : Places) (w queued : What) → is_lone queued ≡ true → falls before w queued ≡ true → IsComing queued
+fallen_comes before w (PageIs pid index bytes) lone is = record { pid = pid; index = index; bytes = bytes; same = refl }
+fallen_comes before w (Rebackup to fresh recs) lone is = absurd (true≢false (sym lone))
+fallen_comes before w _ lone is = absurd (true≢false (sym is))
