@@ -40,10 +40,13 @@ number_first n c more small other =
     ∙ ap (option_map (λ (m : ℕ). (m, c ∷ more))) (own_number n small)
 
 -- behind a number that another sign follows
+pub number_followed : (signs : List ℕ) (last n c : ℕ) (more : List ℕ) → IsSmall n → is_other c ≡ true → past (35 ∷ signs) (last, decimal n ++ c ∷ more) ≡ past signs (n, c ∷ more)
+number_followed signs last n c more small other = ap (option_and_then (past signs)) (number_first n c more small other)
+
+-- the same where the text behind is put to it later
 pub number_past : (signs : List ℕ) (last n c : ℕ) (tail more : List ℕ) → IsSmall n → is_other c ≡ true → past (35 ∷ signs) (last, (decimal n ++ c ∷ tail) ++ more) ≡ past signs (n, c ∷ (tail ++ more))
 number_past signs last n c tail more small other =
-    ap (λ (text : List ℕ). past (35 ∷ signs) (last, text)) (append_assoc (decimal n) (c ∷ tail) more)
-    ∙ ap (option_and_then (past signs)) (number_first n c (tail ++ more) small other)
+    ap (λ (text : List ℕ). past (35 ∷ signs) (last, text)) (append_assoc (decimal n) (c ∷ tail) more) ∙ number_followed signs last n c (tail ++ more) small other
 
 -- a sign that is no digit is not passed by a number
 no_sign : (sign last : ℕ) (ds more : List ℕ) → 0 < length ds → AllDigits 10 ds → is_other sign ≡ true → past_byte sign last (ds ++ more) ≡ None

@@ -1,5 +1,5 @@
 -- All parts in front of a text are passed.
-use Rattle.std.proofs.Common.{◌≡◌, ℕ, zero, suc, ◌≤◌, List, ◌∷◌, ◌++◌, length, Option, Some, None, refl, ap, ◌∙◌, arith, length-append}
+use Rattle.std.proofs.Common.{◌≡◌, ℕ, zero, suc, ◌≤◌, List, [], ◌∷◌, ◌++◌, length, Option, Some, None, refl, sym, ap, ◌∙◌, arith, length-append, append_assoc, subst}
 use Rattle.std.specs.Option.{option_map_or}
 use Rattle.log_section.specs.Lines.{behind_most}
 use Rattle.log_section.proofs.Walks.{most_bad}
@@ -15,3 +15,10 @@ pub reach_more : (part : List ℕ → Option (List ℕ)) (b : ℕ) (front rest l
 reach_more part b front rest left e h zero le = absurd (omega (arith, le))
 reach_more part b front rest left e h (suc m) le =
     ap (λ (o : Option (List ℕ)). option_map_or (behind_most part m) o ((b ∷ front) ++ rest)) e ∙ h m (omega (arith, le, length-append front rest))
+
+-- what is said of a text is said of it with its first part written otherwise
+pub of_part : (P : List ℕ → Type 0) (front line more rest : List ℕ) → front ≡ line → P (line ++ (more ++ rest)) → P ((front ++ more) ++ rest)
+of_part P front line more rest e h = subst (λ (x : List ℕ). P ((x ++ more) ++ rest)) (sym e) (subst P (sym (append_assoc line more rest)) h)
+
+pub of_nothing : (P : List ℕ → Type 0) (front more rest : List ℕ) → front ≡ [] → P (more ++ rest) → P ((front ++ more) ++ rest)
+of_nothing P front more rest e h = subst (λ (x : List ℕ). P ((x ++ more) ++ rest)) (sym e) h

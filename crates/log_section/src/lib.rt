@@ -4,7 +4,9 @@
 mod form;
 mod lines;
 mod log;
+mod printed;
 mod refusal;
 
 pub use log::read_section;
+pub use printed::printed_sections_are_form;
 pub use refusal::SectionRefused;
