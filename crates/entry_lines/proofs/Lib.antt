@@ -1,3 +1,3 @@
-mod Words
-mod Printed
-mod ReadBack
+pub mod Words
+pub mod Printed
+pub mod ReadBack

@@ -48,7 +48,7 @@ other_than b x other digit true e =
     absurd (omega (arith, same, other, digit))
 other_than b x other digit false e = refl
 
-digits_without : (b : ℕ) → 10 ≤ digit_value b → (digits : List ℕ) → AllDigits 10 digits → Without (λ x. eqb x b) digits
+pub digits_without : (b : ℕ) → 10 ≤ digit_value b → (digits : List ℕ) → AllDigits 10 digits → Without (λ x. eqb x b) digits
 digits_without b other [] h = tt
 digits_without b other (x ∷ xs) h = (other_than b x other h.0 (eqb x b) refl, digits_without b other xs h.1)
 

@@ -7,6 +7,7 @@ mod reading;
 mod text;
 mod told;
 
+pub use numbers::number_in;
 pub use reading::{lines_are_told, read_told, texts_differ};
 pub use text::told_text;
 pub use told::{Told, ToldBy, ToldEnd, ToldLetter, ToldWhat};

@@ -5,6 +5,7 @@ ghost use Rattle.bus_msg.specs.Text.{line_of};
 ghost use Rattle.entry_lines.specs.declared.told.Told.{Told as ATold};
 ghost use Rattle.entry_lines.specs.Told.{told_of, Fits};
 ghost use Rattle.entry_lines.specs.Text.{text_of};
+ghost use Rattle.entry_lines.specs.Reading.{told_in};
 
 use crate::guess::guess;
 use crate::text::told_text;
@@ -18,6 +19,8 @@ pub fn read_told(alloc: Global, line: &[u8]) -> Result<Option<Told>, NoMemory>
     ensures said { IfOk result (λ told. IfSome told (λ t. line.now ≡ text_of t)) }
     // Each line that says something in numbers of 64 bits is read.
     ensures read { (t : ATold) → Fits t → line.now ≡ text_of t → IfOk result (λ told. told ≡ Some t) }
+    // The same as one definition.
+    ensures exact { IfOk result (λ told. told ≡ told_in line.now) }
 {
     let told = guess(alloc, line)?;
     let text = told_text(alloc, &told)?;
