@@ -4,7 +4,7 @@ ghost use Rattle.std.specs.Option.{IfSome, unwrap_or};
 ghost use Rattle.std.specs.List.{list_any};
 ghost use Rattle.t32_base.specs.declared.process.Pid.{Pid};
 ghost use Rattle.bus_msg.specs.Places.{same_pid};
-ghost use Rattle.birth_notice.specs.Family.{stands_in, are_births, is_of, children_of, lower, lowest, first_unsynced, IsByRule};
+ghost use Rattle.birth_notice.specs.Family.{stands_in, are_births, children_of, lower, lowest, first_unsynced, IsByRule};
 
 use std::alloc::Global;
 use std::marker::Model;
@@ -65,13 +65,6 @@ impl Family {
         ensures { self.new ≡ filter (λ b. not (same_pid b.1 child)) self.old }
     {
         self.births.retain(|birth| birth.1.0 != child.0);
-    }
-
-    /// Whether a process has a child that never synchronised. Takes no memory.
-    pub fn has_unsynced(&self, parent: Pid) -> bool
-        ensures { result ≡ list_any (is_of parent) self.now }
-    {
-        self.births.iter().any(|birth| birth.0.0 == parent.0)
     }
 
     /// The child that is to be synchronised first, before this parent: its lowest that never synchronised, but

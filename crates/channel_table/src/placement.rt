@@ -122,14 +122,6 @@ impl Placement {
         }
     }
 
-    /// Whether the cluster `k` serves pages: it is one of the two, and was never lost.
-    pub fn is_server(&self, k: ClusterNo) -> bool
-        ensures { result ≡ list_any (λ s. same_cluster s k) (servers_in self.now) }
-    {
-        let (first, second) = self.pager;
-        (self.was_never_lost(first) && first == k) || (self.was_never_lost(second) && second == k)
-    }
-
     /// Whether the loss of the cluster `k` would lose no process and not the last page server.
     pub fn covered(&self, k: ClusterNo) -> bool
         ensures { result ≡ is_covered self.now k }

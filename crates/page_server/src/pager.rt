@@ -173,11 +173,4 @@ impl<D: PageDisk> Pager<D> {
     {
         self.disk.calls()
     }
-
-    /// How many calls of the disk failed.
-    pub fn disk_faults(&self) -> u64
-        ensures { result ≡ self.now.counts.faults }
-    {
-        self.disk.faults()
-    }
 }

@@ -44,14 +44,6 @@ without_first_stricter p q (x ∷ xs) y stricter passes found = elim (find-cons 
       ∙ ap (λ v. cond v xs (x ∷ without_first q xs)) (sym (stricter x later.0))
 ]
 
-pub without_first_not_found : {X : Type 0} (p : X → Bool) (xs : List X) → find p xs ≡ None → without_first p xs ≡ xs
-without_first_not_found p [] none = refl
-without_first_not_found p (x ∷ xs) none = at (p x) refl (without_first_not_found p xs)
-  where
-    at : (t : Bool) → p x ≡ t → (find p xs ≡ None → without_first p xs ≡ xs) → without_first p (x ∷ xs) ≡ x ∷ xs
-    at true is more = let found : Some x ≡ None = ap (λ v. cond v (Some x) (find p xs)) (sym is) ∙ none in cc
-    at false is more = ap (λ v. cond v xs (x ∷ without_first p xs)) is ∙ ap (λ left. x ∷ left) (more (ap (λ v. cond v (Some x) (find p xs)) (sym is) ∙ none))
-
 not_on : (ends : List EndState) (e : ℕ) → is_linked_at ends e ≡ true → IsStricter (is_on_linked ends) (is_on e)
 not_on ends e linked x fails = at (is_on e x) refl
   where
@@ -83,13 +75,6 @@ found_on ends letters e is = at (find (is_on_linked ends) letters) refl is
     at (Some a) found some =
         let same : e ≡ end_of_letter a = cc in
         subst (IsFoundOn ends letters) (sym same) (record { found = linked_on ends letters a found ∙ sym found; left = sym (without_linked_on ends letters a found) })
-
-pub none_left : (ends : List EndState) (letters : List Arrived) → None ≡ option_map end_of_letter (find (is_on_linked ends) letters) → without_first (is_on_linked ends) letters ≡ letters
-none_left ends letters is = at (find (is_on_linked ends) letters) refl is
-  where
-    at : (found : Option Arrived) → find (is_on_linked ends) letters ≡ found → None ≡ option_map end_of_letter found → without_first (is_on_linked ends) letters ≡ letters
-    at None found none = without_first_not_found (is_on_linked ends) letters found
-    at (Some a) found some = cc
 
 -- ---- among the queues
 

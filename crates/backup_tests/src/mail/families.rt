@@ -27,12 +27,9 @@ fn family_of(alloc: Global, births: &[(u32, u32)]) -> Result<Family, NoMemory> {
     Ok(family)
 }
 
-// Whether a process has a child that never synchronised, and which is first.
-type Next = (bool, Option<Pid>);
-
-fn next_of(family: &Family, parent: u32) -> Next {
-    let parent = Pid(parent);
-    (family.has_unsynced(parent), family.first_unsynced(parent))
+// The first child of a process that never synchronised.
+fn next_of(family: &Family, parent: u32) -> Option<Pid> {
+    family.first_unsynced(Pid(parent))
 }
 
 // The births, and the children that go, in the order in which they come first.
@@ -51,7 +48,7 @@ static ORDER: [u32; 6] = [64, 80, 32, 33, 96, 48];
 fn go_in_order(family: &mut Family) -> Result<(), Fail> {
     for pid in ORDER.iter() {
         let first = Pid(*pid);
-        same("the first", &next_of(family, 16), &(true, Some(first)))?;
+        same("the first", &next_of(family, 16), &Some(first))?;
         family.gone(first);
     }
     Ok(())
@@ -64,7 +61,7 @@ fn children_of_children_are_first_and_of_children_the_lowest(rt: HostRuntime) ->
     same(
         "the first of 16 and of 17",
         &(next_of(&family, 16), next_of(&family, 17)),
-        &((false, None), (true, Some(Pid(18)))),
+        &(None, Some(Pid(18))),
     )
 }
 
@@ -79,6 +76,6 @@ fn a_child_that_ends_leaves_its_own_children(rt: HostRuntime) -> Result<(), Fail
             next_of(&family, 32),
             family.knows(Pid(32)),
         ),
-        &((false, None), (true, Some(Pid(48))), true),
+        &(None, Some(Pid(48)), true),
     )
 }

@@ -73,8 +73,16 @@ fn take_on(mailbox: &mut Mailbox, end: u8) -> Option<u64> {
     number_of(mailbox.take_on(end))
 }
 
+fn end_of(to: To) -> u8 {
+    match to {
+        To::Proc(_, end) => end,
+        To::Tty(_) => 0,
+    }
+}
+
 fn take_linked(mailbox: &mut Mailbox, ends: &[EndState; 32]) -> Option<u64> {
-    number_of(mailbox.take_linked(ends))
+    let end = end_of(mailbox.first_linked(ends)?.letter.to);
+    take_on(mailbox, end)
 }
 
 // The first letter for end 1, and three takes from it; the first for a linked end, and a take from one.

@@ -143,24 +143,24 @@ fn a_log_is_taken_in_entry_by_entry(rt: HostRuntime) -> Result<(), Fail> {
     Ok(())
 }
 
-// Whether a cluster lives and serves pages, and what serial its next child gets.
-type Stands = (bool, bool, u32);
+// Whether a cluster lives, and what serial its next child gets.
+type Stands = (bool, u32);
 
 fn stands(places: &Placement, k: ClusterNo) -> Stands {
-    (places.living(k), places.is_server(k), places.next_serial(k))
+    (places.living(k), places.next_serial(k))
 }
 
 // How many entries were taken in; a cluster, and how it stands.
 static STANDING: [(u8, u8, Stands); 9] = [
-    (0, 0, (true, false, 2)),
-    (0, 1, (true, true, 2)),
-    (0, 2, (true, true, 1)),
-    (0, 3, (false, false, 0)),
-    (2, 0, (true, false, 4)),
-    (5, 0, (false, false, 4)),
-    (6, 0, (true, false, 4)),
-    (8, 2, (false, false, 1)),
-    (9, 2, (true, false, 1)),
+    (0, 0, (true, 2)),
+    (0, 1, (true, 2)),
+    (0, 2, (true, 1)),
+    (0, 3, (false, 0)),
+    (2, 0, (true, 4)),
+    (5, 0, (false, 4)),
+    (6, 0, (true, 4)),
+    (8, 2, (false, 1)),
+    (9, 2, (true, 1)),
 ];
 
 // How a cluster stands after so many entries, how many clusters there are, and the first that serves pages.

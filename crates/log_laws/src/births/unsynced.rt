@@ -68,7 +68,7 @@ pub fn births_follow_new_backups()
 
 /// A law and no code: these births may stand in a `Family`, which then answers what the rule of children asks.
 pub fn families_answer()
-    // A process has a child that never synchronised where it is the parent in one of them, as `Family::has_unsynced` says.
+    // A process has a child that never synchronised where it is the parent in one of them.
     ensures asked { (system : System) (log : List Entry) (p : Pid) → has_unsynced_child system log p ≡ list_any (is_of p) (unsynced_births system log) }
     // Each child is new where it is born, which a `Family` always keeps.
     ensures births { (system : System) (log : List Entry) → is_system system ≡ true → IsLegalBy Stands system log
