@@ -1,4 +1,4 @@
-//! Tests of entries: what they carry, how they are printed and read, and where they place processes.
+//! Tests of entries: what they carry, how they and their sections are printed and read, and where they place processes.
 #![tactic(auto)]
 
 #[cfg(test)]
@@ -7,3 +7,5 @@ mod lines;
 mod places;
 #[cfg(test)]
 mod printed;
+#[cfg(test)]
+mod sections;

@@ -8,11 +8,11 @@ use Rattle.targon_cli.specs.Sections.{begins_section, lines_before_section, item
 use Rattle.targon_cli.specs.Reply.{RunsBy, FollowsSection}
 
 -- the section begins behind at most all lines
-pub before_within : (lines : List (List ℕ)) → lines_before_section lines ≤ length lines
-before_within [] = omega arith
-before_within (line ∷ lines) = by_line (before_within lines) (begins_section line) refl
+pub before_within : (word : List ℕ) (lines : List (List ℕ)) → lines_before_section word lines ≤ length lines
+before_within word [] = omega arith
+before_within word (line ∷ lines) = by_line (before_within word lines) (begins_section word line) refl
   where
-    by_line : lines_before_section lines ≤ length lines → (b : Bool) → begins_section line ≡ b → lines_before_section (line ∷ lines) ≤ length (line ∷ lines)
+    by_line : lines_before_section word lines ≤ length lines → (b : Bool) → begins_section word line ≡ b → lines_before_section word (line ∷ lines) ≤ length (line ∷ lines)
     by_line h true e = rw e (omega arith)
     by_line h false e = rw e (omega (arith, h))
 

@@ -85,7 +85,7 @@ fn plain(alloc: Global, bytes: &[u8]) -> Result<Reply, NoMemory>
     ensures why { IfOk result (λ r. ExplainsPlain (system_of_lines (system_part (lines_of bytes.now))) (system_part (lines_of bytes.now)) (section_part (lines_of bytes.now)) r.status r.why) }
     ensures notes { IfOk result (λ r. NotesPlain (system_of_lines (system_part (lines_of bytes.now))) (system_part (lines_of bytes.now)) (section_part (lines_of bytes.now)) r.notes) }
 {
-    let (text, section) = split_at_section(bytes);
+    let (text, section) = split_at_section(bytes, b"schedule");
     match read_system(alloc, text) {
         Ok(system) => run_by(alloc, &system, text, section),
         Err(SystemRefused::BadLine { line, rule }) => refused_system(alloc, text, line, rule),

@@ -5,7 +5,7 @@ use Rattle.targon_cli.proofs.sections.lines_before_section.Given as goal
 
 abbrev pub invariant-loop-rest : goal.invariant-loop-rest
 invariant-loop-rest l = record {
-  same : lines_before_section (lines_of l.rest) + l.count ≡ lines_before_section (lines_of l.text);
+  same : lines_before_section l.word (lines_of l.rest) + l.count ≡ lines_before_section l.word (lines_of l.text);
   few : l.count + length l.rest ≤ length l.text;
 }
 

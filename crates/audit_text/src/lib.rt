@@ -1,0 +1,6 @@
+//! What is said of an audit.
+#![tactic(auto)]
+
+mod finding;
+
+pub use finding::{Finding, SOUND, STATUS};
