@@ -10,6 +10,7 @@ pub mod Counted
 pub mod Following
 pub mod Fallen
 pub mod Renewed
+pub mod Returned
 pub mod Absorbed
 pub mod Arriving
 pub mod Noting

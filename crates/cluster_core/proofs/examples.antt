@@ -1,3 +1,4 @@
 pub mod WorkedViews
 pub mod WorkedRecords
 pub mod WorkedLosses
+pub mod WorkedFalling

@@ -1,6 +1,7 @@
 pub mod BeginWaits
 pub mod Homes
 pub mod HeldAtHome
+pub mod Asked
 pub mod RenewedHomes
 pub mod NotMoved
 pub mod MovedRecords

@@ -102,7 +102,8 @@ here_after (PageIs pid index bytes) here = with_page_come pid index bytes here
 here_after (Birth parent at child end) here = with_born parent child here
 here_after w here = here
 
--- the cluster with one more entry of the log taken in, by one kernel step, but for its queue; at the loss of another the processes that this moves here wait for their pages, and it has no record of them
+-- the cluster with one more entry of the log taken in, by one kernel step, but for its queue; at the loss of another the processes that this
+-- moves here wait for their pages, and it has no record of them
 abbrev pub with_entry : ClusterView → Entry → ClusterView
 with_entry c e = record c {
   cursor = c.cursor + 1;

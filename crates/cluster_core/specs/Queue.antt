@@ -64,7 +64,7 @@ pub record IsQueued (queue : List Post) : Type 0 where
 abbrev pub is_moved_from : Places → Pid → ClusterNo → Bool
 is_moved_from before p lost = option_map_or (is_moved_by lost) (placed_at before p) false
 
--- An entry, by the places before it, makes a queued post fall: any does so of a new backup, and the loss that moves its process of a page that comes.
+-- An entry, by the places before it, makes a queued post fall: any entry a new backup, and the loss that moves its process a page that comes.
 abbrev pub falls : Places → What → What → Bool
 falls before w (Rebackup to fresh recs) = true
 falls before w (PageIs p index bytes) = option_map_or (is_moved_from before p) (cluster_lost w) false

@@ -228,8 +228,9 @@ impl<D: PageDisk + Drop> Cluster<D> {
     /// process here that waits for it, which goes on from its record once all have come. At its own birth the parent forks, and the
     /// child runs beside it; any birth joins the children that never synchronised, and one that synchronised or ended leaves
     /// them. At the loss of another cluster the processes that this moves here wait for their pages, or for their parent's
-    /// fork, and their records are kept no more. A new backup here brings its records. A queued post that falls at the entry is to be sent no more. A call of its disk that fails leaves a cluster that has failed, in which there is no process. After want of memory nothing is said of the cluster but
-    /// that it can be dropped.
+    /// fork, and their records are kept no more. A new backup brings its records here where it is to this cluster. A queued post that
+    /// falls at the entry is to be sent no more. A call of its disk that fails leaves a cluster that has failed, in which there is no
+    /// process. After want of memory nothing is said of the cluster but that it can be dropped.
     pub fn absorb(&mut self, entry: &Entry) -> Result<(), Hurt>
         requires room { self.old.cursor < 2 ^ 64 - 1 }
         requires ready { ReadyFor entry.now self.old }

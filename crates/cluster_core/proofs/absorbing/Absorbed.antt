@@ -48,6 +48,8 @@ use Rattle.cluster_core.proofs.here.Beside.{FollowsBeside, all_of, beside_of, bu
 use Rattle.cluster_core.proofs.absorbing.AfterSent.{sent_is}
 use Rattle.cluster_core.proofs.absorbing.Fallen.{IsComing, NoneFalls, batch_left, empty_falls_none, fallen_comes, left_falls_none, own_left}
 use Rattle.cluster_core.proofs.absorbing.Renewed.{follows_renewed, renewal_taken}
+use Rattle.cluster_core.proofs.absorbing.Returned.{follows_returned, return_taken}
+use Rattle.cluster_core.proofs.absorbing.Returned.{home_same as home_same_returned}
 use Rattle.cluster_core.proofs.absorbing.Renewed.{home_same as home_same_renewed}
 use Rattle.cluster_core.proofs.paging.WithoutAnswer.{without_answer}
 use Rattle.cluster_core.specs.Bearing.{BearsChild}
@@ -88,7 +90,8 @@ beside_next which c log e server valid own order now later serves f foreign spar
         ap (λ places. are_rising (filter (moves_here places l.lost c.number) c.records)) (sym (f.log).places) ∙ sym (ap (λ w. are_rising (moved_by c.places c.number w (records_after c.number w c.records))) l.same) ∙ order in
         follows_lost c.system valid log e l.lost l.cause (loss_of c.system log e l now later) c.number (other_lost c e l spared) which c server serves refl refl own f foreign moved unfallen
     by_kind_of (inr (inr (inr (inl of)))) = follows_sync c.system valid log e of now later which c server own serves f foreign
-    by_kind_of (inr (inr (inr (inr (inr y))))) = follows_renewed c.system valid log e y now later which c server own serves f foreign
+    by_kind_of (inr (inr (inr (inr (inr (inl y)))))) = follows_renewed c.system valid log e y now later which c server own serves f foreign
+    by_kind_of (inr (inr (inr (inr (inr (inr y)))))) = follows_returned c.system valid log e y.back y.same now later which c server own serves f foreign
     by_kind_of (inr (inr (inr (inr (inl b))))) = follows_birth c.system valid log e b.parent b.at b.child b.end b.same now later which c server (records_kept c.system log e c.number c.records valid (built_stands c.system (log ++ e ∷ []) later.0) (ap changes_in_place b.same) f.records) own serves f foreign
 
 -- ---- beside a batch, or a birth
@@ -112,7 +115,8 @@ module _ (c : ClusterView) (log : List Entry) (e : Entry) (p : Pid) (process : P
       by_kind_of (inr (inl of)) = ap (λ places. home_at places p) (places_same c.system valid log e of now later)
       by_kind_of (inr (inr (inl l))) = home_stays c.system valid log e l.lost l.cause (loss_of c.system log e l now later) c.number (other_lost c e l spared) p home_is ∙ sym home_is
       by_kind_of (inr (inr (inr (inl of)))) = home_same c.system valid log e of now later p
-      by_kind_of (inr (inr (inr (inr (inr y))))) = home_same_renewed c.system valid log e y now later p
+      by_kind_of (inr (inr (inr (inr (inr (inl y)))))) = home_same_renewed c.system valid log e y now later p
+      by_kind_of (inr (inr (inr (inr (inr (inr y)))))) = home_same_returned c.system log e y.back y.same p
       by_kind_of (inr (inr (inr (inr (inl b))))) = (spares_here c.system valid log e b.parent b.at b.child b.end b.same now later c.number foreign p home).home
 
   -- it is held as before, with letters more at most
@@ -137,7 +141,8 @@ module _ (c : ClusterView) (log : List Entry) (e : Entry) (p : Pid) (process : P
           let still = still_here c.system valid log e l.lost l.cause (loss_of c.system log e l now later) c.number (other_lost c e l spared) c.records c.here p h f.records moved home (ap (λ here. held_of here p) (sym here) ∙ at) in
           subst (RunsStill (letter_for p (what e)) process) (sym (same_process h still)) (still_itself process (letter_for p (what e)) (ap (letter_for p) l.same))
       by_kind_of (inr (inr (inr (inl of)))) = subst (RunsStill (letter_for p (what e)) process) (sym (same_process h (ap (λ (v : ClusterView). held_at v p) (sym (sync_taken c e of)) ∙ at))) (still_itself process (letter_for p (what e)) (by_sync (λ w. letter_for p w ≡ []) (λ pid at index bytes. refl) (λ pid small read took. refl) (what e) of))
-      by_kind_of (inr (inr (inr (inr (inr y))))) = subst (RunsStill (letter_for p (what e)) process) (sym (same_process h (ap (λ (v : ClusterView). held_at v p) (sym (renewal_taken c e y.to y.fresh y.recs y.same)) ∙ at))) (still_itself process (letter_for p (what e)) (ap (letter_for p) y.same))
+      by_kind_of (inr (inr (inr (inr (inr (inr y)))))) = subst (RunsStill (letter_for p (what e)) process) (sym (same_process h (ap (λ (v : ClusterView). held_at v p) (sym (return_taken c e y.back y.same)) ∙ at))) (still_itself process (letter_for p (what e)) (ap (letter_for p) y.same))
+      by_kind_of (inr (inr (inr (inr (inr (inl y)))))) = subst (RunsStill (letter_for p (what e)) process) (sym (same_process h (ap (λ (v : ClusterView). held_at v p) (sym (renewal_taken c e y.to y.fresh y.recs y.same)) ∙ at))) (still_itself process (letter_for p (what e)) (ap (letter_for p) y.same))
       by_kind_of (inr (inr (inr (inr (inl b))))) = subst (RunsStill (letter_for p (what e)) process) (sym (same_process h (ap (λ (v : ClusterView). held_at v p) (sym (birth_taken c e b.parent b.at b.child b.end b.same (parent_not_here c.system valid log e b.parent b.at b.child b.end b.same now later c.number foreign c.here (f.processes).each_once))) ∙ at))) (still_itself process (letter_for p (what e)) (ap (letter_for p) b.same))
 
 -- ---- the whole
@@ -176,7 +181,8 @@ follows_entry c e server valid own order serves left log now later ready = by_re
     sent s l (inr (inr (inl loss))) = absurd (own_no_loss c log e loss s)
     sent s l (inr (inr (inr (inl of)))) = absurd (true≢false (sym l.lone ∙ sync_not_alone (what e) of))
     sent s l (inr (inr (inr (inr (inl b))))) = absurd (true≢false (sym l.lone ∙ ap is_lone b.same))
-    sent s l (inr (inr (inr (inr (inr y))))) = absurd (true≢false (sym l.lone ∙ ap is_lone y.same))
+    sent s l (inr (inr (inr (inr (inr (inl y)))))) = absurd (true≢false (sym l.lone ∙ ap is_lone y.same))
+    sent s l (inr (inr (inr (inr (inr (inr y)))))) = absurd (true≢false (sym l.lone ∙ ap is_lone y.same))
 
     own_post : (s : StandsBetween FollowsBuilt c.system log e c) → IsQueued (s.before).queue ⊎ Synchronises c.system log s.before ⊎ BearsChild c.system log s.before → FollowsBuilt c.system (log ++ e ∷ []) (with_server server (with_entry c e))
     own_post s (inl alone) = sent s (left_of c log e s alone) (one_of c.system log e later)
@@ -262,7 +268,8 @@ may_wait c e valid r = by_loss (one_of c.system r.log e r.open_next)
     by_loss (inr (inr (inl l))) = lost l r.ready
     by_loss (inr (inr (inr (inl of)))) = nobody (by_sync (λ w. moved_by c.places c.number w (records_after c.number w c.records) ≡ []) (λ pid at index bytes. refl) (λ pid small read took. refl) (what e) of)
     by_loss (inr (inr (inr (inr (inl b))))) = nobody (ap (λ w. moved_by c.places c.number w (records_after c.number w c.records)) b.same)
-    by_loss (inr (inr (inr (inr (inr y))))) = nobody (ap (λ w. moved_by c.places c.number w (records_after c.number w c.records)) y.same)
+    by_loss (inr (inr (inr (inr (inr (inl y)))))) = nobody (ap (λ w. moved_by c.places c.number w (records_after c.number w c.records)) y.same)
+    by_loss (inr (inr (inr (inr (inr (inr y)))))) = nobody (ap (λ w. moved_by c.places c.number w (records_after c.number w c.records)) y.same)
 
 -- a page that comes may come to its process
 pub may_come : (c : ClusterView) (e : Entry) → is_system c.system ≡ true → ReadyFor e c → CanCome (what e) c.here
@@ -298,7 +305,8 @@ may_come c e valid r = by_loss (one_of c.system r.log e r.open_next)
     by_loss (inr (inr (inl l))) = subst (λ w. CanCome w c.here) (sym l.same) tt
     by_loss (inr (inr (inr (inl of)))) = by_sync (λ w. CanCome w c.here) (λ pid at index bytes. tt) (λ pid small read took. tt) (what e) of
     by_loss (inr (inr (inr (inr (inl b))))) = subst (λ w. CanCome w c.here) (sym b.same) tt
-    by_loss (inr (inr (inr (inr (inr y))))) = subst (λ w. CanCome w c.here) (sym y.same) tt
+    by_loss (inr (inr (inr (inr (inr (inl y)))))) = subst (λ w. CanCome w c.here) (sym y.same) tt
+    by_loss (inr (inr (inr (inr (inr (inr y)))))) = subst (λ w. CanCome w c.here) (sym y.same) tt
 
 -- ---- that it may be taken in, and what it makes of those that are here
 
@@ -330,7 +338,8 @@ ready_own c e r own = by_loss (one_of c.system r.log e r.open_next)
     by_loss (inr (inl of)) = by_page (λ w. AllOwn (c.cursor + 1) (here_after w c.here)) (λ pid index. later) (λ pid index bytes. own_page (c.cursor + 1) pid index bytes c.here later) (what e) of
     by_loss (inr (inr (inl l))) = subst (λ w. AllOwn (c.cursor + 1) (here_after w c.here)) (sym l.same) later
     by_loss (inr (inr (inr (inl of)))) = by_sync (λ w. AllOwn (c.cursor + 1) (here_after w c.here)) (λ pid at index bytes. later) (λ pid small read took. later) (what e) of
-    by_loss (inr (inr (inr (inr (inr y))))) = subst (λ w. AllOwn (c.cursor + 1) (here_after w c.here)) (sym y.same) later
+    by_loss (inr (inr (inr (inr (inr (inl y)))))) = subst (λ w. AllOwn (c.cursor + 1) (here_after w c.here)) (sym y.same) later
+    by_loss (inr (inr (inr (inr (inr (inr y)))))) = subst (λ w. AllOwn (c.cursor + 1) (here_after w c.here)) (sym y.same) later
     by_loss (inr (inr (inr (inr (inl b))))) = subst (λ w. AllOwn (c.cursor + 1) (here_after w c.here)) (sym b.same) (own_born (c.cursor + 1) b.parent b.child c.here later)
 
 -- what is here as it was, or nothing, is its own

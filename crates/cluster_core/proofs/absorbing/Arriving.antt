@@ -116,5 +116,6 @@ comes_here c e valid r = by_loss (kind_is (what e) (IsLegal-last MayStand c.syst
     by_loss (inr (inl page)) = λ p h there is. absurd (true≢false (sym is ∙ by_page (λ w. is_letter_for p w ≡ false) (λ pid index. refl) (λ pid index bytes. refl) (what e) page))
     by_loss (inr (inr (inl loss))) = λ p h there is. absurd (true≢false (sym is ∙ ap (is_letter_for p) loss.same))
     by_loss (inr (inr (inr (inr (inl b))))) = λ p h there is. absurd (true≢false (sym is ∙ ap (is_letter_for p) b.same))
-    by_loss (inr (inr (inr (inr (inr y))))) = λ p h there is. absurd (true≢false (sym is ∙ ap (is_letter_for p) y.same))
+    by_loss (inr (inr (inr (inr (inr (inl y)))))) = λ p h there is. absurd (true≢false (sym is ∙ ap (is_letter_for p) y.same))
+    by_loss (inr (inr (inr (inr (inr (inr y)))))) = λ p h there is. absurd (true≢false (sym is ∙ ap (is_letter_for p) y.same))
     by_loss (inr (inr (inr (inl of)))) = λ p h there is. absurd (true≢false (sym is ∙ by_sync (λ w. is_letter_for p w ≡ false) (λ pid at index bytes. refl) (λ pid small read took. refl) (what e) of))

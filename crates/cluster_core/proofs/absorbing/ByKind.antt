@@ -1,4 +1,4 @@
--- The kinds of entries that are built: those that tell of steps or close the log, those of pages, losses, those by which a process synchronises, births, and new backups. What holds of each of some kinds holds of every entry of them.
+-- The kinds of entries that are built: those that tell of steps or close the log, those of pages, losses, those by which a process synchronises, births, and new backups; and returns. What holds of each of some kinds holds of every entry of them.
 use Rattle.std.proofs.Common.{◌≡◌, ◌⊎◌, ℕ, refl, sym, List, Bool, true, false, Option, true≢false, inl, inr}
 use Rattle.t32_base.specs.declared.process.Pid.{Pid}
 use Rattle.t32_base.specs.declared.process.End.{End}
@@ -66,9 +66,14 @@ pub record IsRenewal (w : What) : Type 0 where
   pub recs : List BackRec
   pub same : w ≡ Rebackup to fresh recs
 
--- an entry that is built tells or closes, is of a page, is a loss, is one by which a process synchronises, is a birth, or a new backup
+-- the return of a cluster
+pub record IsReturn (w : What) : Type 0 where
+  pub back : ClusterNo
+  pub same : w ≡ Return back
+
+-- an entry tells or closes, is of a page, is a loss, is one by which a process synchronises, is a birth, a new backup, or a return
 abbrev pub OneOf : What → Type 0
-OneOf w = (tells_or_closes w ≡ true) ⊎ (is_of_page w ≡ true) ⊎ IsLoss w ⊎ (is_of_sync w ≡ true) ⊎ IsBirth w ⊎ IsRenewal w
+OneOf w = (tells_or_closes w ≡ true) ⊎ (is_of_page w ≡ true) ⊎ IsLoss w ⊎ (is_of_sync w ≡ true) ⊎ IsBirth w ⊎ IsRenewal w ⊎ IsReturn w
 
 pub kind_is : (w : What) → is_built w ≡ true → OneOf w
 kind_is (Fetch pid index) built = inr (inl refl)
@@ -77,8 +82,8 @@ kind_is (Crash k cause) built = inr (inr (inl (record { lost = k; cause = cause;
 kind_is (Birth parent at child end) built = inr (inr (inr (inr (inl (record { parent = parent; at = at; child = child; end = end; same = refl })))))
 kind_is (Page pid at index bytes) built = inr (inr (inr (inl refl)))
 kind_is (Sync pid small read took) built = inr (inr (inr (inl refl)))
-kind_is (Return k) built = absurd (true≢false (sym built))
-kind_is (Rebackup to fresh recs) built = inr (inr (inr (inr (inr (record { to = to; fresh = fresh; recs = recs; same = refl })))))
+kind_is (Return k) built = inr (inr (inr (inr (inr (inr (record { back = k; same = refl }))))))
+kind_is (Rebackup to fresh recs) built = inr (inr (inr (inr (inr (inl (record { to = to; fresh = fresh; recs = recs; same = refl }))))))
 kind_is _ built = inl refl
 
 -- what is sent alone tells, or is of a page

@@ -11,7 +11,7 @@ use Rattle.bus_msg.specs.declared.entry.What.TheVariants.{Birth, Exit, PageIs, S
 use Rattle.bus_msg.specs.declared.entry.Post.{Post}
 use Rattle.bus_msg.specs.declared.placed.Placed.{Placed}
 use Rattle.bus_msg.specs.Places.{Places, is_cluster, is_moved_by, placed_at, same_cluster, same_pid, unended_at}
-use Rattle.bus_msg.specs.PlacedAfter.{after_exit, after_loss, after_sync, changed_at, child_of, lost_cluster, moved_to, placed_after, raised_serial, with_birth}
+use Rattle.bus_msg.specs.PlacedAfter.{after_exit, after_loss, after_sync, changed_at, child_of, lost_cluster, moved_to, placed_after, raised_serial, returned_cluster, with_birth}
 use Rattle.cert_sched.specs.Built.{is_built}
 use Rattle.cert_sched.specs.Record.{is_root}
 use Rattle.cert_sched.specs.Told.{cluster_lost}
@@ -202,7 +202,7 @@ known_after system k known places (Crash lost cause) built other knows = record 
   pager = knows.pager;
   placed = goes_each system k (after_loss lost) (loss_goes system lost k) known.placed places.placed knows.placed;
 }
-known_after system k known places (Return j) built other knows = absurd (true≢false (sym built))
+known_after system k known places (Return j) built other knows = record { clusters = ap (λ cs. changed_at j.0 returned_cluster (slice_get cs j.0) cs) knows.clusters; pager = knows.pager; placed = knows.placed }
 known_after system k known places (Rebackup to fresh recs) built other knows = absurd (true≢false other)
 known_after system k known places _ built other knows = knows
 

@@ -301,7 +301,8 @@ noted_next c e valid r elsewhere = by_loss (kind_is (what e) may.built)
         ap (λ w. records_after c.number w c.records) b.same
         ∙ birth_left c.system r.log c.number c.records b.parent b.child live (kept_of c r.log e r.ready).records
         (sym (ap (λ w. goes_to (route (placement c.system r.log) w) c.number) b.same) ∙ ap (λ dests. goes_to dests c.number) (sym (((may.stands).placed).1)) ∙ elsewhere)
-    by_loss (inr (inr (inr (inr (inr y))))) =
+    by_loss (inr (inr (inr (inr (inr (inr y)))))) = ap (λ w. records_after c.number w c.records) y.same
+    by_loss (inr (inr (inr (inr (inr (inl y)))))) =
         ap (λ w. records_after c.number w c.records) y.same
         ∙ renewal_left (placement c.system r.log) c.number y.to y.recs c.records (renewed_lives c.system r.log e y.to y.fresh y.recs (subst (KindHolds c.system r.log e) y.same (may.stands).kind))
         (sym (ap (λ w. goes_to (route (placement c.system r.log) w) c.number) y.same) ∙ ap (λ dests. goes_to dests c.number) (sym (((may.stands).placed).1)) ∙ elsewhere)

@@ -178,7 +178,7 @@ module _ (system : System) (valid : is_system system ≡ true) (log : List Entry
     no_fetch = λ p i. ap (is_fetch p i) r.same;
     no_page_is = λ p i. ap (is_page_is p i) r.same;
     no_exit = λ p. ap (is_exit_of p) r.same;
-    living = living_same;
+    living = λ by lives. living_same by ∙ lives;
   }
 
   -- every other process

@@ -109,7 +109,7 @@ pub record BringsNothing (system : System) (log : List Entry) (e : Entry) : Type
   pub no_fetch : (p : Pid) (i : ℕ) → is_fetch p i (what e) ≡ false
   pub no_page_is : (p : Pid) (i : ℕ) → is_page_is p i (what e) ≡ false
   pub no_exit : (p : Pid) → is_exit_of p (what e) ≡ false
-  pub living : (by : By) → is_living (placement system (log ++ e ∷ [])) by ≡ is_living (placement system log) by
+  pub living : (by : By) → is_living (placement system log) by ≡ true → is_living (placement system (log ++ e ∷ [])) by ≡ true
 
 -- what the cluster is then
 abbrev pub passed : ClusterView → Entry → ClusterView
@@ -146,10 +146,15 @@ module _ (system : System) (valid : is_system system ≡ true) (log : List Entry
 
   -- ---- the queue
 
+  still_by_home : (by : By) (p : Pid) → home_at (placement system later) p ≡ home_at places p → is_by_home places by (Some p) ≡ true → is_by_home (placement system later) by (Some p) ≡ true
+  still_by_home by p home right =
+      let parts = and_parts (is_living places by) (is_by by (home_at places p)) right in
+      (λ i. n.living by parts.0 i && is_by by (home i)) ∙ parts.1
+
   -- a post of a cluster that tells of such a process may follow after it
   post_stays : (k : ClusterNo) (post : Post) → ((p : Pid) → HomeHere places p k → Spares system log e p) → is_from k post.by ≡ true → TellingMayFollow system log (entry_of system log post) → TellingMayFollow system later (entry_of system later post)
   post_stays k post spares own may =
-      post_may system later post u.pid u.at u.emission u.after next.0 next.1 may.built u.tells (s.emission u.at ∙ u.is) ((λ i. n.living post.by i && is_by post.by (s.home i)) ∙ u.by_home) keeps
+      post_may system later post u.pid u.at u.emission u.after next.0 next.1 may.built u.tells (s.emission u.at ∙ u.is) (still_by_home post.by u.pid (s.home) u.by_home) keeps
       (waits_after system log e k post valid now.0 stands differ (loses_none k) may.built (ap (is_by_home places post.by) u.process ∙ u.by_home) own may.pages)
       (may_end_still system log e (entry_of system log post) u.pid u.at u.emission post.what valid (built_stands system log now.0) stands s.no_deed u.tells (may.stands).kind)
     where

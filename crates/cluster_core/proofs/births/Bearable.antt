@@ -77,4 +77,5 @@ module _ (c : ClusterView) (e : Entry) (valid : is_system c.system ≡ true) (mi
       by_kind_of (inr (inr (inl l))) = subst (λ w. CanBeBorn w c.here) (sym l.same) tt
       by_kind_of (inr (inr (inr (inl of)))) = by_sync (λ w. CanBeBorn w c.here) (λ pid at index bytes. tt) (λ pid small read took. tt) (what e) of
       by_kind_of (inr (inr (inr (inr (inl b))))) = subst (λ w. CanBeBorn w c.here) (sym b.same) (by_ready b r.ready)
-      by_kind_of (inr (inr (inr (inr (inr y))))) = subst (λ w. CanBeBorn w c.here) (sym y.same) tt
+      by_kind_of (inr (inr (inr (inr (inr (inl y)))))) = subst (λ w. CanBeBorn w c.here) (sym y.same) tt
+      by_kind_of (inr (inr (inr (inr (inr (inr y)))))) = subst (λ w. CanBeBorn w c.here) (sym y.same) tt

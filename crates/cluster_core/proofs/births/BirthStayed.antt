@@ -1,5 +1,5 @@
 -- The birth of a child that is queued while an entry of another cluster is taken in: the parent still stands before its fork, and its next child has the pid that it had.
-use Rattle.std.proofs.Common.{◌≡◌, ℕ, zero, suc, ◌+◌, ◌-◌, refl, sym, ◌∙◌, ap, subst, List, [], ◌∷◌, ◌++◌, Bool, true, false, cond, ◌||◌, eqb, eqb-true, eq-eqb, Option, Some, None, is_none, slice_get, true≢false}
+use Rattle.std.proofs.Common.{◌≡◌, ℕ, ◌+◌, ◌-◌, refl, sym, ◌∙◌, ap, subst, List, [], ◌∷◌, ◌++◌, Bool, true, false, cond, ◌||◌, eqb, eqb-true, eq-eqb, Option, Some, None, is_none, slice_get, true≢false}
 use Rattle.std.specs.Prelude.{length, nat_le, option_map}
 use Rattle.std.specs.List.{list_any}
 use Rattle.std.specs.Option.{option_map_or}
@@ -23,7 +23,7 @@ use Rattle.bus_msg.specs.declared.entry.Entry.{Entry}
 use Rattle.bus_msg.specs.declared.entry.Post.{Post}
 use Rattle.bus_msg.specs.declared.placed.Placed.{Placed}
 use Rattle.bus_msg.specs.Places.{ClusterPlace, Places, next_serial_in, placed_at, same_cluster, unended_at}
-use Rattle.bus_msg.specs.PlacedAfter.{changed_at, lost_cluster, placed_after, raised_serial, what, with_birth}
+use Rattle.bus_msg.specs.PlacedAfter.{changed_at, lost_cluster, placed_after, raised_serial, returned_cluster, what, with_birth}
 use Rattle.channel_table.specs.Changes.{pids_differ}
 use Rattle.cert_sched.specs.Built.{MayStand}
 use Rattle.cert_sched.specs.Kinds.{KindHolds, next_child_at}
@@ -44,6 +44,7 @@ use Rattle.cluster_core.proofs.absorbing.Following.{by_home_of, by_one}
 use Rattle.cluster_core.proofs.here.Here.{is_among}
 use Rattle.cluster_core.proofs.losses.HeldAtHome.{held_there, home_found, home_listed}
 use Rattle.cluster_core.proofs.losses.Homes.{HomeHere, differ_built, home_here}
+use Rattle.cluster_core.proofs.losses.Asked.{asked_kept}
 use Rattle.cluster_core.proofs.losses.NotMoved.{by_built}
 use Rattle.cluster_core.proofs.syncs.Stayed.{RunsStill}
 use Rattle.cert_sched.specs.Deeds.{letter_for}
@@ -98,18 +99,6 @@ serial_born : (places : Places) (child : Pid) (k : ClusterNo) (o : Option Placed
 serial_born places child k None away = refl
 serial_born places child k (Some q) away = serial_elsewhere places.clusters (q.home).0 k.0 (slice_get places.clusters (q.home).0) (away q refl)
 
--- and so does a loss
-serial_lost : (clusters : List ClusterPlace) (j n : ℕ) → serial_at (changed_at j lost_cluster (slice_get clusters j) clusters) n ≡ serial_at clusters n
-serial_lost [] j n = refl
-serial_lost (c ∷ cs) zero zero = refl
-serial_lost (c ∷ cs) zero (suc n) = refl
-serial_lost (c ∷ cs) (suc j) n = by_found (slice_get cs j) n (λ i. serial_lost cs j i)
-  where
-    by_found : (o : Option ClusterPlace) (n : ℕ) → ((i : ℕ) → serial_at (changed_at j lost_cluster o cs) i ≡ serial_at cs i) → serial_at (changed_at (suc j) lost_cluster o (c ∷ cs)) n ≡ serial_at (c ∷ cs) n
-    by_found None n more = refl
-    by_found (Some d) zero more = refl
-    by_found (Some d) (suc i) more = more i
-
 -- the pid of the next child of a process is told by its home
 abbrev child_there : Places → ClusterNo → Pid
 child_there places h = pid_of h.0 (next_serial_in places h)
@@ -154,7 +143,8 @@ module _ (system : System) (valid : is_system system ≡ true) (log : List Entry
       ap (λ places. next_serial_in places k) (placement-snoc system log e)
       ∙ by_built (λ w. is_by_right places (e.post).by w ≡ true → KindHolds system log e w → next_serial_in (placed_after places w) k ≡ next_serial_in places k)
       (λ at letter right kind. refl) (λ parent at child end right kind. serial_born places child k (placed_at places parent) (parent_away parent child right kind.child_is)) (λ r at end right kind. refl) (λ r index right kind. refl) (λ r index bytes right kind. refl)
-      (λ lost cause right kind. serial_lost places.clusters lost.0 k.0) (λ r at index bytes right kind. refl) (λ r small read took right kind. refl) (λ to fresh recs right kind. refl) (λ rests right kind. refl) (λ right kind. refl) (what e) may_e.built (may_e.stands).by_right (may_e.stands).kind
+      (λ lost cause right kind. asked_kept (λ (c : ClusterPlace). c.next_serial) 0 lost_cluster (λ c. refl) places.clusters lost.0 k.0) (λ r at index bytes right kind. refl) (λ r small read took right kind. refl) (λ to fresh recs right kind. refl)
+      (λ j right kind. asked_kept (λ (c : ClusterPlace). c.next_serial) 0 returned_cluster (λ c. refl) places.clusters j.0 k.0) (λ rests right kind. refl) (λ right kind. refl) (what e) may_e.built (may_e.stands).by_right (may_e.stands).kind
 
   -- so the next child of a process at home here has the pid that it had, where the process stays at home
   pub child_after : (p child : Pid) → HomeHere places p k → home_at (placement system later) p ≡ home_at places p → option_map (next_child_at places) (unended_at places p) ≡ Some child → option_map (next_child_at (placement system later)) (unended_at (placement system later) p) ≡ Some child

@@ -170,7 +170,7 @@ module _ (system : System) (valid : is_system system ≡ true) (log : List Entry
     no_fetch = λ p i. ap (is_fetch p i) is;
     no_page_is = λ p i. ap (is_page_is p i) is;
     no_exit = λ p. ap (is_exit_of p) is;
-    living = λ by. ap (λ places. is_living places by) places_later ∙ birth_living places child (placed_at places parent) by;
+    living = λ by lives. ap (λ places. is_living places by) places_later ∙ birth_living places child (placed_at places parent) by ∙ lives;
   }
 
   pub follows_birth : (which : Pid → Bool) (c : ClusterView) (server : Option PagerState) → KeepsRecords system later c.number (records_after c.number (what e) c.records) → AllOwn c.cursor c.here → Serves places e c.server server → FollowsBeside which system log c → is_by_cluster c.number e ≡ false

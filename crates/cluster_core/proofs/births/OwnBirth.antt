@@ -212,7 +212,7 @@ module _ (system : System) (valid : is_system system ≡ true) (log : List Entry
     no_fetch = λ q i. ap (is_fetch q i) is;
     no_page_is = λ q i. ap (is_page_is q i) is;
     no_exit = λ q. ap (is_exit_of q) is;
-    living = λ by. ap (λ places. is_living places by) places_later ∙ birth_living places b.child (placed_at places p) by;
+    living = λ by lives. ap (λ places. is_living places by) places_later ∙ birth_living places b.child (placed_at places p) by ∙ lives;
   }
 
   -- none that is here is born by it

@@ -12,7 +12,7 @@ use Rattle.t32_base.specs.declared.letter.BackRec.{BackRec}
 use Rattle.t32_base.specs.Small.{SmallState}
 use Rattle.sys_text.specs.declared.system.System.{System}
 use Rattle.bus_msg.specs.declared.entry.What.{What}
-use Rattle.bus_msg.specs.declared.entry.What.TheVariants.{Mail, Birth, Exit, Page, Sync, Fetch, PageIs, Crash, Rebackup, Done, Stop}
+use Rattle.bus_msg.specs.declared.entry.What.TheVariants.{Mail, Birth, Exit, Page, Sync, Fetch, PageIs, Crash, Return, Rebackup, Done, Stop}
 use Rattle.bus_msg.specs.declared.entry.Cause.{Cause}
 use Rattle.bus_msg.specs.declared.entry.Entry.{Entry}
 use Rattle.bus_msg.specs.declared.placed.Placed.{Placed}
@@ -98,9 +98,9 @@ home_not_moved system log e p k differ here away = by_loss (cluster_lost (what e
 
 pub by_built : (P : What → Type 0) → ((at : ℕ) (letter : Letter) → P (Mail at letter)) → ((parent : Pid) (at : ℕ) (child : Pid) (end : ℕ) → P (Birth parent at child end)) → ((pid : Pid) (at : ℕ) (end : End) → P (Exit pid at end)) → ((pid : Pid) (index : ℕ) → P (Fetch pid index))
     → ((pid : Pid) (index : ℕ) (bytes : List ℕ) → P (PageIs pid index bytes)) → ((lost : ClusterNo) (cause : Cause) → P (Crash lost cause)) → ((pid : Pid) (at index : ℕ) (bytes : List ℕ) → P (Page pid at index bytes))
-    → ((pid : Pid) (small : SmallState) (read : List ℕ) (took : Option ℕ) → P (Sync pid small read took)) → ((to : ClusterNo) (fresh : Bool) (recs : List BackRec) → P (Rebackup to fresh recs)) → ((rests : List (Pid × ℕ)) → P (Done rests)) → P Stop
+    → ((pid : Pid) (small : SmallState) (read : List ℕ) (took : Option ℕ) → P (Sync pid small read took)) → ((to : ClusterNo) (fresh : Bool) (recs : List BackRec) → P (Rebackup to fresh recs)) → ((k : ClusterNo) → P (Return k)) → ((rests : List (Pid × ℕ)) → P (Done rests)) → P Stop
     → (w : What) → is_built w ≡ true → P w
-by_built P mail birth exit fetch page crash changed cut renewed done stop w built = by_one (kind_is w built)
+by_built P mail birth exit fetch page crash changed cut renewed back done stop w built = by_one (kind_is w built)
   where
     by_one : OneOf w → P w
     by_one (inl tells) = by_kind P mail exit done stop w tells
@@ -108,4 +108,5 @@ by_built P mail birth exit fetch page crash changed cut renewed done stop w buil
     by_one (inr (inr (inl loss))) = subst P (sym loss.same) (crash loss.lost loss.cause)
     by_one (inr (inr (inr (inl of)))) = by_sync P changed cut w of
     by_one (inr (inr (inr (inr (inl b))))) = subst P (sym b.same) (birth b.parent b.at b.child b.end)
-    by_one (inr (inr (inr (inr (inr r))))) = subst P (sym r.same) (renewed r.to r.fresh r.recs)
+    by_one (inr (inr (inr (inr (inr (inl r)))))) = subst P (sym r.same) (renewed r.to r.fresh r.recs)
+    by_one (inr (inr (inr (inr (inr (inr r)))))) = subst P (sym r.same) (back r.back)

@@ -110,4 +110,5 @@ owns_waiting c e valid r order here own = by_loss (one_of c.system r.log e r.ope
     by_loss (inr (inr (inl l))) = lost l r.ready
     by_loss (inr (inr (inr (inl of)))) = nobody (by_sync (λ w. moved_by c.places c.number w (records_after c.number w c.records) ≡ []) (λ pid at index bytes. refl) (λ pid small read took. refl) (what e) of)
     by_loss (inr (inr (inr (inr (inl b))))) = nobody (ap (λ w. moved_by c.places c.number w (records_after c.number w c.records)) b.same)
-    by_loss (inr (inr (inr (inr (inr y))))) = nobody (ap (λ w. moved_by c.places c.number w (records_after c.number w c.records)) y.same)
+    by_loss (inr (inr (inr (inr (inr (inl y)))))) = nobody (ap (λ w. moved_by c.places c.number w (records_after c.number w c.records)) y.same)
+    by_loss (inr (inr (inr (inr (inr (inr y)))))) = nobody (ap (λ w. moved_by c.places c.number w (records_after c.number w c.records)) y.same)

@@ -52,6 +52,7 @@ use Rattle.cert_sched.proofs.BirthClusters.{birth_servers}
 use Rattle.cluster_core.proofs.births.BirthHomes.{birth_home}
 use Rattle.cluster_core.proofs.losses.NotMoved.{by_built, home_not_moved, placed_not_moved}
 use Rattle.cluster_core.proofs.losses.RenewedHomes.{home_renewed_here}
+use Rattle.cluster_core.proofs.losses.Asked.{servers_returned}
 use Rattle.cluster_core.proofs.syncs.SyncedHomes.{home_synced}
 
 -- ---- who sends
@@ -161,34 +162,35 @@ module _ (system : System) (valid : is_system system ≡ true) (log : List Entry
         found = unended_map (after_loss lost) (loss_keeps lost) places (placed_after places (Crash lost cause)) refl p ∙ ap (option_map (after_loss lost)) here.found;
         home = ap (λ h. same_cluster h k) (stays_home lost here.placed (ap (λ n. eqb n lost.0) (eqb-true ((here.placed).home).0 k.0 here.home) ∙ turned k.0 lost.0 ∙ away)) ∙ here.home;
       })
-      (λ r at index bytes right away. here) (λ r small read took right away. home_synced places r p k small read took here) (λ to fresh recs right away. home_renewed_here places p k to fresh recs here) (λ rests right away. here) (λ right away. here) (what e) may_e.built (may_e.stands).by_right away)
+      (λ r at index bytes right away. here) (λ r small read took right away. home_synced places r p k small read took here) (λ to fresh recs right away. home_renewed_here places p k to fresh recs here)
+      (λ j right away. record { placed = here.placed; found = here.found; home = here.home }) (λ rests right away. here) (λ right away. here) (what e) may_e.built (may_e.stands).by_right away)
 
   -- it asks for no page of such a process
   no_fetch : (p : Pid) (i : ℕ) → HomeHere places p k → is_fetch p i (what e) ≡ false
   no_fetch p i here =
       by_built (λ w. is_by_right places (e.post).by w ≡ true → is_fetch p i w ≡ false)
       (λ at letter right. refl) (λ parent at child end right. refl) (λ r at end right. refl) (λ r index right. ap (λ b. b && eqb index i) (not_its p r here right (same_pid r p) refl)) (λ r index bytes right. refl) (λ lost cause right. refl)
-      (λ r at index bytes right. refl) (λ r small read took right. refl) (λ to fresh recs right. refl) (λ rests right. refl) (λ right. refl) (what e) may_e.built (may_e.stands).by_right
+      (λ r at index bytes right. refl) (λ r small read took right. refl) (λ to fresh recs right. refl) (λ j right. refl) (λ rests right. refl) (λ right. refl) (what e) may_e.built (may_e.stands).by_right
 
   -- the first page server stays
   server_after : (by : By) → is_from k by ≡ true → is_by by (first_of (servers_in places)) ≡ true → is_by by (first_of (servers_in (placement system later))) ≡ true
   server_after by from is =
       ap (λ places. is_by by (first_of (servers_in places))) (placement-snoc system log e)
       ∙ by_built (λ w. is_crash_of k w ≡ false → is_by by (first_of (servers_in (placed_after places w))) ≡ true)
-      (λ at letter away. is) (λ parent at child end away. ap (λ servers. is_by by (first_of servers)) (birth_servers places child (placed_at places parent)) ∙ is) (λ r at end away. is) (λ r index away. is) (λ r index bytes away. is) (λ lost cause away. server_after_loss places k lost cause by from away is) (λ r at index bytes away. is) (λ r small read took away. is) (λ to fresh recs away. is) (λ rests away. is) (λ away. is) (what e) may_e.built away
+      (λ at letter away. is) (λ parent at child end away. ap (λ servers. is_by by (first_of servers)) (birth_servers places child (placed_at places parent)) ∙ is) (λ r at end away. is) (λ r index away. is) (λ r index bytes away. is) (λ lost cause away. server_after_loss places k lost cause by from away is) (λ r at index bytes away. is) (λ r small read took away. is) (λ to fresh recs away. is) (λ j away. ap (λ servers. is_by by (first_of servers)) (servers_returned places j) ∙ is) (λ rests away. is) (λ away. is) (what e) may_e.built away
 
   -- where that is this cluster, it is no answer
   no_answer : (by : By) (p : Pid) (i : ℕ) → is_from k by ≡ true → is_by by (first_of (servers_in places)) ≡ true → is_page_is p i (what e) ≡ false
   no_answer by p i from is =
       by_built (λ w. is_by_right places (e.post).by w ≡ true → is_page_is p i w ≡ false)
       (λ at letter right. refl) (λ parent at child end right. refl) (λ r at end right. refl) (λ r index right. refl) (λ r index bytes right. absurd (true≢false (sym (same_sender k by (e.post).by (first_of (servers_in places)) is right from) ∙ foreign)))
-      (λ lost cause right. refl) (λ r at index bytes right. refl) (λ r small read took right. refl) (λ to fresh recs right. refl) (λ rests right. refl) (λ right. refl) (what e) may_e.built (may_e.stands).by_right
+      (λ lost cause right. refl) (λ r at index bytes right. refl) (λ r small read took right. refl) (λ to fresh recs right. refl) (λ j right. refl) (λ rests right. refl) (λ right. refl) (what e) may_e.built (may_e.stands).by_right
 
   -- it is no exit of a process that lacks a page
   no_exit : (p : Pid) → has_its_pages system log p ≡ false → is_exit_of p (what e) ≡ false
   no_exit p lacks =
       by_built (λ w. holds_of (awaits_pages w) (process_of w) (has_its_pages system log) ≡ true → is_exit_of p w ≡ false)
-      (λ at letter has. refl) (λ parent at child end has. refl) (λ r at end has. by_pid r has (same_pid r p) refl) (λ r index has. refl) (λ r index bytes has. refl) (λ lost cause has. refl) (λ r at index bytes has. refl) (λ r small read took has. refl) (λ to fresh recs has. refl) (λ rests has. refl) (λ has. refl) (what e) may_e.built may_e.pages
+      (λ at letter has. refl) (λ parent at child end has. refl) (λ r at end has. by_pid r has (same_pid r p) refl) (λ r index has. refl) (λ r index bytes has. refl) (λ lost cause has. refl) (λ r at index bytes has. refl) (λ r small read took has. refl) (λ to fresh recs has. refl) (λ j has. refl) (λ rests has. refl) (λ has. refl) (what e) may_e.built may_e.pages
     where
       by_pid : (r : Pid) → has_its_pages system log r ≡ true → (b : Bool) → same_pid r p ≡ b → b ≡ false
       by_pid r has true same =

@@ -187,7 +187,7 @@ module _ (system : System) (valid : is_system system ≡ true) (log : List Entry
     no_fetch = λ p i. by_sync (λ w. is_fetch p i w ≡ false) (λ pid at index bytes. refl) (λ pid small read took. refl) (what e) of;
     no_page_is = λ p i. by_sync (λ w. is_page_is p i w ≡ false) (λ pid at index bytes. refl) (λ pid small read took. refl) (what e) of;
     no_exit = λ p. by_sync (λ w. is_exit_of p w ≡ false) (λ pid at index bytes. refl) (λ pid small read took. refl) (what e) of;
-    living = living_same;
+    living = λ by lives. living_same by ∙ lives;
   }
 
   -- every other process
