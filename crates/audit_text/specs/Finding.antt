@@ -14,6 +14,7 @@ line_of Report = codes "t32: audit report\n"
 -- the same in plain words
 abbrev pub words_of : Finding → List ℕ
 words_of Form = codes "t32: what stands behind the system text is no report with its log: a line is malformed, missing or one too many\n"
-words_of (Entry index) = codes "t32: entry " ++ (decimal index ++ codes " of the log may not stand there: no entry with this line may follow those before it\n")
+words_of (Entry index) =
+    codes "t32: entry " ++ (decimal index ++ codes " of the log may not stand there: no entry with this line may follow those before it\n")
 words_of Unended = codes "t32: the log ends neither with done nor with a loss that was not covered\n"
 words_of Report = codes "t32: the entries of the log may stand there, and the report in front of them is not what is printed of them\n"

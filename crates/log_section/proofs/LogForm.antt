@@ -114,7 +114,8 @@ cause_clean (Step n) h = last_clean (codes " step ") n refl h
 cause_clean (Disk n) h = last_clean (codes " disk ") n refl h
 
 what_clean : (w : ToldWhat) → WhatFits w → Clean (what_text w)
-what_clean (Mail from at letter) h = word_clean (codes "mail ") from _ refl h.0 (word_clean (codes " at ") at _ refl h.1 (both (codes " ") (letter_text letter) (clean (codes " ") refl) (letter_clean letter h.2)))
+what_clean (Mail from at letter) h =
+    word_clean (codes "mail ") from _ refl h.0 (word_clean (codes " at ") at _ refl h.1 (both (codes " ") (letter_text letter) (clean (codes " ") refl) (letter_clean letter h.2)))
 what_clean (Birth parent at child end) h =
     word_clean (codes "birth ") parent _ refl h.0 (word_clean (codes " at ") at _ refl h.1 (word_clean (codes " child ") child _ refl h.2 (last_clean (codes " end ") end refl h.3)))
 what_clean (Exit pid at end) h = word_clean (codes "exit ") pid _ refl h.0 (word_clean (codes " at ") at _ refl h.1 (both (codes " ") (end_text end) (clean (codes " ") refl) (end_clean end h.2)))
@@ -149,7 +150,8 @@ line_read : (t : Told) (n : ℕ) (more : List ℕ) → Fits t
     → told_lines (suc n) (text_of t ++ 10 ∷ more) ≡ option_map (λ (ts : List Told). t ∷ ts) (told_lines n more)
 line_read t n more h =
     let line = line_clean t h in
-    ap (λ (text : List ℕ). option_and_then (λ (u : Told). option_map (λ (ts : List Told). u ∷ ts) (told_lines n (drop 1 text))) (option_and_then told_in (ended_line (before is_newline (text_of t ++ 10 ∷ more)) text)))
+    ap (λ (text : List ℕ). option_and_then (λ (u : Told). option_map (λ (ts : List Told). u ∷ ts) (told_lines n (drop 1 text)))
+    (option_and_then told_in (ended_line (before is_newline (text_of t ++ 10 ∷ more)) text)))
     (from_first is_newline (text_of t) 10 more line refl)
     ∙ ap (λ (text : List ℕ). option_and_then (λ (u : Told). option_map (λ (ts : List Told). u ∷ ts) (told_lines n more)) (told_in text)) (before_first is_newline (text_of t) 10 more line refl)
     ∙ ap (option_and_then (λ (u : Told). option_map (λ (ts : List Told). u ∷ ts) (told_lines n more))) (own_line t h)

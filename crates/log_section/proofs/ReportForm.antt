@@ -77,7 +77,8 @@ pids_first : (shapes : List (List ℕ)) (p : ℕ) (more : List ℕ) → IsSmall 
     → behind_one (map (λ (shape : List ℕ). codes "pid #" ++ shape) shapes) (codes "pid " ++ ((decimal p ++ 32 ∷ []) ++ more)) ≡ first_of shapes (p, 32 ∷ more)
 pids_first [] p more small = refl
 pids_first (shape ∷ shapes) p more small =
-    ap (λ (o : Option Left). option_map_or (λ (l : Left). Some l.1) o (behind_one (map (λ (s : List ℕ). codes "pid #" ++ s) shapes) (codes "pid " ++ ((decimal p ++ 32 ∷ []) ++ more)))) (number_past shape 0 p 32 [] more small refl)
+    ap (λ (o : Option Left). option_map_or (λ (l : Left). Some l.1) o (behind_one (map (λ (s : List ℕ). codes "pid #" ++ s) shapes) (codes "pid " ++ ((decimal p ++ 32 ∷ []) ++ more))))
+    (number_past shape 0 p 32 [] more small refl)
     ∙ ap (λ (o : Option (List ℕ)). option_map_or (λ (l : Left). Some l.1) (past shape (p, 32 ∷ more)) o) (pids_first shapes p more small)
 
 first_taken : (shape : List ℕ) (shapes : List (List ℕ)) (left next : Left) → past shape left ≡ Some next → first_of (shape ∷ shapes) left ≡ Some next.1
@@ -118,7 +119,8 @@ pub processes_passed : (k : Kernel) (ps : List Pid) (rest : List ℕ) → Kernel
 processes_passed k [] rest fits stops = reach_here (behind_one process_shapes) rest stops
 processes_passed k (p ∷ ps) rest fits stops = by_process (processes_passed k ps rest fits stops) (process_at k p) refl
   where
-    by_process : Reaches (behind_one process_shapes) (pids_report k ps ++ rest) rest → (o : Option ProcState) → process_at k p ≡ o → Reaches (behind_one process_shapes) ((pid_part p o ++ pids_report k ps) ++ rest) rest
+    by_process : Reaches (behind_one process_shapes) (pids_report k ps ++ rest) rest → (o : Option ProcState) → process_at k p ≡ o
+        → Reaches (behind_one process_shapes) ((pid_part p o ++ pids_report k ps) ++ rest) rest
     by_process more None e = more
     by_process more (Some s) e =
         let fit = fits.processes p s e in

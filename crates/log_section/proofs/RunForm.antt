@@ -83,11 +83,13 @@ losses_reach (e ∷ es) rest fits stops = by_loss (loss_is e.place (what e) fits
         of_part (λ (text : List ℕ). Reaches (behind_one loss_shapes) text rest) (loss_part e.place (what e)) (b ∷ line) (each_loss es) rest is
         (reach_more (behind_one loss_shapes) b line (each_loss es ++ rest) rest (passes (each_loss es ++ rest)) more)
 
-some_losses : (log : List Entry) (rest : List ℕ) → LogFits log → list_any (λ (e : Entry). is_crash (what e)) log ≡ true → behind_one loss_shapes rest ≡ None → behind_losses (each_loss log ++ rest) ≡ Some rest
+some_losses : (log : List Entry) (rest : List ℕ) → LogFits log → list_any (λ (e : Entry). is_crash (what e)) log ≡ true → behind_one loss_shapes rest ≡ None
+    → behind_losses (each_loss log ++ rest) ≡ Some rest
 some_losses [] rest fits crashed stops = absurd (true≢false (sym crashed))
 some_losses (e ∷ es) rest fits crashed stops = by_loss (λ h. some_losses es rest fits.1 h stops) (loss_is e.place (what e) fits.0.0 fits.0.2)
   where
-    by_loss : (list_any (λ (f : Entry). is_crash (what f)) es ≡ true → behind_losses (each_loss es ++ rest) ≡ Some rest) → LossIs e.place (what e) → behind_losses ((loss_part e.place (what e) ++ each_loss es) ++ rest) ≡ Some rest
+    by_loss : (list_any (λ (f : Entry). is_crash (what f)) es ≡ true → behind_losses (each_loss es ++ rest) ≡ Some rest) → LossIs e.place (what e)
+        → behind_losses ((loss_part e.place (what e) ++ each_loss es) ++ rest) ≡ Some rest
     by_loss more (NoLoss none unlost) =
         of_nothing (λ (text : List ℕ). behind_losses text ≡ Some rest) (loss_part e.place (what e)) (each_loss es) rest none
         (more (ap (λ (b : Bool). b || list_any (λ (f : Entry). is_crash (what f)) es) (sym unlost) ∙ crashed))
@@ -147,7 +149,8 @@ two_ended a b rest small small' =
 
 item_passed : (item : Item) (rest : List ℕ) → ItemFits item → behind_one item_shapes (ended (item_line item) ++ rest) ≡ Some rest
 item_passed (Runs p n) rest fits =
-    ap (λ (o : Option Left). option_map_or (λ (left : Left). Some left.1) o (behind_one (codes "fork # #\n" ∷ codes "take #\n" ∷ []) (ended (item_line (Runs p n)) ++ rest))) (two_ended p.0 n rest fits.0 fits.1)
+    ap (λ (o : Option Left). option_map_or (λ (left : Left). Some left.1) o (behind_one (codes "fork # #\n" ∷ codes "take #\n" ∷ []) (ended (item_line (Runs p n)) ++ rest)))
+    (two_ended p.0 n rest fits.0 fits.1)
 item_passed (Fork p c) rest fits =
     ap (λ (o : Option Left). option_map_or (λ (left : Left). Some left.1) o (behind_one (codes "take #\n" ∷ []) (ended (item_line (Fork p c)) ++ rest))) (two_ended p.0 c.0 rest fits.0 fits.1)
 item_passed (Take p) rest fits = ap (λ (o : Option Left). option_map_or (λ (left : Left). Some left.1) o None) (number_past (codes "\n") 0 p.0 10 [] rest fits refl)

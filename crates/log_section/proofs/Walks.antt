@@ -17,13 +17,15 @@ sign_bad sign signs left total e h = sym h ∙ ap (option_and_then (past signs))
 
 -- ---- parts
 
-pub count_more : (part : List ℕ → Option (List ℕ)) (left less : ℕ) (text rest : List ℕ) (total : Option (List ℕ)) → left ≡ suc less → part text ≡ Some rest → behind_count part left text ≡ total → behind_count part less rest ≡ total
+pub count_more : (part : List ℕ → Option (List ℕ)) (left less : ℕ) (text rest : List ℕ) (total : Option (List ℕ)) → left ≡ suc less → part text ≡ Some rest → behind_count part left text ≡ total
+    → behind_count part less rest ≡ total
 count_more part left less text rest total more e h = ap (option_and_then (behind_count part less)) (sym e) ∙ ap (λ (n : ℕ). behind_count part n text) (sym more) ∙ h
 
 pub count_bad : (part : List ℕ → Option (List ℕ)) (left less : ℕ) (text : List ℕ) (total : Option (List ℕ)) → left ≡ suc less → part text ≡ None → behind_count part left text ≡ total → total ≡ None
 count_bad part left less text total more e h = sym h ∙ ap (λ (n : ℕ). behind_count part n text) more ∙ ap (option_and_then (behind_count part less)) e
 
-pub most_more : (part : List ℕ → Option (List ℕ)) (left less : ℕ) (text rest total : List ℕ) → left ≡ suc less → part text ≡ Some rest → behind_most part left text ≡ total → behind_most part less rest ≡ total
+pub most_more : (part : List ℕ → Option (List ℕ)) (left less : ℕ) (text rest total : List ℕ) → left ≡ suc less → part text ≡ Some rest → behind_most part left text ≡ total
+    → behind_most part less rest ≡ total
 most_more part left less text rest total more e h = ap (λ (o : Option (List ℕ)). option_map_or (behind_most part less) o text) (sym e) ∙ ap (λ (n : ℕ). behind_most part n text) (sym more) ∙ h
 
 pub most_bad : (part : List ℕ → Option (List ℕ)) (left : ℕ) (text total : List ℕ) → part text ≡ None → behind_most part left text ≡ total → total ≡ text
@@ -41,7 +43,8 @@ gathered_more found t None = refl
 gathered_more found t (Some ts) = ap Some (append_assoc found (t ∷ []) ts)
 
 -- what the line in front says
-pub told_first : (line end text : List ℕ) (t : Told) (o : Option Told) → line ≡ before is_newline text → end ≡ from is_newline text → o ≡ option_and_then told_in (ended_line line end) → o ≡ Some t → first_told text ≡ Some t
+pub told_first : (line end text : List ℕ) (t : Told) (o : Option Told) → line ≡ before is_newline text → end ≡ from is_newline text → o ≡ option_and_then told_in (ended_line line end) → o ≡ Some t
+    → first_told text ≡ Some t
 told_first line end text t o l e h s =
     sym (h ∙ ap (λ (x : List ℕ). option_and_then told_in (ended_line x end)) l ∙ ap (λ (x : List ℕ). option_and_then told_in (ended_line (before is_newline text) x)) e) ∙ s
 

@@ -89,10 +89,13 @@ part_read : (k : Kernel) (r : Run) → KernelFits k → RunFits r → log_part (
 part_read k r fits run_fits =
     let syncs : IsSmall (count_by (λ (e : Entry). is_sync (what e)) r.log) = omega (arith, count_by-le-length (λ (e : Entry). is_sync (what e)) r.log, run_fits.entries) in
     let lost : behind_lost (from_lost r) ≡ from_bus r = lost_passed r.ended _ run_fits.ended in
-    ap (λ (t : List ℕ). option_and_then (behind_line log_shape) (option_and_then behind_items (option_and_then behind_bus (option_map behind_lost (behind_losses t))))) (report_passed k r fits run_fits)
-    ∙ ap (λ (o : Option (List ℕ)). option_and_then (behind_line log_shape) (option_and_then behind_items (option_and_then behind_bus (option_map behind_lost o)))) (losses_passed r.log (from_lost r) run_fits.log (no_loss r))
+    ap (λ (t : List ℕ). option_and_then (behind_line log_shape) (option_and_then behind_items (option_and_then behind_bus (option_map behind_lost (behind_losses t)))))
+    (report_passed k r fits run_fits)
+    ∙ ap (λ (o : Option (List ℕ)). option_and_then (behind_line log_shape) (option_and_then behind_items (option_and_then behind_bus (option_map behind_lost o))))
+    (losses_passed r.log (from_lost r) run_fits.log (no_loss r))
     ∙ ap (λ (t : List ℕ). option_and_then (behind_line log_shape) (option_and_then behind_items (behind_bus t))) lost
-    ∙ ap (λ (o : Option (List ℕ)). option_and_then (behind_line log_shape) (option_and_then behind_items o)) (bus_passed (length r.log) _ r.withheld (from_items r) run_fits.entries syncs run_fits.withheld)
+    ∙ ap (λ (o : Option (List ℕ)). option_and_then (behind_line log_shape) (option_and_then behind_items o))
+    (bus_passed (length r.log) _ r.withheld (from_items r) run_fits.entries syncs run_fits.withheld)
     ∙ ap (option_and_then (behind_line log_shape)) (items_passed r.items (log_text_of r.log) run_fits.items run_fits.count)
     ∙ log_headed r.log run_fits.entries
 

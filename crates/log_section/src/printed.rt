@@ -10,5 +10,6 @@ ghost use Rattle.log_section.specs.Printed.{KernelFits, RunFits};
 /// A law and no code: what is printed of a run and its log, where the kernel stands after the run's schedule, is of the
 /// form, and its log says the printed part of each entry. Each number that is printed is below 2^64.
 pub fn printed_sections_are_form()
-    ensures { (kernel : Kernel) (run : Run) → KernelFits kernel → RunFits run → IsForm (report_of kernel run ++ log_text_of run.log) (map told_of run.log) }
+    ensures { (kernel : Kernel) (run : Run) → KernelFits kernel → RunFits run →
+        IsForm (report_of kernel run ++ log_text_of run.log) (map told_of run.log) }
 {}
