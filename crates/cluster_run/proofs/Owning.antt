@@ -24,8 +24,6 @@ use Rattle.bus_order.specs.Log.{author_of}
 use Rattle.bus_order.specs.Script.{has_unused, is_word_for}
 use Rattle.bus_order.specs.View.{BusView, Loses, after_words, with_loss, with_post}
 use Rattle.bus_order.proofs.OverLaws.{closed-snoc, finished-snoc, open_not_closed}
-use Rattle.script_laws.specs.Crashes.{crashes}
-use Rattle.script_laws.proofs.CoveredLosses.{few_losses_close}
 use Rattle.cluster_run.specs.declared.offers.Offered.TheVariants.{Sent, Behind, Over, Off}
 use Rattle.cluster_run.specs.Gone.{own_cause}
 use Rattle.cluster_run.specs.Along.{IsAlong, IsOwned, IsSound, TakesIn}
@@ -37,7 +35,7 @@ use Rattle.cluster_run.proofs.Progressing.{at_most_then, then_falls, told_rest, 
 use Rattle.cluster_run.proofs.Sending.{sent_goes_on, sent_spends}
 use Rattle.cluster_run.proofs.StepLosses.{lost_adds}
 use Rattle.cluster_run.proofs.TakingIn.{seen_lives}
-use Rattle.cluster_run.proofs.Worded.{after_worded}
+use Rattle.cluster_run.proofs.Worded.{after_worded, sound_closes}
 use Rattle.cluster_run.proofs.WordsLeft.{IsSameOrFewer, words_fewer, words_marks, words_open}
 
 pub adds_more : (k : ClusterNo) (a b c : BusView) → Adds k a b → Adds k b c → Adds k a c
@@ -93,8 +91,7 @@ words_go_on b after own sound is = by_end (is_over after.system after.log) refl
     by_end : (t : Bool) → is_over after.system after.log ≡ t → t ≡ false
     by_end false over = refl
     by_end true over =
-        let few : crashes after.log ≤ 1 = let losses = sound.losses in let one = sound.one in omega (arith, losses, one) in
-        let closed : is_closed after.log ≡ true = few_losses_close after.system after.log sound.valid sound.legal few over in
+        let closed : is_closed after.log ≡ true = sound_closes after sound over in
         let still : is_closed after.log ≡ false = ap (λ (x : BusView). is_closed x.log) is ∙ words_open b (open_not_closed b.system b.log ((own.0).sound).legal own.1) in
         sym closed ∙ still
 
@@ -278,9 +275,8 @@ pub loses_own : (b after : BusView) (k : ClusterNo) (c : ClusterView) (at : ℕ)
 loses_own b after k c at own sound lost unused loses =
     let left : List ScriptWord = without_first (is_word_for k (own_cause c)) b.left in
     let is : after ≡ with_loss b k (own_cause c) left = loses.3 in
-    let few : crashes after.log ≤ 1 = let losses = sound.losses in let one = sound.one in omega (arith, losses, one) in
     let open_still : is_closed after.log ≡ false = ap (λ (x : BusView). is_closed x.log) is ∙ closed-snoc b.log (entry_of b.system b.log (record { by = Bus; what = Crash k (own_cause c) })) in
-    let goes_on : is_over after.system after.log ≡ false = by_end few open_still (is_over after.system after.log) refl in
+    let goes_on : is_over after.system after.log ≡ false = by_end open_still (is_over after.system after.log) refl in
     let fewer : length after.left < length b.left = subst (λ (x : BusView). length x.left < length b.left) (sym is) (one_fewer (is_word_for k (own_cause c)) b.left unused) in
     record {
       sends = record {
@@ -299,9 +295,9 @@ loses_own b after k c at own sound lost unused loses =
       fewer = fewer;
     }
   where
-    by_end : crashes after.log ≤ 1 → is_closed after.log ≡ false → (t : Bool) → is_over after.system after.log ≡ t → is_over after.system after.log ≡ false
-    by_end few open_still true over = absurd (true≢false (sym (few_losses_close after.system after.log sound.valid sound.legal few over) ∙ open_still))
-    by_end few open_still false over = over
+    by_end : is_closed after.log ≡ false → (t : Bool) → is_over after.system after.log ≡ t → is_over after.system after.log ≡ false
+    by_end open_still true over = absurd (true≢false (sym (sound_closes after sound over) ∙ open_still))
+    by_end open_still false over = over
 
 -- a process of the cluster moved, and sent nothing
 pub moves_turn : (b mid : BusView) (c caught worked : ClusterView) → mid ≡ b → GoesOwn b → TakesIn mid c caught → load worked + 1 ≤ load caught → worked.cursor ≡ caught.cursor → worked.queue ≡ [] → TurnsOwn b mid c worked

@@ -7,3 +7,4 @@ mod Replies
 mod Streams
 mod Tales
 mod Loads
+mod OneWord
