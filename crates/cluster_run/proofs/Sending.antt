@@ -119,7 +119,7 @@ module _ (log : List Entry) (c : ClusterView) (post : Post) (after : BusView) (s
 
   pub ready_sent : IsSound after → IsReadyAt after.log (after_sent c c.queue)
   ready_sent sound = subst (IsReadyAt after.log) (sym clears) (record {
-    within = omega (arith, long, upto_all after c.number sound sent_goes_on sent_lives);
+    within = subst (λ y. c.cursor < upto c.number y after.log) (sym s.system) (omega (arith, long, upto_all after c.number sent_goes_on sent_lives));
     ready = λ e at.
         let is : next ≡ e = let both_are : Some next ≡ Some e = sym at_cursor ∙ at in cc in
         let P : Entry → Type 0 = λ e. ReadyFor e (cleared c) in
@@ -177,6 +177,7 @@ module _ (log : List Entry) (c : ClusterView) (post : Post) (after : BusView) (s
     system = s.system;
     has = subst (λ (y : System). (c.number).0 < y.clusters) s.system (s.beside).has;
     within = omega (arith, long);
+    goes_on = (λ i. is_over (sym s.system i) (front i)) ∙ s.goes_on;
     lives = ap (λ l. was_lost_in l c.number) front ∙ lives_log;
     stands = inl (
       (s.beside).unfailed,

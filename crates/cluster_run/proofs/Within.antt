@@ -347,7 +347,7 @@ module _ (b : BusView) (c : ClusterView) (sound : IsSound b) (gone : IsGone b c)
     legal_prefix MayStand b.system b.log c.cursor sound.legal,
     elim (slice_get_cases b.log c.cursor).1 [
       | inl there ↦ goes_on_before b.system b.log c.cursor there.0 sound.legal there.2
-      | inr past ↦ absurd (let low = (gone.left).within in let inside = gone_inside b c gone in omega (arith, low, inside, past.0))
+      | inr past ↦ absurd (let low = (gone.left).within in let inside = gone_inside b c sound.legal gone in omega (arith, low, inside, past.0))
     ],
   )
 

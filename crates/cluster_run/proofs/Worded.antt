@@ -24,7 +24,6 @@ use Rattle.bus_lock.specs.Lists.{MayAdd, is_author}
 use Rattle.bus_order.specs.Log.{author, author_of}
 use Rattle.bus_order.specs.View.{BusView, HasLooked, IsLawful, after_words, look_once, looks, with_given, with_look}
 use Rattle.bus_order.proofs.Looking.{look_over, look_some}
-use Rattle.bus_order.proofs.OverLaws.{open_not_closed}
 use Rattle.script_laws.proofs.OffLosses.{built_stands}
 use Rattle.script_laws.proofs.SpreadLosses.{spread_log_closes}
 use Rattle.script_laws.proofs.WordLosses.{all_worded}
@@ -112,27 +111,19 @@ may_add k more none i d low = inl (none i d low)
 -- ---- spread words
 
 -- a bus is sound, as far as its script is
-pub sound_of : (b : BusView) → is_system b.system ≡ true → list_all is_built_word b.script ≡ true → is_spread b.system b.script ≡ true → IsLawful b → IsSound b
-sound_of b valid words spread lawful = record { valid = valid; words = words; spread = spread; legal = lawful.legal; losses = all_worded b lawful.scripted; fits = lawful.fits }
+pub sound_of : (b : BusView) → is_system b.system ≡ true → list_all is_built_word b.script ≡ true → IsLawful b → IsSound b
+sound_of b valid words lawful = record { valid = valid; words = words; legal = lawful.legal; fits = lawful.fits }
 
 pub sound_again : (old new : BusView) → IsSound old → new.system ≡ old.system → new.script ≡ old.script → IsLawful new → IsSound new
 sound_again old new sound system script lawful =
-    sound_of new (ap is_system system ∙ sound.valid) (ap (list_all is_built_word) script ∙ sound.words) ((λ i. is_spread (system i) (script i)) ∙ sound.spread) lawful
+    sound_of new (ap is_system system ∙ sound.valid) (ap (list_all is_built_word) script ∙ sound.words) lawful
 
--- its losses are covered, so its log is over only where it is closed,
-pub sound_closes : (b : BusView) → IsSound b → is_over b.system b.log ≡ true → is_closed b.log ≡ true
-sound_closes b sound over = spread_log_closes b.system b.script b.log sound.valid sound.spread (built_stands b.system b.log sound.legal) sound.losses over
-
--- and exactly there
-pub sound_closed : (b : BusView) → IsSound b → is_over b.system b.log ≡ is_closed b.log
-sound_closed b sound = by_test (is_over b.system b.log) refl
-  where
-    by_test : (t : Bool) → is_over b.system b.log ≡ t → is_over b.system b.log ≡ is_closed b.log
-    by_test true over = over ∙ sym (sound_closes b sound over)
-    by_test false is = is ∙ sym (open_not_closed b.system b.log sound.legal is)
+-- where its script is spread its losses are covered, so its log is over only where it is closed
+pub spread_closes : (b : BusView) → is_system b.system ≡ true → IsLawful b → is_spread b.system b.script ≡ true → is_over b.system b.log ≡ true → is_closed b.log ≡ true
+spread_closes b valid lawful spread over = spread_log_closes b.system b.script b.log valid spread (built_stands b.system b.log lawful.legal) (all_worded b lawful.scripted) over
 
 -- what is known of it from its system, its script and its log
 pub sound_by_log : (b : BusView) (log : List Entry) → IsSound b → log ≡ b.log → IsSound (bus_of (origin_of b) log)
 sound_by_log b log sound same =
     let P : List Entry → Type 0 = λ l. IsSound (bus_of (origin_of b) l) in
-    subst P (sym same) (record { valid = sound.valid; words = sound.words; spread = sound.spread; legal = sound.legal; losses = sound.losses; fits = sound.fits })
+    subst P (sym same) (record { valid = sound.valid; words = sound.words; legal = sound.legal; fits = sound.fits })

@@ -7,4 +7,3 @@ mod Replies
 mod Streams
 mod Tales
 mod Loads
-mod OneWord

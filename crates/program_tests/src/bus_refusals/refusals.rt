@@ -59,7 +59,6 @@ fn send_behind(bus: &mut Bus) -> Option<Sent> {
 }
 
 // How many clusters there are, and the bus after a turn of cluster 0.
-#[tactic(auto, using(crate::proofs::NoWords::no_words_spread))]
 fn after_turn(alloc: Global, system: &Arc<System>) -> Result<(usize, Bus), NoMemory>
     requires { is_system (arc_value system.now) ≡ true }
 {
@@ -90,7 +89,6 @@ fn send_over(bus: &mut Bus) -> Option<Sent> {
     Some((answer, bus.length()))
 }
 
-#[tactic(auto, using(crate::proofs::NoWords::no_words_spread))]
 fn after_rounds(alloc: Global, system: &Arc<System>) -> Result<Bus, NoMemory>
     requires { is_system (arc_value system.now) ≡ true }
 {

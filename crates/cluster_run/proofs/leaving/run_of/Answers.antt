@@ -24,5 +24,6 @@ returns-clause-good c =
     let counts = c.in_ok-counts.counts in
     let log : c.as_slice.result.now ≡ b.log = c.as_slice.ensures ∙ c.in_ok-log.ensures.log in
     let count : counts.withheld ≡ counted b.system b.log = c.in_ok-counts.ensures.withheld ∙ (λ i. counted (sym c.requires.system i) (log i)) in
-    good_run b c.args.clusters.now c.in_ok-log.log c.in_ok-log.items counts.steps counts.disk_calls counts.withheld lawful.legal lawful.scripted c.requires.finished c.requires.left c.in_ok-log.ensures.log c.in_ok-log.ensures.items
+    let ends : EndsAs b.system b.log c.ended_of-ended.result = subst (λ (x : BusView). EndsAs x.system x.log c.ended_of-ended.result) c.deref.ensures c.ended_of-ended.ensures in
+    good_run b c.args.clusters.now c.in_ok-log.log c.in_ok-log.items counts.steps counts.disk_calls counts.withheld c.ended_of-ended.result lawful.legal lawful.scripted ends c.requires.left c.in_ok-log.ensures.log c.in_ok-log.ensures.items
     c.in_ok-counts.ensures.steps c.in_ok-counts.ensures.calls count

@@ -8,17 +8,11 @@ use Rattle.text_parts.specs.Lines.{lines_of}
 use Rattle.targon_cli.specs.Noted.{MayNoteRun}
 use Rattle.targon_cli.specs.Reply.{IsTextOf, run_text}
 use Rattle.targon_cli.proofs.Endings.{nothing_to_explain, run_noted, unread_noted}
-use Rattle.targon_cli.proofs.OneWord.{built_spread}
 use Rattle.targon_cli.proofs.Tales.{read_valid, ran_makes}
 use Rattle.targon_cli.proofs.runs.run_threads.Goals as goal
 
 pub run-requires-clause-valid : goal.run-requires-clause-valid
 run-requires-clause-valid g c κs within = read_valid (reading_of c.args.bytes.now) c.args.script.now c.in-System.system (rw c.in-System.is at c.in_ok-system.ensures.read)
-
-pub run-requires-clause-spread : goal.run-requires-clause-spread
-run-requires-clause-spread g c κs within =
-    let valid = read_valid (reading_of c.args.bytes.now) c.args.script.now c.in-System.system (rw c.in-System.is at c.in_ok-system.ensures.read) in
-    built_spread (arc_value c.in-System.system) c.args.script.now c.as_slice.result.now valid c.requires c.as_slice.ensures
 
 pub tell-requires-clause-valid : goal.tell-requires-clause-valid
 tell-requires-clause-valid g c = rw c.deref.ensures (read_valid (reading_of c.args.bytes.now) c.args.script.now c.in-System.system (rw c.in-System.is at c.in_ok-system.ensures.read))
