@@ -31,7 +31,7 @@ use Rattle.bus_order.specs.Script.{is_unpassed}
 use Rattle.bus_order.specs.View.{BusView}
 use Rattle.script_laws.proofs.PassedWords.{all_longer}
 use Rattle.cluster_run.specs.Gone.{IsBeforeStep, is_told_by}
-use Rattle.cluster_run.specs.Along.{IsAlong, IsReadyAt, IsSound, IsUnnamed, TakesNext}
+use Rattle.cluster_run.specs.Along.{IsAlong, IsReadyAt, IsSound, IsUnnamed, TakesNext, upto}
 use Rattle.cluster_run.specs.Turns.{IsSent}
 use Rattle.cluster_run.proofs.Heads.{head_first, tail_of}
 use Rattle.cluster_run.proofs.Prefixes.{drop_whole, get_last}
