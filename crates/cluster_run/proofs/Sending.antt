@@ -37,7 +37,7 @@ use Rattle.cluster_run.proofs.Heads.{head_first, tail_of}
 use Rattle.cluster_run.proofs.Prefixes.{drop_whole, get_last}
 use Rattle.cluster_run.proofs.OwnLosses.{none_own, passed_next}
 use Rattle.cluster_run.proofs.Unlost.{closes_not, ends_closed, from_cluster, no_loss, same_after}
-use Rattle.cluster_run.proofs.TakingIn.{upto_all}
+use Rattle.cluster_run.proofs.TakingIn.{open_where, upto_all}
 
 -- a cluster whose head was sent
 abbrev pub cleared : ClusterView → ClusterView
@@ -120,6 +120,7 @@ module _ (log : List Entry) (c : ClusterView) (post : Post) (after : BusView) (s
   pub ready_sent : IsSound after → IsReadyAt after.log (after_sent c c.queue)
   ready_sent sound = subst (IsReadyAt after.log) (sym clears) (record {
     within = subst (λ y. c.cursor < upto c.number y after.log) (sym s.system) (omega (arith, long, upto_all after c.number sent_goes_on sent_lives));
+    open_there = open_where after.system after.log c.number c.cursor sound.legal (omega (arith, long, upto_all after c.number sent_goes_on sent_lives));
     ready = λ e at.
         let is : next ≡ e = let both_are : Some next ≡ Some e = sym at_cursor ∙ at in cc in
         let P : Entry → Type 0 = λ e. ReadyFor e (cleared c) in

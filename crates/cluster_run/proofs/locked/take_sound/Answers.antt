@@ -1,3 +1,4 @@
+use Rattle.std.proofs.Common.{◌≡◌, ◌∙◌, ap}
 use Rattle.std.specs.List.{list_all}
 use Rattle.sys_text.specs.Valid.{is_system}
 use Rattle.cert_sched.specs.Built.{is_built_word}
