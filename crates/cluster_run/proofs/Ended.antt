@@ -1,5 +1,5 @@
 -- How a run ended, by the last entry of its log.
-use Rattle.std.proofs.Common.{◌≡◌, ℕ, ◌+◌, ◌-◌, ◌<◌, refl, sym, ◌∙◌, ap, subst, arith, List, [], ◌∷◌, ◌++◌, length, length-append, Bool, true, false, not, Some, true≢false}
+use Rattle.std.proofs.Common.{◌≡◌, inl, inr, ℕ, ◌+◌, ◌-◌, ◌<◌, refl, sym, ◌∙◌, ap, subst, arith, List, [], ◌∷◌, ◌++◌, length, length-append, Bool, true, false, not, Some, true≢false}
 use Rattle.std.specs.Prelude.{slice_get}
 use Rattle.sys_text.specs.declared.system.System.{System}
 use Rattle.bus_msg.specs.declared.entry.What.{What}
@@ -119,8 +119,8 @@ unfolding told
 none_lost system k at lost = lost
 
 ends_by : (system : System) (log : List Entry) (end : Ended) → EndsAs system log end → (is_over system log ≡ true → is_closed log ≡ true) → IsLegalBy MayStand system log → end ≡ Finished
-ends_by system log Finished ends closes legal = refl
-ends_by system log (Lost k at) ends closes legal = absurd (never log legal closes ends)
+ends_by system log Finished ends shut legal = refl
+ends_by system log (Lost k at) ends shut legal = absurd (never log legal shut ends)
   where
     crash_open : (w : What) → cluster_lost w ≡ Some k → closes w ≡ false
     crash_open (Crash j cause) lost = refl
@@ -134,12 +134,12 @@ ends_by system log (Lost k at) ends closes legal = absurd (never log legal close
 
     never : (log : List Entry) → IsLegalBy MayStand system log → (is_over system log ≡ true → is_closed log ≡ true) → IsLostAt (last_of (told system log)) k at → ⊥
     never log legal = legal_induction MayStand system (λ log. (is_over system log ≡ true → is_closed log ≡ true) → IsLostAt (last_of (told system log)) k at → ⊥)
-        (λ closes lost. none_lost system k at lost)
-        (λ log e before may closes lost.
+        (λ shut lost. none_lost system k at lost)
+        (λ log e before may shut lost.
         let last : last_of (told system (log ++ e ∷ [])) ≡ Some (told_last system log e) = ap last_of (told-snoc system log e) ∙ last_of-snoc (told system log) (told_last system log e) in
         let here : IsLostAt (Some (told_last system log e)) k at = subst (λ o. IsLostAt o k at) last lost in
         let over : is_over system (log ++ e ∷ []) ≡ true = is_over-snoc system log e ∙ crash_ends (placement system log) (what e) here.0 here.1 in
-        true≢false (sym (closes over) ∙ closed-snoc log e ∙ crash_open (what e) here.0)) log legal
+        true≢false (sym (shut over) ∙ closed-snoc log e ∙ crash_open (what e) here.0)) log legal
 
 pub ends_finished : (system : System) (log : List Entry) (end : Ended) → IsLegalBy MayStand system log → (is_over system log ≡ true → is_closed log ≡ true) → EndsAs system log end → end ≡ Finished
-ends_finished system log end legal closes ends = ends_by system log end ends closes legal
+ends_finished system log end legal shut ends = ends_by system log end ends shut legal
