@@ -6,6 +6,7 @@ use Rattle.sys_text.specs.declared.system.System.{System}
 use Rattle.bus_msg.specs.declared.entry.Cause.TheVariants.{Disk}
 use Rattle.bus_msg.specs.declared.entry.Post.{Post}
 use Rattle.bus_msg.specs.declared.entry.Entry.{Entry}
+use Rattle.cert_sched.specs.Rules.{is_over}
 use Rattle.cert_sched.specs.Losses.{capped, is_by_cluster, least_calls, was_lost_in}
 use Rattle.cluster_core.specs.Calls.{FailsBy}
 use Rattle.cluster_core.specs.View.{ClusterView, after_sent, disk_calls, failed_at, with_server}
@@ -28,6 +29,7 @@ call_failed b c new call sound along unnamed fails = subst (IsFailed b) (sym fai
     system = along.system;
     has = subst (λ (s : System). (c.number).0 < s.clusters) along.system beside.has;
     within = beside.within;
+    goes_on = ap (λ s. is_over s (take c.cursor b.log)) (sym along.system) ∙ beside.goes_on;
     lives = beside.lives;
     stands = inr (record { disk = disk; sent = inl (record { sent_before = none_sent c.number (drop c.cursor b.log) beside.told_before; counted = inr counted }) });
     kept = none_own b.system b.log c.cursor c.number sound.legal beside.lives beside.told_before;
@@ -64,6 +66,7 @@ module _ (log : List Entry) (c : ClusterView) (post : Post) (after : BusView) (s
       system = s.system;
       has = subst (λ (y : System). (c.number).0 < y.clusters) s.system (s.beside).has;
       within = omega (arith, long log c post after s);
+      goes_on = (λ i. is_over (sym s.system i) (front i)) ∙ s.goes_on;
       lives = ap (λ l. was_lost_in l c.number) front ∙ lives_log log c post after s;
       stands = inr (record {
         disk = disk;

@@ -100,29 +100,28 @@ done_unlost log k done = by_first (position (λ (e : Entry). is_crash_of k (what
         absurd (true≢false
         (sym done ∙ ap (λ n. option_map_or (λ (e : Entry). is_done (what e)) (slice_get log n) false) last ∙ at_place log i (slice_get log i) refl is))
 
--- so that of a cluster that was lost does not
-pub lost_undone : (log : List Entry) (k : ClusterNo) → was_lost_in log k ≡ true → ends_at_done log k 0 ≡ false
-lost_undone log k lost = by_test (ends_at_done log k 0) refl
-  where
-    by_test : (b : Bool) → ends_at_done log k 0 ≡ b → ends_at_done log k 0 ≡ false
-    by_test true done = absurd (true≢false (sym lost ∙ done_unlost log k done))
-    by_test false not_so = not_so
-
 -- ---- by what it ends
 
-no_cause : (k : ClusterNo) (w : What) → is_done w ≡ true → cause_in k w ≡ None
-no_cause k (Crash j cause) h = absurd (true≢false (sym h))
+no_cause : (k : ClusterNo) (w : What) → is_crash_of k w ≡ false → cause_in k w ≡ None
+no_cause k (Crash j cause) h = ap (λ b. cond b (Some cause) None) h
 no_cause k _ h = refl
 
-done_cause : (k : ClusterNo) (o : Option Entry) → option_map_or (λ (e : Entry). is_done (what e)) o false ≡ true → option_and_then (λ (e : Entry). cause_in k (what e)) o ≡ None
-done_cause k None h = absurd (true≢false (sym h))
-done_cause k (Some e) h = no_cause k (what e) h
+-- none of these entries loses it
+none_at : (k : ClusterNo) (log : List Entry) (n : ℕ) → was_lost_in log k ≡ false → option_and_then (λ (e : Entry). cause_in k (what e)) (slice_get log n) ≡ None
+none_at k [] n unlost = refl
+none_at k (e ∷ log) zero unlost = no_cause k (what e) (or_parts (is_crash_of k (what e)) (was_lost_in log k) unlost).0
+none_at k (e ∷ log) (suc n) unlost = none_at k log n (or_parts (is_crash_of k (what e)) (was_lost_in log k) unlost).1
 
 -- the run ended the life of a cluster that was never lost
-pub ended_by_done : (log : List Entry) (k : ClusterNo) → was_lost_in log k ≡ false → is_finished log ≡ true → end_cause log k 0 ≡ None
-ended_by_done log k unlost finished =
-    ap (λ n. option_and_then (λ (e : Entry). cause_in k (what e)) (slice_get log n)) (ends_with_log log k unlost)
-    ∙ done_cause k (slice_get log (length log - 1)) (ap (λ o. option_map_or (λ (e : Entry). is_done (what e)) o false) (sym (last_is log)) ∙ finished)
+pub ended_with_log : (log : List Entry) (k : ClusterNo) → was_lost_in log k ≡ false → end_cause log k 0 ≡ None
+ended_with_log log k unlost =
+    ap (λ n. option_and_then (λ (e : Entry). cause_in k (what e)) (slice_get log n)) (ends_with_log log k unlost) ∙ none_at k log (length log - 1) unlost
+
+-- where it ended by the end that stands last
+pub done_finished : (log : List Entry) (k : ClusterNo) → ends_at_done log k 0 ≡ true → is_finished log ≡ true
+done_finished log k done =
+    ap (λ o. option_map_or (λ (e : Entry). is_done (what e)) o false) (last_is log)
+    ∙ ap (λ n. option_map_or (λ (e : Entry). is_done (what e)) (slice_get log n) false) (sym (ends_with_log log k (done_unlost log k done))) ∙ done
 
 -- ---- the life of a cluster that was lost
 

@@ -24,8 +24,6 @@ use Rattle.bus_order.specs.Log.{author_of}
 use Rattle.bus_order.specs.Script.{has_unused, is_word_for}
 use Rattle.bus_order.specs.View.{BusView, Loses, after_words, with_loss, with_post}
 use Rattle.bus_order.proofs.OverLaws.{closed-snoc, finished-snoc, open_not_closed}
-use Rattle.script_laws.specs.Crashes.{crashes}
-use Rattle.script_laws.proofs.CoveredLosses.{few_losses_close}
 use Rattle.cluster_run.specs.declared.offers.Offered.TheVariants.{Sent, Behind, Over, Off}
 use Rattle.cluster_run.specs.Gone.{own_cause}
 use Rattle.cluster_run.specs.Along.{IsAlong, IsOwned, IsSound, TakesIn}
@@ -66,44 +64,44 @@ words_spent a b (inr less) = omega (arith, less.0)
 pub sends_more : (k : ClusterNo) (a b c : BusView) → SendsOwn k a b → SendsOwn k b c → SendsOwn k a c
 sends_more k a b c one two = record { goes_on = two.goes_on; adds = adds_more k a b c one.adds two.adds; spends = spends_more a b c one.spends two.spends }
 
--- the post after others lost the cluster
+-- a cluster that was lost, or a log that is over, does not go on
+ended_not : {X : Type 0} (after : BusView) (k : ClusterNo) → (was_lost_in after.log k ≡ true) ⊎ IsOver after → is_over after.system after.log ≡ false → was_lost_in after.log k ≡ false → X
+ended_not after k (inl lost) goes lives = absurd (true≢false (sym lost ∙ lives))
+ended_not after k (inr over) goes lives = absurd (true≢false (sym over ∙ goes))
+
+-- the post after others lost the cluster, or ended the run
 pub sends_lost : (a b c : BusView) (first last : ClusterView) → SendsOwn first.number a b → LosesOwn first.number b c → SendsAll a c first last
 sends_lost a b c first last one two =
     let fewer = two.fewer in
     record {
-      sends = sends_more first.number a b c one two.sends;
-      empty = λ lives. absurd (true≢false (sym two.lost ∙ lives));
+      owned = two.owned;
+      adds = adds_more first.number a b c one.adds two.adds;
+      spends = inl (omega (arith, fewer, words_spent a b one.spends));
+      empty = λ goes lives. ended_not c first.number two.ends goes lives;
       some = λ there. inl (omega (arith, fewer, words_spent a b one.spends));
     }
 
--- the cluster was lost after posts of it were sent
+-- the cluster was lost after posts of it were sent, or the run has ended
 pub loses_more : (k : ClusterNo) (a b c : BusView) → SendsOwn k a b → LosesOwn k b c → LosesOwn k a c
 loses_more k a b c one two = record {
-  sends = sends_more k a b c one two.sends;
-  lost = two.lost;
+  owned = two.owned;
+  adds = adds_more k a b c one.adds two.adds;
+  ends = two.ends;
   fewer = let fewer = two.fewer in omega (arith, fewer, words_spent a b one.spends);
 }
 
 -- ---- the words that are due
 
--- a sound log that is over is closed, so the words that were due do not end it
-pub words_go_on : (b after : BusView) → GoesOwn b → IsSound after → after ≡ after_words b → is_over after.system after.log ≡ false
-words_go_on b after own sound is = by_end (is_over after.system after.log) refl
-  where
-    by_end : (t : Bool) → is_over after.system after.log ≡ t → t ≡ false
-    by_end false over = refl
-    by_end true over =
-        let few : crashes after.log ≤ 1 = let losses = sound.losses in let one = sound.one in omega (arith, losses, one) in
-        let closed : is_closed after.log ≡ true = few_losses_close after.system after.log sound.valid sound.legal few over in
-        let still : is_closed after.log ≡ false = ap (λ (x : BusView). is_closed x.log) is ∙ words_open b (open_not_closed b.system b.log ((own.0).sound).legal own.1) in
-        sym closed ∙ still
+-- the words that were due do not close it
+words_not_closed : (b after : BusView) → GoesOwn b → after ≡ after_words b → is_closed after.log ≡ false
+words_not_closed b after own is = ap (λ (x : BusView). is_closed x.log) is ∙ words_open b (open_not_closed b.system b.log ((own.0).sound).legal own.1)
 
 -- what is left of a bus then has a place for each mark
 words_owned : (b after : BusView) → GoesOwn b → IsSound after → after ≡ after_words b → IsOwned after
 words_owned b after own sound is = record {
   sound = sound;
   marks = ap (λ (x : BusView). length x.marks) is ∙ words_marks b ∙ (own.0).marks ∙ ap (λ (s : System). s.clusters) (sym (ap (λ (x : BusView). x.system) is ∙ (after_worded b).system));
-  unstopped = λ over. absurd (true≢false (sym over ∙ words_go_on b after own sound is));
+  unstopped = λ closed. absurd (true≢false (sym closed ∙ words_not_closed b after own is));
 }
 
 -- where they changed it, fewer are left
@@ -128,7 +126,7 @@ module _ (a : Bool) (alone : a ≡ true) (b after : BusView) (c : ClusterView) (
           record {
             sound = sound;
             marks = ap (λ (x : BusView). length x.marks) is ∙ length-map (after_words b).marks (λ m. None) ∙ words_marks b ∙ (own.0).marks ∙ ap (λ (s : System). s.clusters) (sym adds.system);
-            unstopped = λ over. absurd (true≢false (sym over ∙ sent_goes_on (after_words v.found).log c post after s));
+            unstopped = λ closed. absurd (true≢false (sym closed ∙ open_not_closed after.system after.log sound.legal (sent_goes_on (after_words v.found).log c post after s)));
           },
           sent_goes_on (after_words v.found).log c post after s,
         );
@@ -150,19 +148,28 @@ module _ (a : Bool) (alone : a ≡ true) (b after : BusView) (c : ClusterView) (
   -- one that had seen all of the log is behind only where words were due
   pub behind_own : IsSound after → c.cursor ≡ length b.log → Visits a c.number b after (OfferIs c.number c.cursor post Behind) → Adds c.number b after → SendsOwn c.number b after
   behind_own sound seen v adds =
-      let is : after ≡ after_words b = alone_left a v.left after alone v.is_left ∙ (v.done).2 ∙ words_there v.found v.later in
+      let left_is : after ≡ v.left = alone_left a v.left after alone v.is_left in
+      let is : after ≡ after_words b = left_is ∙ (v.done).2 ∙ words_there v.found v.later in
+      let goes : is_over after.system after.log ≡ false = ap (λ (x : BusView). is_over x.system x.log) left_is ∙ ((v.done).0).goes_on in
       let less : c.cursor < length after.log = subst (λ (x : BusView). c.cursor < length x.log) (sym (alone_left a v.left after alone v.is_left)) (v.done).1 in
       record {
-        goes_on = (words_owned b after own sound is, words_go_on b after own sound is);
+        goes_on = (words_owned b after own sound is, goes);
         adds = adds;
         spends = inl (fewer_left b after is (λ same. let long : length after.log ≡ length b.log = ap (λ (x : BusView). length x.log) same in omega (arith, seen, less, long)));
       }
 
-  pub never_over : IsSound after → Visits a c.number b after (OfferIs c.number c.cursor post Over) → ⊥
-  never_over sound v =
+  -- the run is ended by a word that was due
+  pub over_own : IsSound after → Visits a c.number b after (OfferIs c.number c.cursor post Over) → Adds c.number b after → LosesOwn c.number b after
+  over_own sound v adds =
       let left_is : after ≡ v.left = alone_left a v.left after alone v.is_left in
       let is : after ≡ after_words b = left_is ∙ (v.done).1 ∙ words_there v.found v.later in
-      true≢false (sym (v.done).0 ∙ ap (λ (x : BusView). is_over x.system x.log) (sym left_is) ∙ words_go_on b after own sound is)
+      let over : is_over after.system after.log ≡ true = ap (λ (x : BusView). is_over x.system x.log) left_is ∙ (v.done).0 in
+      record {
+        owned = words_owned b after own sound is;
+        adds = adds;
+        ends = inr over;
+        fewer = fewer_left b after is (λ same. true≢false (sym over ∙ ap (λ (x : BusView). is_over x.system x.log) same ∙ own.1));
+      }
 
   -- one that lived is lost by a word that was due
   pub off_own : IsSound after → was_lost_in b.log c.number ≡ false → Visits a c.number b after (OfferIs c.number c.cursor post Off) → Adds c.number b after → LosesOwn c.number b after
@@ -171,7 +178,7 @@ module _ (a : Bool) (alone : a ≡ true) (b after : BusView) (c : ClusterView) (
       let is : after ≡ after_words b = left_is ∙ (v.done).1 ∙ words_there v.found v.later in
       let lost : was_lost_in after.log c.number ≡ true = ap (λ (x : BusView). was_lost_in x.log c.number) left_is ∙ (v.done).0 in
       let fewer = fewer_left b after is (λ same. true≢false (sym lost ∙ ap (λ (x : BusView). was_lost_in x.log c.number) same ∙ lives)) in
-      record { sends = record { goes_on = (words_owned b after own sound is, words_go_on b after own sound is); adds = adds; spends = inl fewer }; lost = lost; fewer = fewer }
+      record { owned = words_owned b after own sound is; adds = adds; ends = inl lost; fewer = fewer }
 
 -- ---- a rest
 
@@ -196,7 +203,7 @@ module _ (b after : BusView) (k : ClusterNo) (cursor : ℕ) (m : Mark) (own : Go
     record {
       sound = sound;
       marks = ap (λ (x : BusView). length x.marks) told.3 ∙ length-set (after_words b).marks k.0 (Some m) ∙ marks_there ∙ ap (λ (s : System). s.clusters) (sym (ap (λ (x : BusView). x.system) told.3 ∙ words_system));
-      unstopped = λ over. absurd (true≢false (sym over ∙ ap (λ (x : BusView). is_over x.system x.log) told.3 ∙ (told.0).goes_on));
+      unstopped = λ closed. absurd (true≢false (sym closed ∙ open_not_closed after.system after.log sound.legal (ap (λ (x : BusView). is_over x.system x.log) told.3 ∙ (told.0).goes_on)));
     },
     rests_or Marked told (ap (λ (x : BusView). x.left) told.3) (words_fewer b),
   )
@@ -205,7 +212,7 @@ module _ (b after : BusView) (k : ClusterNo) (cursor : ℕ) (m : Mark) (own : Go
         record {
           sound = sound;
           marks = ap (λ (x : BusView). length x.marks) ends.ended ∙ length-set (after_words b).marks k.0 (Some m) ∙ marks_there ∙ ap (λ (s : System). s.clusters) (sym (ap (λ (x : BusView). x.system) ends.ended ∙ words_system));
-          unstopped = λ over. ap (λ (x : BusView). is_finished x.log) ends.ended ∙ finished-snoc (after_words b).log (entry_of (after_words b).system (after_words b).log (record { by = Bus; what = Done ends.rests }));
+          unstopped = λ closed. ap (λ (x : BusView). is_finished x.log) ends.ended ∙ finished-snoc (after_words b).log (entry_of (after_words b).system (after_words b).log (record { by = Bus; what = Done ends.rests }));
         },
         rests_or (WasDone at) told (ap (λ (x : BusView). x.left) ends.ended) (words_fewer b),
       )
@@ -244,7 +251,7 @@ turn_after b mid after c caught new same taken turn =
     record {
       owned = rest.owned;
       adds = subst (λ k. Adds k b after) number rest.adds;
-      empty = λ lives. rest.empty (ap (was_lost_in after.log) number ∙ lives);
+      empty = λ goes lives. rest.empty goes (ap (was_lost_in after.log) number ∙ lives);
       spends = rest.spends;
       lasts = elim rest.lasts [ inl over ↦ inl over | inr less ↦ inr (at_most_then (remaining_of b c) (remaining_of b caught) (remaining_of after new) most less) ];
       gets_on = subst (λ (k : ClusterNo). GetsOn b after (remaining_of b c) (remaining_of after new) k.0 (k.0 + 1)) number (by_way most rest.gets_on);
@@ -254,12 +261,12 @@ turn_after b mid after c caught new same taken turn =
     by_way most (inl falls) = inl (then_falls (remaining_of b c) (remaining_of b caught) (remaining_of after new) most falls)
     by_way most (inr more) = inr more
 
--- a cluster that lived was lost in its turn
+-- a cluster that lived was lost in its turn, or the run has ended in that
 pub gone_turn : (b after : BusView) (c new : ClusterView) → LosesOwn c.number b after → TurnsOwn b after c new
 gone_turn b after c new loses = record {
-  owned = ((loses.sends).goes_on).0;
-  adds = (loses.sends).adds;
-  empty = λ lives. absurd (true≢false (sym loses.lost ∙ lives));
+  owned = loses.owned;
+  adds = loses.adds;
+  empty = λ goes lives. ended_not after c.number loses.ends goes lives;
   spends = inr (inl loses.fewer);
   lasts = inr (inl (inl loses.fewer));
   gets_on = inl (inl loses.fewer);
@@ -278,30 +285,18 @@ pub loses_own : (b after : BusView) (k : ClusterNo) (c : ClusterView) (at : ℕ)
 loses_own b after k c at own sound lost unused loses =
     let left : List ScriptWord = without_first (is_word_for k (own_cause c)) b.left in
     let is : after ≡ with_loss b k (own_cause c) left = loses.3 in
-    let few : crashes after.log ≤ 1 = let losses = sound.losses in let one = sound.one in omega (arith, losses, one) in
     let open_still : is_closed after.log ≡ false = ap (λ (x : BusView). is_closed x.log) is ∙ closed-snoc b.log (entry_of b.system b.log (record { by = Bus; what = Crash k (own_cause c) })) in
-    let goes_on : is_over after.system after.log ≡ false = by_end few open_still (is_over after.system after.log) refl in
     let fewer : length after.left < length b.left = subst (λ (x : BusView). length x.left < length b.left) (sym is) (one_fewer (is_word_for k (own_cause c)) b.left unused) in
     record {
-      sends = record {
-        goes_on = (
-          record {
-            sound = sound;
-            marks = ap (λ (x : BusView). length x.marks) is ∙ length-map b.marks (λ (m : Option Mark). None) ∙ (own.0).marks ∙ ap (λ (s : System). s.clusters) (sym (ap (λ (x : BusView). x.system) is));
-            unstopped = λ over. absurd (true≢false (sym over ∙ goes_on));
-          },
-          goes_on,
-        );
-        adds = lost_adds b after k c (Ok at) loses;
-        spends = inl fewer;
+      owned = record {
+        sound = sound;
+        marks = ap (λ (x : BusView). length x.marks) is ∙ length-map b.marks (λ (m : Option Mark). None) ∙ (own.0).marks ∙ ap (λ (s : System). s.clusters) (sym (ap (λ (x : BusView). x.system) is));
+        unstopped = λ closed. absurd (true≢false (sym closed ∙ open_still));
       };
-      lost = lost;
+      adds = lost_adds b after k c (Ok at) loses;
+      ends = inl lost;
       fewer = fewer;
     }
-  where
-    by_end : crashes after.log ≤ 1 → is_closed after.log ≡ false → (t : Bool) → is_over after.system after.log ≡ t → is_over after.system after.log ≡ false
-    by_end few open_still true over = absurd (true≢false (sym (few_losses_close after.system after.log sound.valid sound.legal few over) ∙ open_still))
-    by_end few open_still false over = over
 
 -- a process of the cluster moved, and sent nothing
 pub moves_turn : (b mid : BusView) (c caught worked : ClusterView) → mid ≡ b → GoesOwn b → TakesIn mid c caught → load worked + 1 ≤ load caught → worked.cursor ≡ caught.cursor → worked.queue ≡ [] → TurnsOwn b mid c worked
@@ -311,7 +306,7 @@ moves_turn b mid c caught worked same own taken less cursor empty =
     subst (λ x. TurnsOwn b x c worked) (sym same) (record {
       owned = own.0;
       adds = adds_none c.number b;
-      empty = λ lives. empty;
+      empty = λ goes lives. empty;
       spends = inr (inr (refl, inr refl));
       lasts = inr (inl falls);
       gets_on = inl falls;
@@ -330,7 +325,7 @@ tells_turn b mid after c caught new same taken is empty tells =
     record {
       owned = t.owned;
       adds = t.adds;
-      empty = λ lives. ap (λ (v : ClusterView). v.queue) is ∙ takes.queue empty;
+      empty = λ goes lives. ap (λ (v : ClusterView). v.queue) is ∙ takes.queue empty;
       spends = spent t.rests;
       lasts = lasting takes (t.adds).system t.rests;
       gets_on = getting t.rests;
@@ -369,23 +364,24 @@ waits_turn b mid c caught new same own taken is empty waits answered =
     subst (λ x. TurnsOwn b x c new) (sym same) (record {
       owned = own.0;
       adds = adds_none c.number b;
-      empty = λ lives. ap (λ (v : ClusterView). v.queue) is ∙ takes.queue empty;
+      empty = λ goes lives. ap (λ (v : ClusterView). v.queue) is ∙ takes.queue empty;
       spends = inr (inr (refl, inr refl));
       lasts = inr (subst (λ x. IsAtMost (remaining_of b c) (remaining_of b x)) (sym is) (taken_most b c caught takes));
       gets_on = inr (inr rest);
     })
 
 -- the cluster worked and then sent its posts, or was lost
-pub sends_turn : (b mid after : BusView) (c caught worked new : ClusterView) → mid ≡ b → TakesIn mid c caught → worked.number ≡ caught.number → (length after.left < length mid.left) ⊎ (length mid.log < length after.log) → SendsOwn worked.number mid after
-    → (was_lost_in after.log worked.number ≡ false → new.queue ≡ []) → TurnsOwn b after c new
-sends_turn b mid after c caught worked new same taken number_is more sends empty =
+pub sends_turn : (b mid after : BusView) (c caught worked new : ClusterView) → mid ≡ b → TakesIn mid c caught → worked.number ≡ caught.number → (length after.left < length mid.left) ⊎ (length mid.log < length after.log) → SendsAll mid after worked new
+    → TurnsOwn b after c new
+sends_turn b mid after c caught worked new same taken number_is more sends =
     let number : worked.number ≡ c.number = number_is ∙ (taken.same).number in
-    let t : SendsOwn c.number b after = subst (λ x. SendsOwn c.number x after) same (subst (λ k. SendsOwn k mid after) number sends) in
-    let did = by_more (subst (λ (x : BusView). (length after.left < length x.left) ⊎ (length x.log < length after.log)) same more) t.spends in
+    let adds : Adds c.number b after = subst (λ x. Adds c.number x after) same (subst (λ k. Adds k mid after) number sends.adds) in
+    let spends : Spends b after = subst (λ x. Spends x after) same sends.spends in
+    let did = by_more (subst (λ (x : BusView). (length after.left < length x.left) ⊎ (length x.log < length after.log)) same more) spends in
     record {
-      owned = (t.goes_on).0;
-      adds = t.adds;
-      empty = λ lives. empty (ap (was_lost_in after.log) number ∙ lives);
+      owned = sends.owned;
+      adds = adds;
+      empty = λ goes lives. sends.empty goes (ap (was_lost_in after.log) number ∙ lives);
       spends = elim did [ inl fewer ↦ inr (inl fewer) | inr less ↦ inr (inr (less.0, inl less.1)) ];
       lasts = inr (inl (falls did));
       gets_on = inl (falls did);

@@ -61,7 +61,7 @@ behind_posting Shows from after t new goes takes =
     let taken = takes.taken in
     record {
       shown = takes.shown;
-      seen = takes.caught ∙ ap (λ k. upto k after.log) (taken.same).number ∙ upto_all after t.number (takes.shown).sound goes.goes_on goes.lives;
+      seen = takes.caught ∙ ap (λ k. upto k after.system after.log) (taken.same).number ∙ upto_all after t.number goes.goes_on goes.lives;
       goes_on = goes.goes_on;
     }
 

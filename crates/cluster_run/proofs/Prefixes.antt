@@ -1,5 +1,7 @@
 -- Beginnings of a log.
-use Rattle.std.proofs.Common.{◌≡◌, ℕ, zero, suc, refl, ap, subst, List, [], ◌∷◌, ◌++◌, length, take, drop, false, Some, slice_get, ◌<◌, arith}
+use Rattle.std.proofs.Common.{◌≡◌, ℕ, zero, suc, refl, sym, ◌∙◌, ap, subst, List, [], ◌∷◌, ◌++◌, length, take, drop, true, false, Some, slice_get, ◌<◌, arith, true≢false}
+use Rattle.std.proofs.lemmas.List.{take-append-le, take_all}
+use mathlib.Core.List.{IsPrefix}
 use Rattle.sys_text.specs.declared.system.System.{System}
 use Rattle.bus_msg.specs.declared.entry.Entry.{Entry}
 use Rattle.cert_sched.specs.Rules.{is_over}
@@ -41,6 +43,25 @@ goes_on_before system log n e legal at =
     let more : IsLegalBy MayStand system (take n log ++ e ∷ []) = subst (IsLegalBy MayStand system) (take_one log n e at) (legal_prefix MayStand system log (suc n) legal) in
     let may = IsLegal-last MayStand system (take n log) e more in
     ((may.stands).placed).2
+
+-- a part of a legal log that is over is the whole
+pub whole_part : (system : System) (part log : List Entry) → IsLegalBy MayStand system log → IsPrefix part log → is_over system part ≡ true → part ≡ log
+whole_part system part log legal prefix over = by_rest prefix.0 prefix.1
+  where
+    by_rest : (rest : List Entry) → part ++ rest ≡ log → part ≡ log
+    by_rest [] is = sym (none part) ∙ is
+      where
+        none : (xs : List Entry) → xs ++ [] ≡ xs
+        none [] = refl
+        none (x ∷ xs) = ap (λ l. x ∷ l) (none xs)
+    by_rest (e ∷ rest) is =
+        let at : slice_get log (length part) ≡ Some e = ap (λ l. slice_get l (length part)) (sym is) ∙ there part in
+        let front : take (length part) log ≡ part = ap (take (length part)) (sym is) ∙ take-append-le (length part) part (e ∷ rest) (omega arith) ∙ take_all (length part) part (omega arith) in
+        absurd (true≢false (sym over ∙ ap (is_over system) (sym front) ∙ goes_on_before system log (length part) e legal at))
+      where
+        there : (xs : List Entry) → slice_get (xs ++ e ∷ rest) (length xs) ≡ Some e
+        there [] = refl
+        there (x ∷ xs) = there xs
 
 -- a front has the same there
 pub get_front : {X : Type 0} (xs ys : List X) (n : ℕ) → n < length xs → slice_get (xs ++ ys) n ≡ slice_get xs n

@@ -26,7 +26,7 @@ use Rattle.cluster_run.specs.Along.{is_done_with}
 use Rattle.cluster_run.specs.Turns.{HasSpent, TurnsOwn}
 use Rattle.cert_sched.specs.Legal.{IsLegalBy}
 use Rattle.cert_sched.specs.Built.{MayStand}
-use Rattle.cluster_run.proofs.FirstServer.{first_lives, first_there}
+use Rattle.cluster_run.proofs.FirstServer.{FirstServer, first_lives, first_there}
 use Rattle.cert_sched.specs.Moved.{waiting_fetches}
 use Rattle.cert_sched.specs.Parts.{first_of}
 use Rattle.sys_text.specs.Valid.{is_system}
@@ -289,12 +289,6 @@ lasts_then mid after left now still over (inr less) (inr more) = inr (at_most_th
 
 -- ---- a round
 
--- one cluster of the system lives
-pub record LivesThere (b : BusView) : Type 0 where
-  pub number : ℕ
-  pub within : number < (b.system).clusters
-  pub lives : was_lost_in b.log (cluster_no number) ≡ false
-
 any_none : {X : Type 0} (test : X → Bool) (xs : List X) → ((n : ℕ) (x : X) → slice_get xs n ≡ Some x → test x ≡ false) → list_any test xs ≡ false
 any_none test [] none = refl
 any_none test (x ∷ xs) none = λ i. none 0 x refl i || any_none test xs (λ n y at. none (suc n) y at) i
@@ -325,8 +319,8 @@ none_awaited b legal all = any_none (λ k. lives_in (placement b.system b.log) k
         let same : cluster_no i ≡ k = cc in
         subst (λ k. (lives_in (placement b.system b.log) k && is_none (mark_in b.marks k)) ≡ false) same (marked_or i within (all i within))
 
--- a round leaves less to do, or the log is over, where one cluster lives
-module _ (b then after : BusView) (left still now : Remaining) (first count : ℕ) (valid : is_system after.system ≡ true) (legal : IsLegalBy MayStand after.system after.log) (each : count ≡ (after.system).clusters) (alive : LivesThere after) (over : IsOver then → IsOver after)
+-- a round leaves less to do, or the log is over
+module _ (b then after : BusView) (left still now : Remaining) (first count : ℕ) (valid : is_system after.system ≡ true) (legal : IsLegalBy MayStand after.system after.log) (each : count ≡ (after.system).clusters) (over : IsOver then → IsOver after)
     (first_lasts : IsOver then ⊎ IsAtMost left still) (second_lasts : IsOver after ⊎ IsAtMost still now) where
   all_marked : Rests b then first count → Rests then after 0 first → (n : ℕ) → (n < first) ⊎ (first ≤ n) → n < count → HasMark after n ⊎ IsLost after n ⊎ AwaitsPage after
   all_marked one two n (inl earlier) low = two.marked n (omega arith) earlier
@@ -342,10 +336,10 @@ module _ (b then after : BusView) (left still now : Remaining) (first count : �
       let server = first_there after.system after.log valid legal goes in
       all_answered one two server.number (nat_lt_or server.number first) (let within = server.within in omega (arith, within, each)) server.first
 
-  -- the one that lives was marked, so that one was awaited still
-  awaited_by : Rests b then first count → Rests then after 0 first → waiting_fetches after.system after.log ≡ [] → (alive.number < first) ⊎ (first ≤ alive.number) → HasMark after alive.number → IsAwaiting after
-  awaited_by one two none (inl earlier) has = two.awaits none (inl (record { number = alive.number; low = omega arith; high = earlier; lives = alive.lives; marked = has }))
-  awaited_by one two none (inr later) has = two.awaits none (inr (one.awaits (none_before then after two.system two.log none) (inl (record {
+  -- that server lives and was marked, so that one was awaited still
+  awaited_by : (alive : FirstServer after.system after.log) → Rests b then first count → Rests then after 0 first → waiting_fetches after.system after.log ≡ [] → (alive.number < first) ⊎ (first ≤ alive.number) → HasMark after alive.number → IsAwaiting after
+  awaited_by alive one two none (inl earlier) has = two.awaits none (inl (record { number = alive.number; low = omega arith; high = earlier; lives = alive.lives; marked = has }))
+  awaited_by alive one two none (inr later) has = two.awaits none (inr (one.awaits (none_before then after two.system two.log none) (inl (record {
     number = alive.number;
     low = later;
     high = let within = alive.within in omega (arith, within, each);
@@ -358,10 +352,11 @@ module _ (b then after : BusView) (left still now : Remaining) (first count : �
 
   never_rest : is_over after.system after.log ≡ false → Rests b then first count → Rests then after 0 first → ⊥
   never_rest goes one two =
+      let alive = first_there after.system after.log valid legal goes in
       let none = none_awaits goes one two in
       let all = λ (n : ℕ) (low : n < (after.system).clusters). marked_or_lost n none (all_marked one two n (nat_lt_or n first) (omega (arith, low, each))) in
       let has : HasMark after alive.number = has_mark after alive.number none alive.lives (all_marked one two alive.number (nat_lt_or alive.number first) (let within = alive.within in omega (arith, within, each))) in
-      true≢false (sym (awaited_by one two none (nat_lt_or alive.number first) has) ∙ none_awaited after legal all)
+      true≢false (sym (awaited_by alive one two none (nat_lt_or alive.number first) has) ∙ none_awaited after legal all)
     where
       marked_or_lost : (n : ℕ) → waiting_fetches after.system after.log ≡ [] → HasMark after n ⊎ IsLost after n ⊎ AwaitsPage after → HasMark after n ⊎ IsLost after n
       marked_or_lost n none (inl has) = inl has

@@ -31,13 +31,13 @@ use Rattle.bus_order.specs.Script.{is_unpassed}
 use Rattle.bus_order.specs.View.{BusView}
 use Rattle.script_laws.proofs.PassedWords.{all_longer}
 use Rattle.cluster_run.specs.Gone.{IsBeforeStep, is_told_by}
-use Rattle.cluster_run.specs.Along.{IsAlong, IsReadyAt, IsSound, IsUnnamed, TakesNext}
+use Rattle.cluster_run.specs.Along.{IsAlong, IsReadyAt, IsSound, IsUnnamed, TakesNext, upto}
 use Rattle.cluster_run.specs.Turns.{IsSent}
 use Rattle.cluster_run.proofs.Heads.{head_first, tail_of}
 use Rattle.cluster_run.proofs.Prefixes.{drop_whole, get_last}
 use Rattle.cluster_run.proofs.OwnLosses.{none_own, passed_next}
 use Rattle.cluster_run.proofs.Unlost.{closes_not, ends_closed, from_cluster, no_loss, same_after}
-use Rattle.cluster_run.proofs.TakingIn.{upto_all}
+use Rattle.cluster_run.proofs.TakingIn.{open_where, upto_all}
 
 -- a cluster whose head was sent
 abbrev pub cleared : ClusterView → ClusterView
@@ -119,7 +119,8 @@ module _ (log : List Entry) (c : ClusterView) (post : Post) (after : BusView) (s
 
   pub ready_sent : IsSound after → IsReadyAt after.log (after_sent c c.queue)
   ready_sent sound = subst (IsReadyAt after.log) (sym clears) (record {
-    within = omega (arith, long, upto_all after c.number sound sent_goes_on sent_lives);
+    within = subst (λ y. c.cursor < upto c.number y after.log) (sym s.system) (omega (arith, long, upto_all after c.number sent_goes_on sent_lives));
+    open_there = open_where after.system after.log c.number c.cursor sound.legal (omega (arith, long, upto_all after c.number sent_goes_on sent_lives));
     ready = λ e at.
         let is : next ≡ e = let both_are : Some next ≡ Some e = sym at_cursor ∙ at in cc in
         let P : Entry → Type 0 = λ e. ReadyFor e (cleared c) in
@@ -177,6 +178,7 @@ module _ (log : List Entry) (c : ClusterView) (post : Post) (after : BusView) (s
     system = s.system;
     has = subst (λ (y : System). (c.number).0 < y.clusters) s.system (s.beside).has;
     within = omega (arith, long);
+    goes_on = (λ i. is_over (sym s.system i) (front i)) ∙ s.goes_on;
     lives = ap (λ l. was_lost_in l c.number) front ∙ lives_log;
     stands = inl (
       (s.beside).unfailed,

@@ -1,5 +1,5 @@
 -- A cluster is lost before a kernel step, or was lost at a place that it had not taken in: it stops, and stays as it is.
-use Rattle.std.proofs.Common.{◌≡◌, ℕ, ◌+◌, ◌-◌, ◌≤◌, ◌<◌, ◌⊎◌, refl, sym, ◌∙◌, ap, subst, arith, List, [], ◌∷◌, ◌++◌, length, take, drop, length-append, Bool, true, false, cond, not, ◌||◌, Option, Some, None, slice_get, true≢false, inl, inr, eq-eqb}
+use Rattle.std.proofs.Common.{◌≡◌, ℕ, ◌+◌, ◌-◌, ◌≤◌, ◌<◌, ◌≢◌, ◌⊎◌, append-nil, refl, sym, ◌∙◌, ap, subst, arith, List, [], ◌∷◌, ◌++◌, length, take, drop, length-append, Bool, true, false, cond, not, ◌||◌, Option, Some, None, slice_get, true≢false, inl, inr, eq-eqb}
 use Rattle.std.specs.Prelude.{nat_lt, option_and_then}
 use Rattle.std.specs.List.{list_all, list_any, position_or_len}
 use Rattle.std.specs.Option.{option_map_or}
@@ -21,6 +21,7 @@ use Rattle.bus_msg.specs.Places.{same_cluster}
 use Rattle.bus_msg.specs.PlacedAfter.{what}
 use Rattle.cert_sched.specs.declared.script.ScriptWord.{ScriptWord}
 use Rattle.cert_sched.specs.Appended.{entry_of}
+use Rattle.cert_sched.specs.Rules.{is_over}
 use Rattle.cert_sched.specs.Legal.{IsLegalBy}
 use Rattle.cert_sched.specs.Built.{MayStand}
 use Rattle.cert_sched.specs.Losses.{capped, is_by_cluster, is_crash_of, least_calls, least_steps, was_lost_in}
@@ -33,21 +34,24 @@ use Rattle.bus_order.specs.View.{BusView, KeepsScript, Loses, MayBeLost, with_lo
 use Rattle.bus_order.specs.declared.refused.Refused.{Refused}
 use Rattle.std.specs.Prelude.{Result, Ok, Err}
 use Rattle.bus_order.specs.declared.refused.Refused.TheVariants.{Over, Off, Behind, NoMemory}
+use Rattle.bus_order.proofs.OverLaws.{over_long}
 use Rattle.script_laws.specs.Off.{IsItsLoss}
 use Rattle.script_laws.proofs.LosingAtCall.{may_at_call, may_at_sent}
 use Rattle.script_laws.proofs.LosingAtStep.{may_before, may_sent}
 use Rattle.script_laws.proofs.OffLosses.{not_off_not_lost, off_is_its_loss, silent_once_lost}
 use Rattle.script_laws.proofs.PassedWords.{all_longer}
 use Rattle.cluster_run.specs.Disks.{HasFailed}
-use Rattle.cluster_run.specs.Gone.{FailedBeside, FailedBetween, HasCountedCalls, IsBeforeStep, IsGone, Stands, StoodAs, StoodBeside, StoodBetween, StoodFailed, is_own_loss, is_told_by, own_cause}
+use Rattle.cluster_run.specs.Ends.{ends_lost, is_cut_off}
+use Rattle.cluster_run.specs.Gone.{FailedBeside, FailedBetween, HasCountedCalls, IsBeforeStep, IsGone, LeftAs, Stands, StoodAs, StoodBeside, StoodBetween, StoodFailed, is_own_loss, is_told_by, own_cause}
 use Rattle.cluster_run.specs.Along.{IsAlong, IsNamed, IsSound, IsStopped}
 use Rattle.cluster_run.specs.Lived.{EndsBy, cause_in, end_cause, end_of_life}
 use Rattle.cluster_run.specs.Offers.{Adds}
-use Rattle.cluster_run.proofs.LostLives.{first_within}
+use Rattle.cluster_run.proofs.CutOff.{cut_ended, cut_lost, cut_parts, ended_over}
+use Rattle.cluster_run.proofs.LostLives.{ended_with_log, ends_with_log, first_within}
 use Rattle.cluster_run.proofs.OneLeft.{left_lost}
 use Rattle.cluster_run.proofs.OwnLosses.{ends_there, none_own, none_own_told, none_sent, unused_as_named}
 use Rattle.cluster_run.proofs.Offering.{adds_none}
-use Rattle.cluster_run.proofs.Prefixes.{drop_whole, get_front, get_last}
+use Rattle.cluster_run.proofs.Prefixes.{drop_whole, get_front, get_last, whole_part}
 use Rattle.cluster_run.proofs.Upto.{first_at, not_before}
 
 abbrev its_loss : ClusterNo → Entry → Bool
@@ -130,6 +134,7 @@ before_longer b after c more legal system script longer others before =
       system = before.system ∙ sym system;
       has = subst (λ (s : System). (c.number).0 < s.clusters) (sym system) before.has;
       within = omega (arith, long, before.within);
+      goes_on = (λ i. is_over (system i) (front i)) ∙ before.goes_on;
       lives = ap (λ l. was_lost_in l c.number) front ∙ before.lives;
       stands = stands_longer b after c more system script longer before.within (none_sent c.number more others) before.stands;
       kept = ap (list_any (λ (e : Entry). is_own_loss c.number (what e))) longer ∙ list_any-append (λ (e : Entry). is_own_loss c.number (what e)) b.log more ∙ (λ i. before.kept i || own i);
@@ -146,6 +151,7 @@ before_along b c sound along =
       system = along.system;
       has = subst (λ (s : System). (c.number).0 < s.clusters) along.system beside.has;
       within = beside.within;
+      goes_on = ap (λ s. is_over s (take c.cursor b.log)) (sym along.system) ∙ beside.goes_on;
       lives = beside.lives;
       stands = inl (beside.unfailed, inl (record { follows = subst (λ s. FollowsBuilt s (take c.cursor b.log) c) along.system beside.follows; sent_before = none_sent c.number (drop c.cursor b.log) beside.told_before }));
       kept = none_own b.system b.log c.cursor c.number sound.legal beside.lives beside.told_before;
@@ -154,11 +160,11 @@ before_along b c sound along =
 
 -- ---- it was lost at a place
 
--- so it stood where it was lost
-pub stood_as : (b : BusView) (c : ClusterView) → was_lost_in b.log c.number ≡ true → Stands b c → StoodAs b c
-stood_as b c lost (inl (unfailed, inl beside)) = inl (unfailed, inl beside)
-stood_as b c lost (inl (unfailed, inr between)) = inl (unfailed, inr (lost, between))
-stood_as b c lost (inr failed) = inr (lost, failed)
+-- so it stood where it was cut off
+pub stood_as : (b : BusView) (c : ClusterView) → is_cut_off c.number b.system b.log ≡ true → Stands b c → StoodAs b c
+stood_as b c cut (inl (unfailed, inl beside)) = inl (unfailed, inl beside)
+stood_as b c cut (inl (unfailed, inr between)) = inl (unfailed, inr (cut, between))
+stood_as b c cut (inr failed) = inr (cut, failed)
 
 -- a cluster that was lost at a place behind its cursor stops
 pub lost_gone : (b : BusView) (c : ClusterView) → IsSound b → IsBeforeStep b c → was_lost_in b.log c.number ≡ true → IsGone b c
@@ -171,9 +177,37 @@ lost_gone b c sound before lost = by_off (off_at b.log c.number) refl
         let first : position_or_len (its_loss c.number) b.log ≡ at = first_at (its_loss c.number) b.log at loss.entry loss.there loss.loses loss.none_before in
         let low = not_before (its_loss c.number) b.log c.cursor before.within before.lives in
         record {
-          lost = lost;
-          left = left_lost b c at loss before.system (omega (arith, first, low)) (stood_as b c lost before.stands) (ends_there b.log c.number c at loss.entry before.kept loss.there) before.passed;
+          lost = cut_lost c.number b.system b.log lost;
+          left = left_lost b c at loss before.system (omega (arith, first, low)) (stood_as b c (cut_lost c.number b.system b.log lost) before.stands) (ends_there b.log c.number c at loss.entry before.kept loss.there) before.passed;
         }
+
+-- one that lived when the run ended by a loss stops too
+ended_gone : (b : BusView) (c : ClusterView) → IsBeforeStep b c → was_lost_in b.log c.number ≡ false → ends_lost b.system b.log ≡ true → IsGone b c
+ended_gone b c before lives ended =
+    let cut = cut_ended c.number b.system b.log ended in
+    let ends : end_of_life b.log c.number 0 ≡ length b.log - 1 = ends_with_log b.log c.number lives in
+    let part : c.cursor ≢ length b.log = λ same.
+    true≢false (sym (ended_over b.system b.log ended).0 ∙ ap (is_over b.system) (sym (take_all c.cursor b.log (omega (arith, same)))) ∙ before.goes_on) in
+    record {
+      lost = cut;
+      left = record {
+        system = before.system;
+        within = omega (arith, ends, part, before.within);
+        followed = stood_as b c cut before.stands;
+        to_the_end = λ whole. absurd (true≢false (sym cut ∙ whole));
+        lost_by = subst (λ o. EndsBy o c) (sym (ended_with_log b.log c.number lives)) tt;
+        passed = before.passed;
+        uncalled = λ whole. absurd (true≢false (sym cut ∙ whole));
+      };
+    }
+
+-- so each that was cut off
+pub cut_gone : (b : BusView) (c : ClusterView) → IsSound b → IsBeforeStep b c → is_cut_off c.number b.system b.log ≡ true → IsGone b c
+cut_gone b c sound before cut = by_way (cut_parts c.number b.system b.log cut)
+  where
+    by_way : (was_lost_in b.log c.number ≡ true) ⊎ ((was_lost_in b.log c.number ≡ false) × (ends_lost b.system b.log ≡ true)) → IsGone b c
+    by_way (inl lost) = lost_gone b c sound before lost
+    by_way (inr (lives, ended)) = ended_gone b c before lives ended
 
 -- ---- it is lost at its step, or by its disk
 
@@ -289,8 +323,8 @@ lost_by_own b c left before lives =
     } in
     let lost : was_lost_in after.log c.number ≡ true = list_any-append (its_loss c.number) b.log (loss ∷ []) ∙ (λ i. lives i || (itself i || false)) in
     record {
-      lost = lost;
-      left = left_lost after c (length b.log) its before.system before.within (stood_as after c lost (stands_longer b after c (loss ∷ []) refl refl refl before.within refl before.stands))
+      lost = cut_lost c.number after.system after.log lost;
+      left = left_lost after c (length b.log) its before.system before.within (stood_as after c (cut_lost c.number after.system after.log lost) (stands_longer b after c (loss ∷ []) refl refl refl before.within refl before.stands))
           (subst (λ t. EndsBy (cond t (Some (own_cause c)) None) c) (sym itself) (ends_by_own c)) (all_longer c.number b.log (loss ∷ []) c.steps b.script before.passed);
     }
 
@@ -299,6 +333,16 @@ pub lost_answer : (old new : BusView) (c : ClusterView) (at : ℕ) → IsSound o
 lost_answer old new c at sound sound_new before loses =
     let lives = not_off_not_lost old.system old.log c.number sound.legal loses.1 in
     record { sound = sound_new; gone = subst (λ b. IsGone b c) (sym loses.3) (lost_by_own old c (without_first (is_word_for c.number (own_cause c)) old.left) before lives) }
+
+-- the log tells of it
+pub lost_there : (old new : BusView) (c : ClusterView) (at : ℕ) → Loses old c.number (own_cause c) (Ok at) new → was_lost_in new.log c.number ≡ true
+lost_there old new c at loses =
+    ap (λ (x : BusView). was_lost_in x.log c.number) loses.3 ∙ list_any-append (its_loss c.number) old.log (entry_of old.system old.log (record { by = Bus; what = Crash c.number (own_cause c) }) ∷ [])
+    ∙ by_test (was_lost_in old.log c.number)
+  where
+    by_test : (b : Bool) → (b || (same_cluster c.number c.number || false)) ≡ true
+    by_test true = refl
+    by_test false = ap (λ t. t || false) (same_itself c.number)
 
 -- what it adds
 lost_adds_one : (b : BusView) (k : ClusterNo) (c : ClusterView) (left : List ScriptWord) → Adds k b (with_loss b k (own_cause c) left)
@@ -335,38 +379,78 @@ life_ends log k lost =
     ap (λ t. option_map_or (λ i. 0 + i) (cond t (Some (position_or_len (its_loss k) log)) None) (length log - 1)) within ∙ (let n : 0 + position_or_len (its_loss k) log ≡ position_or_len (its_loss k) log = omega arith in n)
 
 -- ended before the log does
-pub gone_inside : (b : BusView) (c : ClusterView) → IsGone b c → end_of_life b.log c.number 0 < length b.log
-gone_inside b c gone = let before = life_ends b.log c.number gone.lost in let first = first_within (its_loss c.number) b.log gone.lost in omega (arith, before, first)
+lost_inside : (log : List Entry) (k : ClusterNo) → was_lost_in log k ≡ true → end_of_life log k 0 < length log
+lost_inside log k lost = let before = life_ends log k lost in let first = first_within (its_loss k) log lost in omega (arith, before, first)
+
+-- so does one that was cut off
+pub gone_inside : (b : BusView) (c : ClusterView) → IsLegalBy MayStand b.system b.log → IsGone b c → end_of_life b.log c.number 0 < length b.log
+gone_inside b c legal gone = by_way (cut_parts c.number b.system b.log gone.lost)
+  where
+    by_way : (was_lost_in b.log c.number ≡ true) ⊎ ((was_lost_in b.log c.number ≡ false) × (ends_lost b.system b.log ≡ true)) → end_of_life b.log c.number 0 < length b.log
+    by_way (inl lost) = lost_inside b.log c.number lost
+    by_way (inr (lives, ended)) =
+        let ends = ends_with_log b.log c.number lives in
+        let long = over_long b.system b.log legal (ended_over b.system b.log ended).0 in
+        omega (arith, ends, long)
+
+stands_of : (b : BusView) (c : ClusterView) → StoodAs b c → Stands b c
+stands_of b c (inl (unfailed, inl beside)) = inl (unfailed, inl beside)
+stands_of b c (inl (unfailed, inr between)) = inl (unfailed, inr between.1)
+stands_of b c (inr failed) = inr failed.1
+
+module _ (b after : BusView) (c : ClusterView) (more : List Entry) (legal : IsLegalBy MayStand after.system after.log) (system : after.system ≡ b.system) (script : after.script ≡ b.script) (longer : after.log ≡ b.log ++ more) (left : LeftAs b c) where
+  -- who was lost stays so when others add to the log
+  lost_longer : was_lost_in b.log c.number ≡ true → IsGone after c
+  lost_longer was_lost =
+      let lost : was_lost_in after.log c.number ≡ true = ap (λ l. was_lost_in l c.number) longer ∙ list_any-append (its_loss c.number) b.log more ∙ ap (λ t. t || was_lost_in more c.number) was_lost in
+      let cut = cut_lost c.number after.system after.log lost in
+      let front : take (length b.log) after.log ≡ b.log = ap (take (length b.log)) longer ∙ take-append-le (length b.log) b.log more (omega arith) ∙ take_all (length b.log) b.log (omega arith) in
+      let rest : drop (length b.log) after.log ≡ more = ap (drop (length b.log)) longer ∙ drop-append-le (length b.log) b.log more (omega arith) ∙ ap (λ l. l ++ more) (drop_whole b.log) in
+      let silent : list_any (is_by_cluster c.number) more ≡ false = ap (list_any (is_by_cluster c.number)) (sym rest) ∙ silent_once_lost after.system after.log c.number (length b.log) legal (ap (λ l. was_lost_in l c.number) front ∙ was_lost) in
+      let before = life_ends b.log c.number was_lost in
+      let ends : end_of_life after.log c.number 0 ≡ end_of_life b.log c.number 0 =
+      life_ends after.log c.number lost ∙ ap (position_or_len (its_loss c.number)) longer ∙ first_longer (its_loss c.number) b.log more was_lost ∙ sym before in
+      let inside = lost_inside b.log c.number was_lost in
+      let cause : end_cause after.log c.number 0 ≡ end_cause b.log c.number 0 =
+      ap (λ o. option_and_then (λ (e : Entry). cause_in c.number (what e)) o)
+      (ap (slice_get after.log) ends ∙ ap (λ l. slice_get l (end_of_life b.log c.number 0)) longer ∙ get_front b.log more (end_of_life b.log c.number 0) inside) in
+      record {
+        lost = cut;
+        left = record {
+          system = left.system ∙ sym system;
+          within = omega (arith, left.within, ends);
+          followed = stood_as after c cut (stands_longer b after c more system script longer (omega (arith, left.within, inside)) silent (stands_of b c left.followed));
+          to_the_end = λ whole. absurd (true≢false (sym cut ∙ whole));
+          lost_by = subst (λ o. EndsBy o c) (sym cause) left.lost_by;
+          passed = (λ i. list_all (is_unpassed c.number (longer i) c.steps) (script i)) ∙ all_longer c.number b.log more c.steps b.script left.passed;
+          uncalled = λ whole. absurd (true≢false (sym cut ∙ whole));
+        };
+      }
+
+  -- and nothing is added to a log that a loss has ended
+  ended_longer : was_lost_in b.log c.number ≡ false → ends_lost b.system b.log ≡ true → IsGone after c
+  ended_longer lives ended =
+      let over : is_over after.system b.log ≡ true = ap (λ s. is_over s b.log) system ∙ (ended_over b.system b.log ended).0 in
+      let same : after.log ≡ b.log = sym (whole_part after.system b.log after.log legal (more, sym longer) over) in
+      let cut = cut_ended c.number after.system after.log ((λ i. ends_lost (system i) (same i)) ∙ ended) in
+      let ends : end_of_life b.log c.number 0 ≡ length b.log - 1 = ends_with_log b.log c.number lives in
+      record {
+        lost = cut;
+        left = record {
+          system = left.system ∙ sym system;
+          within = subst (λ l. c.cursor ≤ end_of_life l c.number 0) (sym same) left.within;
+          followed = stood_as after c cut (stands_longer b after c [] system script (same ∙ sym (append-nil b.log)) (omega (arith, left.within, ends)) refl (stands_of b c left.followed));
+          to_the_end = λ whole. absurd (true≢false (sym cut ∙ whole));
+          lost_by = subst (λ l. EndsBy (end_cause l c.number 0) c) (sym same) left.lost_by;
+          passed = (λ i. list_all (is_unpassed c.number (same i) c.steps) (script i)) ∙ left.passed;
+          uncalled = λ whole. absurd (true≢false (sym cut ∙ whole));
+        };
+      }
 
 -- who is gone stays so when others add to the log
 pub gone_longer : (b after : BusView) (c : ClusterView) (more : List Entry) → IsLegalBy MayStand after.system after.log → after.system ≡ b.system → after.script ≡ b.script → after.log ≡ b.log ++ more → IsGone b c → IsGone after c
-gone_longer b after c more legal system script longer gone =
-    let left = gone.left in
-    let lost : was_lost_in after.log c.number ≡ true = ap (λ l. was_lost_in l c.number) longer ∙ list_any-append (its_loss c.number) b.log more ∙ ap (λ t. t || was_lost_in more c.number) gone.lost in
-    let front : take (length b.log) after.log ≡ b.log = ap (take (length b.log)) longer ∙ take-append-le (length b.log) b.log more (omega arith) ∙ take_all (length b.log) b.log (omega arith) in
-    let rest : drop (length b.log) after.log ≡ more = ap (drop (length b.log)) longer ∙ drop-append-le (length b.log) b.log more (omega arith) ∙ ap (λ l. l ++ more) (drop_whole b.log) in
-    let silent : list_any (is_by_cluster c.number) more ≡ false = ap (list_any (is_by_cluster c.number)) (sym rest) ∙ silent_once_lost after.system after.log c.number (length b.log) legal (ap (λ l. was_lost_in l c.number) front ∙ gone.lost) in
-    let before = life_ends b.log c.number gone.lost in
-    let ends : end_of_life after.log c.number 0 ≡ end_of_life b.log c.number 0 =
-    life_ends after.log c.number lost ∙ ap (position_or_len (its_loss c.number)) longer ∙ first_longer (its_loss c.number) b.log more gone.lost ∙ sym before in
-    let inside = gone_inside b c gone in
-    let cause : end_cause after.log c.number 0 ≡ end_cause b.log c.number 0 =
-    ap (λ o. option_and_then (λ (e : Entry). cause_in c.number (what e)) o)
-    (ap (slice_get after.log) ends ∙ ap (λ l. slice_get l (end_of_life b.log c.number 0)) longer ∙ get_front b.log more (end_of_life b.log c.number 0) inside) in
-    record {
-      lost = lost;
-      left = record {
-        system = left.system ∙ sym system;
-        within = omega (arith, left.within, ends);
-        followed = stood_as after c lost (stands_longer b after c more system script longer (omega (arith, left.within, inside)) silent (stands_of left.followed));
-        to_the_end = λ lives. absurd (true≢false (sym lost ∙ lives));
-        lost_by = subst (λ o. EndsBy o c) (sym cause) left.lost_by;
-        passed = (λ i. list_all (is_unpassed c.number (longer i) c.steps) (script i)) ∙ all_longer c.number b.log more c.steps b.script left.passed;
-        uncalled = λ lives. absurd (true≢false (sym lost ∙ lives));
-      };
-    }
+gone_longer b after c more legal system script longer gone = by_way (cut_parts c.number b.system b.log gone.lost)
   where
-    stands_of : StoodAs b c → Stands b c
-    stands_of (inl (unfailed, inl beside)) = inl (unfailed, inl beside)
-    stands_of (inl (unfailed, inr between)) = inl (unfailed, inr between.1)
-    stands_of (inr failed) = inr failed.1
+    by_way : (was_lost_in b.log c.number ≡ true) ⊎ ((was_lost_in b.log c.number ≡ false) × (ends_lost b.system b.log ≡ true)) → IsGone after c
+    by_way (inl lost) = lost_longer b after c more legal system script longer gone.left lost
+    by_way (inr (lives, ended)) = ended_longer b after c more legal system script longer gone.left lives ended

@@ -39,7 +39,7 @@ use Rattle.cert_sched.specs.Rests.{home_pids}
 use Rattle.cert_sched.specs.Rules.{is_over}
 use Rattle.cert_sched.specs.Built.{MayStand, UnlostMayFollow, is_unlost}
 use Rattle.cert_sched.specs.Legal.{IsLegalBy}
-use Rattle.cert_sched.specs.Losses.{was_lost_in}
+use Rattle.cluster_run.specs.Ends.{is_cut_off}
 use Rattle.cert_sched.proofs.KernelSums.{one_of_sum}
 use Rattle.cert_sched.proofs.ReplayLaws.{fork_after}
 use Rattle.cert_sched.proofs.RisingLaws.{NoTwo}
@@ -347,7 +347,7 @@ module _ (b : BusView) (c : ClusterView) (sound : IsSound b) (gone : IsGone b c)
     legal_prefix MayStand b.system b.log c.cursor sound.legal,
     elim (slice_get_cases b.log c.cursor).1 [
       | inl there ↦ goes_on_before b.system b.log c.cursor there.0 sound.legal there.2
-      | inr past ↦ absurd (let low = (gone.left).within in let inside = gone_inside b c gone in omega (arith, low, inside, past.0))
+      | inr past ↦ absurd (let low = (gone.left).within in let inside = gone_inside b c sound.legal gone in omega (arith, low, inside, past.0))
     ],
   )
 
@@ -365,7 +365,7 @@ module _ (b : BusView) (c : ClusterView) (sound : IsSound b) (gone : IsGone b c)
   pub gone_within : load c ≤ most_load b.system
   gone_within = by_stood (gone.left).followed
     where
-      by_way : StoodBeside b c ⊎ ((was_lost_in b.log c.number ≡ true) × StoodBetween b c) → load c ≤ most_load b.system
+      by_way : StoodBeside b c ⊎ ((is_cut_off c.number b.system b.log ≡ true) × StoodBetween b c) → load c ≤ most_load b.system
       by_way (inl beside) = follows_then c (gone.left).system beside.follows
       by_way (inr (lost, stood)) =
           let was = (stood.between).before in

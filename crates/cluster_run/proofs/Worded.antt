@@ -1,5 +1,5 @@
--- What the words that are due add to a bus, and what is known of a bus whose script has few.
-use Rattle.std.proofs.Common.{◌≡◌, ℕ, zero, suc, ◌≤◌, refl, sym, ◌∙◌, ap, subst, arith, inl, List, [], ◌∷◌, ◌++◌, length, append-nil, append_assoc, Bool, true, false, cond, ◌||◌, Option, Some, None}
+-- What the words that are due add to a bus, and what is known of a bus whose script is spread.
+use Rattle.std.proofs.Common.{◌≡◌, ℕ, zero, suc, refl, sym, ◌∙◌, ap, subst, inl, List, [], ◌∷◌, ◌++◌, length, append-nil, append_assoc, Bool, true, false, cond, ◌||◌, Option, Some, None}
 use Rattle.std.specs.Prelude.{All}
 use Rattle.std.specs.List.{list_all, list_any}
 use Rattle.std.proofs.lemmas.List.Elements.{All-nil, All-cons, All-append}
@@ -19,14 +19,14 @@ use Rattle.cert_sched.specs.Built.{is_built_word}
 use Rattle.cert_sched.specs.Looked.{first_reached, given_by}
 use Rattle.cert_sched.specs.Rules.{is_over}
 use Rattle.cert_sched.specs.Schedule.{placement}
-use Rattle.cert_sched.specs.Scripted.{is_closed}
+use Rattle.cert_sched.specs.Scripted.{is_closed, is_spread}
 use Rattle.bus_lock.specs.Lists.{MayAdd, is_author}
 use Rattle.bus_order.specs.Log.{author, author_of}
 use Rattle.bus_order.specs.View.{BusView, HasLooked, IsLawful, after_words, look_once, looks, with_given, with_look}
 use Rattle.bus_order.proofs.Looking.{look_over, look_some}
-use Rattle.bus_order.proofs.OverLaws.{open_not_closed}
-use Rattle.script_laws.proofs.CoveredLosses.{few_losses_close}
-use Rattle.script_laws.proofs.CrashLaws.{crashes_within}
+use Rattle.script_laws.proofs.OffLosses.{built_stands}
+use Rattle.script_laws.proofs.SpreadLosses.{spread_log_closes}
+use Rattle.script_laws.proofs.WordLosses.{all_worded}
 use Rattle.cluster_run.specs.Gone.{is_told_by}
 use Rattle.cluster_run.specs.Along.{IsSound}
 use Rattle.cluster_run.specs.Seated.{bus_of, origin_of}
@@ -108,26 +108,22 @@ looked_worded old new looked = subst (Worded old) (sym looked.1) (looks_worded l
 pub may_add : (k : ClusterNo) (more : List Entry) → All (λ (e : Entry). author_of e ≡ None) more → All (MayAdd author_of k.0) more
 may_add k more none i d low = inl (none i d low)
 
--- ---- few words
+-- ---- spread words
 
 -- a bus is sound, as far as its script is
-pub sound_of : (b : BusView) → is_system b.system ≡ true → list_all is_built_word b.script ≡ true → length b.script ≤ 1 → IsLawful b → IsSound b
-sound_of b valid words one lawful = record { valid = valid; words = words; one = one; legal = lawful.legal; losses = crashes_within b lawful.scripted lawful.legal words; fits = lawful.fits }
+pub sound_of : (b : BusView) → is_system b.system ≡ true → list_all is_built_word b.script ≡ true → IsLawful b → IsSound b
+sound_of b valid words lawful = record { valid = valid; words = words; legal = lawful.legal; fits = lawful.fits }
 
 pub sound_again : (old new : BusView) → IsSound old → new.system ≡ old.system → new.script ≡ old.script → IsLawful new → IsSound new
 sound_again old new sound system script lawful =
-    sound_of new (ap is_system system ∙ sound.valid) (ap (list_all is_built_word) script ∙ sound.words) (let long = ap length script in omega (arith, long, sound.one)) lawful
+    sound_of new (ap is_system system ∙ sound.valid) (ap (list_all is_built_word) script ∙ sound.words) lawful
 
--- its log is over exactly where it is closed
-pub sound_closed : (b : BusView) → IsSound b → is_over b.system b.log ≡ is_closed b.log
-sound_closed b sound = by_test (is_over b.system b.log) refl
-  where
-    by_test : (t : Bool) → is_over b.system b.log ≡ t → is_over b.system b.log ≡ is_closed b.log
-    by_test true over = over ∙ sym (few_losses_close b.system b.log sound.valid sound.legal (omega (arith, sound.losses, sound.one)) over)
-    by_test false is = is ∙ sym (open_not_closed b.system b.log sound.legal is)
+-- where its script is spread its losses are covered, so its log is over only where it is closed
+pub spread_closes : (b : BusView) → is_system b.system ≡ true → IsLawful b → is_spread b.system b.script ≡ true → is_over b.system b.log ≡ true → is_closed b.log ≡ true
+spread_closes b valid lawful spread over = spread_log_closes b.system b.script b.log valid spread (built_stands b.system b.log lawful.legal) (all_worded b lawful.scripted) over
 
 -- what is known of it from its system, its script and its log
 pub sound_by_log : (b : BusView) (log : List Entry) → IsSound b → log ≡ b.log → IsSound (bus_of (origin_of b) log)
 sound_by_log b log sound same =
     let P : List Entry → Type 0 = λ l. IsSound (bus_of (origin_of b) l) in
-    subst P (sym same) (record { valid = sound.valid; words = sound.words; one = sound.one; legal = sound.legal; losses = sound.losses; fits = sound.fits })
+    subst P (sym same) (record { valid = sound.valid; words = sound.words; legal = sound.legal; fits = sound.fits })

@@ -2,6 +2,7 @@
 use Rattle.std.specs.Prelude.{ℕ, ◌≡◌, true, List, slice_get, Some, None}
 use Rattle.sys_text.specs.declared.system.System.{System}
 use Rattle.cert_sched.specs.declared.script.ScriptWord.{ScriptWord}
+use Rattle.cert_sched.specs.Scripted.{is_spread}
 use Rattle.report_text.specs.declared.run.Ended.TheVariants.{Finished}
 use Rattle.report_text.specs.Good.{IsGoodBuilt}
 use Rattle.cluster_core.specs.View.{disk_calls}
@@ -17,10 +18,11 @@ HasStepsOf ran = (n : ℕ) (l : Life) → slice_get ran.lives n ≡ Some l → e
 abbrev pub HasCallsOf : Ran → Type 0
 HasCallsOf ran = (n : ℕ) (l : Life) → slice_get ran.lives n ≡ Some l → ends_at_done (ran.run).log l.cluster l.from ≡ true → (l.value).failed ≡ None → slice_get (ran.run).disk_calls (l.cluster).0 ≡ Some (disk_calls l.value)
 
--- The run is what its system and its script allow, and it came to its end: its clusters did its work, and it has their steps and disk calls.
+-- The run is what its system and its script allow: its clusters did its work, and it has their steps and disk calls. It came to its end where the words that lose
+-- clusters are spread: neither both clusters of a root nor both page servers.
 pub record IsCompleted (system : System) (script : List ScriptWord) (ran : Ran) : Type 0 where
   pub good : IsGoodBuilt system script ran.run
-  pub ended : (ran.run).ended ≡ Finished
+  pub finished : is_spread system script ≡ true → (ran.run).ended ≡ Finished
   pub lived : LivedBuilt system script (ran.run).log ran.lives
   pub steps : HasStepsOf ran
   pub calls : HasCallsOf ran

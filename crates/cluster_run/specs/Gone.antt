@@ -10,6 +10,7 @@ use Rattle.bus_msg.specs.declared.entry.Cause.TheVariants.{Place, Step, Disk}
 use Rattle.bus_msg.specs.declared.entry.Entry.{Entry}
 use Rattle.bus_msg.specs.Places.{same_cluster}
 use Rattle.bus_msg.specs.PlacedAfter.{what}
+use Rattle.cert_sched.specs.Rules.{is_over}
 use Rattle.cert_sched.specs.Losses.{capped, is_by_cluster, is_page_entry, least_calls, was_lost_in}
 use Rattle.cluster_core.specs.View.{ClusterView, disk_calls}
 use Rattle.cluster_core.specs.Follows.{FollowsBuilt, StandsBetween}
@@ -18,6 +19,7 @@ use Rattle.bus_order.specs.Log.{author_of}
 use Rattle.bus_order.specs.Script.{is_uncalled, is_unpassed}
 use Rattle.bus_order.specs.View.{BusView}
 use Rattle.cluster_run.specs.Disks.{HasFailed}
+use Rattle.cluster_run.specs.Ends.{is_cut_off}
 use Rattle.cluster_run.specs.Lived.{EndsBy, end_cause, end_of_life}
 
 -- ---- what a cluster tells
@@ -73,12 +75,13 @@ pub record StoodFailed (b : BusView) (c : ClusterView) : Type 0 where
 abbrev pub Stands : BusView → ClusterView → Type 0
 Stands b c = ((c.failed ≡ None) × (StoodBeside b c ⊎ StoodBetween b c)) ⊎ StoodFailed b c
 
--- A cluster before its next kernel step, or after the one in which its disk failed. It was not lost in what it has taken in, nor anywhere at a step or a disk call, and
+-- A cluster before its next kernel step, or after the one in which its disk failed. What it has taken in goes on, and it was not lost in that, nor anywhere at a step or a disk call, and
 -- it has passed no word for a step that gave no loss.
 pub record IsBeforeStep (b : BusView) (c : ClusterView) : Type 0 where
   pub system : c.system ≡ b.system
   pub has : (c.number).0 < (b.system).clusters
   pub within : c.cursor ≤ length b.log
+  pub goes_on : is_over b.system (take c.cursor b.log) ≡ false
   pub lives : was_lost_in (take c.cursor b.log) c.number ≡ false
   pub stands : Stands b c
   pub kept : list_any (λ (e : Entry). is_own_loss c.number (what e)) b.log ≡ false
@@ -90,22 +93,22 @@ own_cause c = option_map_or Disk c.failed (Step c.steps)
 
 -- ---- how it was left
 
--- how it stood: it followed the log, or was lost with an entry that it had sent and not taken in, or where its disk failed
+-- how it stood: it followed the log, or was cut off with an entry that it had sent and not taken in, or where its disk failed
 abbrev pub StoodAs : BusView → ClusterView → Type 0
-StoodAs b c = ((c.failed ≡ None) × (StoodBeside b c ⊎ ((was_lost_in b.log c.number ≡ true) × StoodBetween b c))) ⊎ ((was_lost_in b.log c.number ≡ true) × StoodFailed b c)
+StoodAs b c = ((c.failed ≡ None) × (StoodBeside b c ⊎ ((is_cut_off c.number b.system b.log ≡ true) × StoodBetween b c))) ⊎ ((is_cut_off c.number b.system b.log ≡ true) × StoodFailed b c)
 
--- How a cluster of the bus was left when its life had ended: it was lost, as the log tells, or it followed the log up to its last entry. It has passed no word
+-- How a cluster of the bus was left when its life had ended: it was cut off, as the log tells, or it followed the log up to its last entry. It has passed no word
 -- for a step or a disk call that gave no loss.
 pub record LeftAs (b : BusView) (c : ClusterView) : Type 0 where
   pub system : c.system ≡ b.system
   pub within : c.cursor ≤ end_of_life b.log c.number 0
   pub followed : StoodAs b c
-  pub to_the_end : was_lost_in b.log c.number ≡ false → c.cursor ≡ length b.log - 1
+  pub to_the_end : is_cut_off c.number b.system b.log ≡ false → c.cursor ≡ length b.log - 1
   pub lost_by : EndsBy (end_cause b.log c.number 0) c
   pub passed : list_all (is_unpassed c.number b.log c.steps) b.script ≡ true
-  pub uncalled : was_lost_in b.log c.number ≡ false → list_all (is_uncalled c.number (disk_calls c)) b.script ≡ true
+  pub uncalled : is_cut_off c.number b.system b.log ≡ false → list_all (is_uncalled c.number (disk_calls c)) b.script ≡ true
 
--- a cluster that was lost, and has stopped
+-- a cluster that was cut off, and has stopped
 pub record IsGone (b : BusView) (c : ClusterView) : Type 0 where
-  pub lost : was_lost_in b.log c.number ≡ true
+  pub lost : is_cut_off c.number b.system b.log ≡ true
   pub left : LeftAs b c

@@ -32,10 +32,10 @@ abbrev pub EndsAs : Bool → Turn → BusView → ClusterView → Type 0
 EndsAs alone Moved b c = c.queue ≡ []
 EndsAs alone Waits b c = c.queue ≡ []
 EndsAs alone Rests b c = (c.queue ≡ []) × HasTold alone c b
-EndsAs alone Over b c = (c.cursor ≡ upto c.number b.log) × (is_done_with c.number b.system b.log ≡ true)
+EndsAs alone Over b c = (c.cursor ≡ upto c.number b.system b.log) × (is_done_with c.number b.system b.log ≡ true)
 EndsAs alone Lost b c = ⊤
 
--- where it stands then: along the bus that its port shows; or it was lost at a step, and has stopped
+-- where it stands then: along the bus that its port shows; or it was cut off, and has stopped
 abbrev pub StandsAs : Type 0 → ℕ → Turn → BusView → ClusterView → Type 0
 StandsAs Shows from Moved b c = IsShown Shows from b c
 StandsAs Shows from Waits b c = IsShown Shows from b c
@@ -63,22 +63,25 @@ pub record SendsOwn (k : ClusterNo) (b after : BusView) : Type 0 where
   pub adds : Adds k b after
   pub spends : Spends b after
 
--- a cluster that lived was lost by a word that was left
+-- a cluster that lived was lost by a word that was left, or the run has ended by one
 pub record LosesOwn (k : ClusterNo) (b after : BusView) : Type 0 where
-  pub sends : SendsOwn k b after
-  pub lost : was_lost_in after.log k ≡ true
+  pub owned : IsOwned after
+  pub adds : Adds k b after
+  pub ends : (was_lost_in after.log k ≡ true) ⊎ IsOver after
   pub fewer : length after.left < length b.left
 
--- the head of a cluster was tried: it was sent, or the cluster had not seen all, or it was lost by a word
+-- the head of a cluster was tried: it was sent, or the cluster had not seen all, or it was lost by a word, or the run has ended by one
 abbrev pub TriesOwn : ClusterNo → Tried → BusView → BusView → Type 0
 TriesOwn k GoesOn b after = SendsOwn k b after
 TriesOwn k IsOverThere b after = LosesOwn k b after
 TriesOwn k IsLostThere b after = LosesOwn k b after
 
--- all posts of a cluster were sent, or it was lost; where it had one, fewer words are left or the log is longer
+-- all posts of a cluster were sent, or it was lost, or the log is over; where it had one, fewer words are left or the log is longer
 pub record SendsAll (b after : BusView) (c new : ClusterView) : Type 0 where
-  pub sends : SendsOwn c.number b after
-  pub empty : was_lost_in after.log c.number ≡ false → new.queue ≡ []
+  pub owned : IsOwned after
+  pub adds : Adds c.number b after
+  pub spends : Spends b after
+  pub empty : is_over after.system after.log ≡ false → was_lost_in after.log c.number ≡ false → new.queue ≡ []
   pub some : is_some (head_of c.queue) ≡ true → (length after.left < length b.left) ⊎ (length b.log < length after.log)
 
 -- the cluster has its mark there, and the log is as it was; or it is over; or fewer words are left
@@ -95,12 +98,12 @@ pub record TellsOwn (k : ClusterNo) (b after : BusView) : Type 0 where
 abbrev pub HasSpent : BusView → BusView → Type 0
 HasSpent b after = IsOver after ⊎ (length after.left < length b.left) ⊎ ((length after.left ≡ length b.left) × ((left_to_send after.system after.log < left_to_send b.system b.log) ⊎ (after.log ≡ b.log)))
 
--- What the turn of a cluster makes of it. The cluster has nothing to send, or it was lost. Where it added to the log, fewer words are left, or fewer posts
+-- What the turn of a cluster makes of it. The cluster has nothing to send, or it was lost, or the log is over. Where it added to the log, fewer words are left, or fewer posts
 -- are left to send.
 pub record TurnsOwn (b after : BusView) (c new : ClusterView) : Type 0 where
   pub owned : IsOwned after
   pub adds : Adds c.number b after
-  pub empty : was_lost_in after.log c.number ≡ false → new.queue ≡ []
+  pub empty : is_over after.system after.log ≡ false → was_lost_in after.log c.number ≡ false → new.queue ≡ []
   pub spends : HasSpent b after
   pub lasts : IsOver after ⊎ IsAtMost (remaining_of b c) (remaining_of after new)
   pub gets_on : GetsOn b after (remaining_of b c) (remaining_of after new) (c.number).0 ((c.number).0 + 1)

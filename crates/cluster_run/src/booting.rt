@@ -29,7 +29,6 @@ pub fn start(
 ) -> Result<(Bus, Vec<Member>), NoMemory>
     requires valid { is_system (arc_value system.now) ≡ true }
     requires words { list_all is_built_word script.now ≡ true }
-    requires one { length script.now ≤ 1 }
     ensures owned { IfOk result (λ started. IsOwned started.0) }
     ensures along { IfOk result (λ started. AllAlong started.0 started.1.items) }
     ensures started { IfOk result (λ started. AllStarted (arc_value system.now) script.now (arc_value system.now).clusters started.1.items) }

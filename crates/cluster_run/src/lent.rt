@@ -1,6 +1,6 @@
 //! A bus that no other has is its own port.
 use crate::member::Member;
-use crate::offers::{Offered, lose_at, offer_to, tell_to};
+use crate::offers::{Offered, followed_length, lose_at, offer_to, tell_to};
 use crate::port::Port;
 use bus_msg::entry::{Cause, Entry, Post};
 use bus_order::bus::Bus;
@@ -32,7 +32,7 @@ impl Port for Bus {
     fn upto(&self, number: ClusterNo) -> u64 {
         match self.off_at(number) {
             Some(at) => at,
-            None => self.length_without_end(),
+            None => followed_length(self),
         }
     }
 

@@ -10,6 +10,7 @@ ghost use Rattle.bus_order.specs.Script.{has_unused};
 ghost use Rattle.cluster_run.specs.Gone.{IsBeforeStep};
 ghost use Rattle.cluster_run.specs.Along.{IsAlong, IsNamed, IsSound, IsStopped, is_done_with, upto};
 ghost use Rattle.cluster_run.specs.Offers.{Adds, IsToldBy, Later, OfferIs, TellIs, Visits};
+ghost use Rattle.cluster_run.specs.Progress.{IsOver};
 ghost use Rattle.cluster_run.specs.Turns.{GoesOwn, LosesOwn};
 
 use crate::member::Member;
@@ -56,12 +57,12 @@ pub trait Port {
         ensures sound { OnOk result (IsSound (bus self.new)) }
         ensures later { OnOk result (Later alone cluster.now.number (bus self.old) (bus self.new)) };
 
-    /// How far a cluster follows the log: up to its own loss, or else to the end or the stop that may stand last.
+    /// How far a cluster follows the log: up to its own loss, or else all of it, but the last entry where the log is over.
     fn upto(&self, number: ClusterNo) -> u64
         requires sits { sits number self.now }
         requires shows { shows self.now }
         requires sound { IsSound (bus self.now) }
-        ensures { result ≡ upto number (bus self.now).log };
+        ensures { result ≡ upto number (bus self.now).system (bus self.now).log };
 
     /// The entry at a place.
     fn shown(&self, place: u64) -> &Entry
@@ -86,7 +87,8 @@ pub trait Port {
         ensures { result ≡ has_unused (bus self.now).script cluster.now.number (AtStep cluster.now.steps) };
 
     /// Loses a cluster directly before its next kernel step, or by the call of its disk that failed, which a word of the script
-    /// names. Nothing is added where its loss stands in the log already. Either way it stays as it is.
+    /// names. Nothing is added where its loss stands in the log already, or the run has ended by a loss that is not covered. Either
+    /// way it stays as it is.
     fn lose(&mut self, cluster: &Member) -> Result<(), NoMemory>
         requires sits { sits cluster.now.number self.old }
         requires sound { IsSound (bus self.old) }
@@ -95,6 +97,7 @@ pub trait Port {
         ensures root { root self.new ≡ root self.old }
         ensures sits { sits cluster.now.number self.new }
         ensures stopped { OnOk result (IsStopped (bus self.new) cluster.now) }
+        ensures kept { OnOk result (alone ≡ true → IsOver (bus self.old) → bus self.new ≡ bus self.old) }
         ensures own { OnOk result (alone ≡ true → GoesOwn (bus self.old) → was_lost_in (bus self.old).log cluster.now.number ≡ false → LosesOwn cluster.now.number (bus self.old) (bus self.new)) };
 
     /// Offers the post of a cluster, and shows what is then new.

@@ -1,5 +1,5 @@
 -- The words of a script, by their texts.
-use Rattle.std.specs.Prelude.{ℕ, ◌^◌, ◌==◌, ◌&&◌, ◌||◌, Bool, true, false, nat_le, nat_lt, min, if◌then◌else◌, List, [], ◌∷◌, length, take, drop, codes, count_by, Option, Some, None, option_map, option_and_then}
+use Rattle.std.specs.Prelude.{ℕ, ◌^◌, ◌==◌, ◌||◌, Bool, nat_le, nat_lt, min, if◌then◌else◌, List, [], ◌∷◌, length, take, drop, codes, Option, Some, None, option_map, option_and_then}
 use Rattle.std.specs.List.{list_all}
 use Rattle.std.specs.Option.{option_or}
 use Rattle.std.specs.Str.{bytes_eq}
@@ -50,18 +50,9 @@ abbrev pub script_words : List (List ℕ) → Option (List ScriptWord)
 script_words [] = Some []
 script_words (text ∷ texts) = option_and_then (λ word. option_map (λ words. word ∷ words) (script_words texts)) (script_word text)
 
--- the word is one by which a cluster is lost
-abbrev pub is_loss : ScriptWord → Bool
-is_loss (ReturnAt k place) = false
-is_loss _ = true
-
-abbrev pub is_return : ScriptWord → Bool
-is_return (ReturnAt k place) = true
-is_return _ = false
-
--- at most one cluster is lost, and at most one returns
+-- a script has 32 words at most
 abbrev pub is_script : List ScriptWord → Bool
-is_script words = nat_le (count_by is_loss words) 1 && nat_le (count_by is_return words) 1
+is_script words = nat_le (length words) 32
 
 abbrev pub checked : List ScriptWord → Option (List ScriptWord)
 checked words = if is_script words then Some words else None

@@ -1,7 +1,7 @@
 //! The words of a script, by their texts.
-ghost use Rattle.std.specs.Prelude.{◌≡◌, ◌++◌, IfOk, count_by, drop, option_and_then, option_map};
+ghost use Rattle.std.specs.Prelude.{◌≡◌, ◌++◌, IfOk, drop, option_and_then, option_map};
 ghost use Rattle.clap.specs.Walk.{texts as texts_of};
-ghost use Rattle.command_words.specs.Script.{are_allowed, behind as behind_of, checked as checked_of, cluster_and_place as cluster_and_place_of, cluster_of as cluster_of_text, is_allowed as is_allowed_in, is_loss as loses, is_return as returns_cluster, is_script as is_script_of, number_below as number_below_of, place_of as place_of_text, script_of as script_of_texts, script_word as script_word_of, script_words as script_words_of};
+ghost use Rattle.command_words.specs.Script.{are_allowed, behind as behind_of, checked as checked_of, cluster_and_place as cluster_and_place_of, cluster_of as cluster_of_text, is_allowed as is_allowed_in, is_script as is_script_of, number_below as number_below_of, place_of as place_of_text, script_of as script_of_texts, script_word as script_word_of, script_words as script_words_of};
 
 use cert_sched::script::{Script, ScriptWord};
 use std::alloc::Global;
@@ -14,6 +14,9 @@ use text_parts::{cut_at, number};
 const NO_CLUSTER: u64 = 255;
 
 const PLACES: u64 = 0x1_0000_0000;
+
+/// The most words of a script.
+const MOST_WORDS: usize = 32;
 
 /// A number below the limit, of 1 to 10 decimal digits.
 pub fn number_below(limit: u64, text: &[u8]) -> Option<u64>
@@ -84,34 +87,10 @@ pub fn script_word(text: &[u8]) -> Option<ScriptWord>
     Some(ScriptWord::ReturnAt { k, place })
 }
 
-fn is_loss(word: &ScriptWord) -> bool
-    ensures { result ≡ loses word.now }
-{
-    !matches!(word, ScriptWord::ReturnAt { .. })
-}
-
-fn is_return(word: &ScriptWord) -> bool
-    ensures { result ≡ returns_cluster word.now }
-{
-    matches!(word, ScriptWord::ReturnAt { .. })
-}
-
 fn is_script(words: &[ScriptWord]) -> bool
     ensures { result ≡ is_script_of words.now }
 {
-    losses(words) <= 1 && returns(words) <= 1
-}
-
-fn losses(words: &[ScriptWord]) -> usize
-    ensures { result ≡ count_by loses words.now }
-{
-    words.iter().filter(|word| is_loss(word)).count()
-}
-
-fn returns(words: &[ScriptWord]) -> usize
-    ensures { result ≡ count_by returns_cluster words.now }
-{
-    words.iter().filter(|word| is_return(word)).count()
+    words.len() <= MOST_WORDS
 }
 
 fn script_words(alloc: Global, texts: &[&str]) -> Result<Option<Script>, NoMemory>
@@ -136,8 +115,7 @@ fn joined(words: Script, more: &Script) -> Result<Script, NoMemory>
     Ok(List::from_vec(items))
 }
 
-/// The script that the texts are: each is a script word, at most one loses a cluster, and at most one
-/// returns one.
+/// The script that the texts are: each is a script word, and they are 32 at most.
 pub fn script_of(alloc: Global, texts: &[&str], more: &[&str]) -> Result<Option<Script>, NoMemory>
     ensures { IfOk result (λ r. r ≡ script_of_texts (texts_of texts.now ++ texts_of more.now)) }
 {

@@ -2,3 +2,5 @@
 //! terminals and the processes are those of the run without a loss.
 #[cfg(test)]
 mod each_loss;
+#[cfg(test)]
+mod several;

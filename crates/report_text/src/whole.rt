@@ -19,7 +19,8 @@ use crate::run::{Ended, Run};
 use bus_msg::entry::{Entry, What};
 use bus_msg::text::put_entry;
 use cert_sched::items_text;
-use plain_kernel::plain::Plain;
+use plain_kernel::item::RunRefused;
+use plain_kernel::plain::{self, Plain};
 use std::alloc::Global;
 use sys_text::system::System;
 use t32_base::lists::{Bytes, Text};
@@ -49,6 +50,21 @@ pub fn finished_report(alloc: Global, system: &System, run: &Run) -> Result<Text
     let mut text = outcome.report(alloc)?;
     put_run(alloc, &mut text, run)?;
     Ok(text)
+}
+
+/// The report of a run by running its schedule again, as where a loss was not covered: the log does not tell then whether a
+/// process that has not ended has a step.
+pub fn replayed_report(alloc: Global, system: &System, run: &Run) -> Result<Text, NoMemory>
+    requires valid { is_system system.now ≡ true }
+    requires legal { IsLegalBy MayStand system.now run.now.log }
+    requires items { run.now.items ≡ schedule_of system.now run.now.log }
+    ensures { IfOk result (λ text. (kernel : Kernel) × (plain_run system.now run.now.items ≡ Some kernel) × (text ≡ report_of kernel run.now)) }
+{
+    match plain::run(alloc, system, run.items.as_slice()) {
+        Ok(kernel) => report(alloc, &kernel, run),
+        Err(RunRefused::BadItem { .. }) => unreachable!(),
+        Err(RunRefused::NoMemory) => Err(NoMemory),
+    }
 }
 
 // What is printed of a run behind the terminals and the processes.

@@ -7,9 +7,9 @@ use Rattle.command_words.specs.declared.command.Command.{Command}
 use Rattle.cluster_run.specs.declared.life.Ran.{Ran}
 use Rattle.targon_cli.specs.Built.{built_command_of, makes_run, reads_input}
 use Rattle.targon_cli.specs.Reply.{Makes, usage_line}
-use Rattle.targon_cli.specs.Answer.{In, Out, Says, Wrote, WriteFault, IsAll, ReadsTooMany, Answers, Replied, TooLong, ReadFault, OutOfMemory, LeavesInput, Offers, IsReplied, Completes, IsCutOff, AppendsPart, IsStatus, AnswersFound, SaysUsage, Answered}
+use Rattle.targon_cli.specs.Answer.{In, Out, Says, Wrote, WriteFault, IsAll, ReadsTooMany, Answers, Replied, TooLong, ReadFault, OutOfMemory, LeavesInput, Offers, IsReplied, Completes, IsCutOff, IsOfRun, AppendsPart, IsStatus, AnswersFound, SaysUsage, Answered}
 use Rattle.targon_cli.proofs.Handing.{takes_all, takes_left}
-use Rattle.targon_cli.proofs.Replies.{IsReply, status_made, run_made, no_run_made, unread_same}
+use Rattle.targon_cli.proofs.Replies.{IsReply, lost_made, status_made, run_made, no_run_made, unread_same}
 
 -- the status of what is said, and its cause
 told : (wanted : ℕ) (text : List ℕ) (status : ℕ) (old new : Out) → Says wanted text status old new → ((status ≡ wanted) × Appends old.holds new.holds text) ⊎ ((status ≡ 5) × Rose old.faults new.faults)
@@ -40,30 +40,31 @@ replied words command status old new ended before after ran w n4 n5 n6 n8 (TooLo
 replied words command status old new ended before after ran w n4 n5 n6 n8 (ReadFault reads r says none) = not_said 4 _ status status before after n4 n5 says refl
 replied words command status old new ended before after ran w n4 n5 n6 n8 (OutOfMemory left e keeps none) = absurd (n6 (sym e))
 
-no_reply_by : (wanted k : ℕ) → IsReply wanted → 3 < k → wanted ≡ k → ⊥
-no_reply_by wanted k (inl z) above e = omega (arith, z, e, above)
-no_reply_by wanted k (inr (inl z)) above e = omega (arith, z, e, above)
-no_reply_by wanted k (inr (inr (inl z))) above e = omega (arith, z, e, above)
-no_reply_by wanted k (inr (inr (inr z))) above e = omega (arith, z, e, above)
+no_reply_by : (wanted k : ℕ) → IsReply wanted → 3 < k → (7 ≡ k → ⊥) → wanted ≡ k → ⊥
+no_reply_by wanted k (inl (inl z)) above n7 e = omega (arith, z, e, above)
+no_reply_by wanted k (inl (inr (inl z))) above n7 e = omega (arith, z, e, above)
+no_reply_by wanted k (inl (inr (inr (inl z)))) above n7 e = omega (arith, z, e, above)
+no_reply_by wanted k (inl (inr (inr (inr z)))) above n7 e = omega (arith, z, e, above)
+no_reply_by wanted k (inr z) above n7 e = n7 (sym z ∙ e)
 
--- a status above 3 is none of a reply
-no_reply : (command : Command) (bytes : List ℕ) (wanted k : ℕ) (text : List ℕ) (ran : Option Ran) → Makes command bytes wanted text ran → 3 < k → wanted ≡ k → ⊥
-no_reply command bytes wanted k text ran m above e = no_reply_by wanted k (status_made command bytes wanted text ran m) above e
+-- a status above 3 but 7 is none of a reply
+no_reply : (command : Command) (bytes : List ℕ) (wanted k : ℕ) (text : List ℕ) (ran : Option Ran) → Makes command bytes wanted text ran → 3 < k → (7 ≡ k → ⊥) → wanted ≡ k → ⊥
+no_reply command bytes wanted k text ran m above n7 e = no_reply_by wanted k (status_made command bytes wanted text ran m) above n7 e
 
 status_4 : (command : Command) (status : ℕ) (old new : In) (ended : Bool) (before after : Out) (ran : Option Ran) → Answers command status old new ended before after ran → status ≡ 4 → Rose old.faults new.faults
-status_4 command status old new ended before after ran (Replied bytes wanted text r m says) = not_said wanted text status 4 before after (no_reply command bytes wanted 4 text ran m (omega arith)) (λ e. omega arith) says
+status_4 command status old new ended before after ran (Replied bytes wanted text r m says) = not_said wanted text status 4 before after (no_reply command bytes wanted 4 text ran m (omega arith) (λ e. omega (arith, e))) (λ e. omega arith) says
 status_4 command status old new ended before after ran (TooLong bytes reads r says none) = not_said 8 _ status 4 before after (λ e. omega arith) (λ e. omega arith) says
 status_4 command status old new ended before after ran (ReadFault reads r says none) = λ e. r
 status_4 command status old new ended before after ran (OutOfMemory left e keeps none) = λ f. absurd (omega arith)
 
 status_5 : (command : Command) (status : ℕ) (old new : In) (ended : Bool) (before after : Out) (ran : Option Ran) → Answers command status old new ended before after ran → status ≡ 5 → Rose before.faults after.faults
-status_5 command status old new ended before after ran (Replied bytes wanted text r m says) = status_5_said wanted text status before after (no_reply command bytes wanted 5 text ran m (omega arith)) says
+status_5 command status old new ended before after ran (Replied bytes wanted text r m says) = status_5_said wanted text status before after (no_reply command bytes wanted 5 text ran m (omega arith) (λ e. omega (arith, e))) says
 status_5 command status old new ended before after ran (TooLong bytes reads r says none) = status_5_said 8 _ status before after (λ e. omega arith) says
 status_5 command status old new ended before after ran (ReadFault reads r says none) = status_5_said 4 _ status before after (λ e. omega arith) says
 status_5 command status old new ended before after ran (OutOfMemory left e keeps none) = λ f. absurd (omega arith)
 
 status_8 : (command : Command) (status : ℕ) (old new : In) (ended : Bool) (before after : Out) (ran : Option Ran) → Answers command status old new ended before after ran → status ≡ 8 → (bytes : List ℕ) × ReadsTooMany old new bytes
-status_8 command status old new ended before after ran (Replied bytes wanted text r m says) = not_said wanted text status 8 before after (no_reply command bytes wanted 8 text ran m (omega arith)) (λ e. omega arith) says
+status_8 command status old new ended before after ran (Replied bytes wanted text r m says) = not_said wanted text status 8 before after (no_reply command bytes wanted 8 text ran m (omega arith) (λ e. omega (arith, e))) (λ e. omega arith) says
 status_8 command status old new ended before after ran (TooLong bytes reads r says none) = λ e. (bytes, r)
 status_8 command status old new ended before after ran (ReadFault reads r says none) = not_said 4 _ status 8 before after (λ e. omega arith) (λ e. omega arith) says
 status_8 command status old new ended before after ran (OutOfMemory left e keeps none) = λ f. absurd (omega arith)
@@ -73,10 +74,11 @@ is_status_said wanted text status old new w (Wrote e a) = subst IsStatus (sym e)
 is_status_said wanted text status old new w (WriteFault e r a) = subst IsStatus (sym e) (grind arith)
 
 is_status_made : (wanted : ℕ) → IsReply wanted → IsStatus wanted
-is_status_made wanted (inl z) = inl z
-is_status_made wanted (inr (inl z)) = inr (inl z)
-is_status_made wanted (inr (inr (inl z))) = inr (inr (inl z))
-is_status_made wanted (inr (inr (inr z))) = inr (inr (inr (inl z)))
+is_status_made wanted (inl (inl z)) = inl z
+is_status_made wanted (inl (inr (inl z))) = inr (inl z)
+is_status_made wanted (inl (inr (inr (inl z)))) = inr (inr (inl z))
+is_status_made wanted (inl (inr (inr (inr z)))) = inr (inr (inr (inl z)))
+is_status_made wanted (inr z) = inr (inr (inr (inr (inr (inr (inr (inl z)))))))
 
 is_status : (command : Command) (status : ℕ) (old new : In) (ended : Bool) (before after : Out) (ran : Option Ran) → Answers command status old new ended before after ran → IsStatus status
 is_status command status old new ended before after ran (Replied bytes wanted text r m says) = is_status_said wanted text status before after (is_status_made wanted (status_made command bytes wanted text ran m)) says
@@ -87,15 +89,15 @@ is_status command status old new ended before after ran (OutOfMemory left e keep
 -- ---- the run that is handed out
 
 no_run : (command : Command) (status : ℕ) (old new : In) (ended : Bool) (before after : Out) (ran : Option Ran) → Answers command status old new ended before after ran
-    → (status ≡ 0 → ⊥) → (status ≡ 5 → ⊥) → ran ≡ None
-no_run command status old new ended before after ran (Replied bytes wanted text r m says) n0 n5 =
+    → (status ≡ 0 → ⊥) → (status ≡ 5 → ⊥) → (status ≡ 7 → ⊥) → ran ≡ None
+no_run command status old new ended before after ran (Replied bytes wanted text r m says) n0 n5 n7 =
     elim (told wanted text status before after says) [
-      | inl s ↦ no_run_made command bytes wanted text ran m (λ z. n0 (s.0 ∙ z))
+      | inl s ↦ no_run_made command bytes wanted text ran m (λ z. n0 (s.0 ∙ z)) (λ z. n7 (s.0 ∙ z))
       | inr f ↦ absurd (n5 f.0)
     ]
-no_run command status old new ended before after ran (TooLong bytes reads r says none) n0 n5 = none
-no_run command status old new ended before after ran (ReadFault reads r says none) n0 n5 = none
-no_run command status old new ended before after ran (OutOfMemory left e keeps none) n0 n5 = none
+no_run command status old new ended before after ran (TooLong bytes reads r says none) n0 n5 n7 = none
+no_run command status old new ended before after ran (ReadFault reads r says none) n0 n5 n7 = none
+no_run command status old new ended before after ran (OutOfMemory left e keeps none) n0 n5 n7 = none
 
 -- a front of the text was written, where the sink failed
 front : (wanted : ℕ) (text : List ℕ) (status : ℕ) (old new : Out) → (wanted ≡ 5 → ⊥) → Says wanted text status old new → status ≡ 5 → AppendsPart old.holds new.holds text
@@ -106,12 +108,13 @@ none_there : {X : Type 0} (ran : Option Ran) → ran ≡ None → is_some ran �
 none_there None e h = cc
 none_there (Some r) e h = cc
 
--- a reply that has a run is a report under the status 0
-run_reply : (command : Command) (bytes : List ℕ) (wanted : ℕ) (text : List ℕ) (ran : Option Ran) → Makes command bytes wanted text ran → is_some ran ≡ true → IsReply wanted → Makes command bytes 0 text ran
-run_reply command bytes wanted text ran m h (inl z) = subst (λ k. Makes command bytes k text ran) z m
-run_reply command bytes wanted text ran m h (inr (inl z)) = none_there ran (no_run_made command bytes wanted text ran m (λ e. absurd (omega arith))) h
-run_reply command bytes wanted text ran m h (inr (inr (inl z))) = none_there ran (no_run_made command bytes wanted text ran m (λ e. absurd (omega arith))) h
-run_reply command bytes wanted text ran m h (inr (inr (inr z))) = none_there ran (no_run_made command bytes wanted text ran m (λ e. absurd (omega arith))) h
+-- a reply that has a run is a report under the status 0 or 7
+run_reply : (command : Command) (bytes : List ℕ) (wanted : ℕ) (text : List ℕ) (ran : Option Ran) → Makes command bytes wanted text ran → is_some ran ≡ true → IsReply wanted → IsOfRun wanted
+run_reply command bytes wanted text ran m h (inl (inl z)) = inl z
+run_reply command bytes wanted text ran m h (inl (inr (inl z))) = none_there ran (no_run_made command bytes wanted text ran m (λ e. absurd (omega (arith, z, e))) (λ e. absurd (omega (arith, z, e)))) h
+run_reply command bytes wanted text ran m h (inl (inr (inr (inl z)))) = none_there ran (no_run_made command bytes wanted text ran m (λ e. absurd (omega (arith, z, e))) (λ e. absurd (omega (arith, z, e)))) h
+run_reply command bytes wanted text ran m h (inl (inr (inr (inr z)))) = none_there ran (no_run_made command bytes wanted text ran m (λ e. absurd (omega (arith, z, e))) (λ e. absurd (omega (arith, z, e)))) h
+run_reply command bytes wanted text ran m h (inr z) = inr z
 
 cut_off : (words : List (List ℕ)) (command : Command) (status : ℕ) (old new : In) (ended : Bool) (before after : Out) (ran : Option Ran) → built_command_of words ≡ Some command
     → Answers command status old new ended before after ran → status ≡ 5 → is_some ran ≡ true → IsCutOff words old new ended before after ran
@@ -121,8 +124,10 @@ cut_off words command status old new ended before after ran w (Replied bytes wan
   bytes = bytes;
   text = text;
   read = r;
-  made = run_reply command bytes wanted text ran m h (status_made command bytes wanted text ran m);
-  written = front wanted text status before after (no_reply command bytes wanted 5 text ran m (omega arith)) says e;
+  wanted = wanted;
+  of_run = run_reply command bytes wanted text ran m h (status_made command bytes wanted text ran m);
+  made = m;
+  written = front wanted text status before after (no_reply command bytes wanted 5 text ran m (omega arith) (λ e. omega (arith, e))) says e;
 }
 cut_off words command status old new ended before after ran w (TooLong bytes reads r says none) e h = none_there ran none h
 cut_off words command status old new ended before after ran w (ReadFault reads r says none) e h = none_there ran none h
@@ -130,6 +135,9 @@ cut_off words command status old new ended before after ran w (OutOfMemory left 
 
 run_there : (words : List (List ℕ)) (old new : In) (ended : Bool) (before after : Out) (ran : Option Ran) → IsReplied words 0 old new ended before after ran → is_some ran ≡ makes_run (built_command_of words)
 run_there words old new ended before after ran replied = rw replied.words_are (run_made replied.command replied.bytes replied.text ran replied.made)
+
+lost_there : (words : List (List ℕ)) (old new : In) (ended : Bool) (before after : Out) (ran : Option Ran) → IsReplied words 7 old new ended before after ran → is_some ran ≡ true
+lost_there words old new ended before after ran replied = lost_made replied.command replied.bytes replied.text ran replied.made
 
 -- ---- where nothing fails
 
@@ -198,12 +206,14 @@ answered words status old new ended before after ran usage unran left command = 
   status_3 = λ e. by_words (λ n. no_usage_at 3 (λ e. omega arith) (λ e. omega arith) (λ e. omega arith) n e) (λ c w. at_reply_3 e c w);
   status_4 = λ e. by_words (λ n. no_usage_at 4 (λ e. omega arith) (λ e. omega arith) (λ e. omega arith) n e) (λ c w. status_4 c status old new ended before after ran (command c w) e);
   status_5 = λ e. by_words (λ n. status_5_usage status before after (usage n) e) (λ c w. status_5 c status old new ended before after ran (command c w) e);
+  status_7 = λ e. by_words (λ n. no_usage_at 7 (λ e. omega arith) (λ e. omega arith) (λ e. omega arith) n e) (λ c w. at_reply_7 e c w);
   status_8 = λ e. by_words (λ n. no_usage_at 8 (λ e. omega arith) (λ e. omega arith) (λ e. omega arith) n e) (λ c w. status_8 c status old new ended before after ran (command c w) e);
   no_other = by_words (λ n. is_status_usage status before after (usage n)) (λ c w. is_status c status old new ended before after ran (command c w));
   complete = λ c w i o bytes offers. complete c status old new ended before after ran (command c w) i o bytes offers;
   ran_0 = λ e. run_at status e (λ f. by_words (λ n. no_usage_at 0 (λ e. omega arith) (λ e. omega arith) (λ e. omega arith) n f) (λ c w. at_reply f c w));
+  ran_7 = λ e. lost_at status e (λ f. by_words (λ n. no_usage_at 7 (λ e. omega arith) (λ e. omega arith) (λ e. omega arith) n f) (λ c w. at_reply_7 f c w));
   ran_5 = λ e h. by_words (λ n. none_there ran (unran n) h) (λ c w. cut_off words c status old new ended before after ran w (command c w) e h);
-  no_run = λ n0 n5. by_words (λ n. unran n) (λ c w. no_run c status old new ended before after ran (command c w) n0 n5);
+  no_run = λ n0 n5 n7. by_words (λ n. unran n) (λ c w. no_run c status old new ended before after ran (command c w) n0 n5 n7);
 }
   where
     by_option : {X : Type 0} (found : Option Command) → found ≡ built_command_of words → (built_command_of words ≡ None → X) → ((c : Command) → built_command_of words ≡ Some c → X) → X
@@ -227,6 +237,12 @@ answered words status old new ended before after ran usage unran left command = 
 
     at_reply_3 : status ≡ 3 → (c : Command) → built_command_of words ≡ Some c → IsReplied words status old new ended before after ran
     at_reply_3 e c w = replied words c status old new ended before after ran w (λ f. omega arith) (λ f. omega arith) (λ f. omega arith) (λ f. omega arith) (command c w)
+
+    at_reply_7 : status ≡ 7 → (c : Command) → built_command_of words ≡ Some c → IsReplied words status old new ended before after ran
+    at_reply_7 e c w = replied words c status old new ended before after ran w (λ f. omega arith) (λ f. omega arith) (λ f. omega arith) (λ f. omega arith) (command c w)
+
+    lost_at : (k : ℕ) → k ≡ 7 → (k ≡ 7 → IsReplied words k old new ended before after ran) → is_some ran ≡ true
+    lost_at k e at = lost_there words old new ended before after ran (subst (λ k. IsReplied words k old new ended before after ran) e (at e))
 
     run_at : (k : ℕ) → k ≡ 0 → (k ≡ 0 → IsReplied words k old new ended before after ran) → is_some ran ≡ makes_run (built_command_of words)
     run_at k e at = run_there words old new ended before after ran (subst (λ k. IsReplied words k old new ended before after ran) e (at e))

@@ -14,12 +14,14 @@ use Rattle.sys_text.specs.declared.system.System.{System}
 use Rattle.targon_cli.specs.declared.reply.Reply.{Reply}
 use Rattle.targon_cli.specs.declared.runs.Read.TheVariants.{System as AsSystem}
 use Rattle.targon_cli.specs.Answer.{In, Out, Takes, Says, Wrote, WriteFault}
-use Rattle.targon_cli.specs.Reply.{IsRead}
+use Rattle.targon_cli.specs.Reply.{IsRead, status_of}
 use Rattle.targon_cli.specs.Sections.{items_of_lines}
 use Rattle.targon_cli.specs.Explained.{Explains, ExplainsRun, ExplainsSection, ExplainsRunBy, IsByStatus, HandsWhy, ExplainsEnd, ByInput, ByStatus, ExplainsFound, Explained}
 use Rattle.std.specs.Arc.{arc_value}
 use Rattle.targon_cli.specs.Noted.{HandsNotes, MayNoteRun, Noted, NotedEnd, NotedFound, Notes, NotesRun, NotesRunBy, NotesSection, NotesSystem}
 use Rattle.targon_cli.specs.Built.{built_command_of}
+use Rattle.report_text.specs.declared.run.Ended.{Ended}
+use Rattle.report_text.specs.declared.run.Ended.TheVariants.{Finished, Lost}
 
 -- the status of what is said tells why, where the wanted one does
 pub said_tells : (wanted : ℕ) (text : List ℕ) (status : ℕ) (old new : Out) → is_some (why_of wanted) ≡ true → Says wanted text status old new → is_some (why_of status) ≡ true
@@ -68,11 +70,16 @@ pub ends_same : (command other : Command) (status : ℕ) (old new : In) (ended :
     → ExplainsEnd other status old new ended why
 ends_same command other status old new ended why same ends = subst (λ (c : Command). ExplainsEnd c status old new ended why) same ends
 
+-- the status of a run is 0 or 7
+status_of_run : (ended : Ended) (status : ℕ) → status ≡ status_of ended → (status ≡ 0) ⊎ (status ≡ 7)
+status_of_run Finished status e = inl e
+status_of_run (Lost cluster at) status e = inr e
+
 -- a system that has the clusters of its script is told of with nothing to explain
-pub nothing_to_explain : (reading : Answer) (script : List ScriptWord) (lines : List (List ℕ)) (shared : Arc System Global) (status : ℕ) (why : Option Why) → IsRead reading script (AsSystem shared) → status ≡ 0 → why ≡ None
+pub nothing_to_explain : (reading : Answer) (script : List ScriptWord) (lines : List (List ℕ)) (shared : Arc System Global) (ended : Ended) (status : ℕ) (why : Option Why) → IsRead reading script (AsSystem shared) → status ≡ status_of ended → why ≡ None
     → ExplainsRun reading script lines status why
-nothing_to_explain (Ok system) script lines shared status why is e n = rw is.2 (e, n)
-nothing_to_explain (Err refused) script lines shared status why is e n = absurd is
+nothing_to_explain (Ok system) script lines shared ended status why is e n = rw is.2 (status_of_run ended status e, n)
+nothing_to_explain (Err refused) script lines shared ended status why is e n = absurd is
 
 -- a section that has lines is explained
 pub section_explains : (system : System) (before lines : List (List ℕ)) (status : ℕ) (why : Option Why) → (lines ≡ [] → ⊥) → ExplainsSection system before lines (items_of_lines lines) status why

@@ -20,10 +20,10 @@ use Rattle.cluster_run.specs.declared.life.Ran.{Ran}
 use Rattle.cluster_run.specs.Completed.{IsCompleted}
 use Rattle.targon_cli.specs.declared.reply.Reply.{Reply}
 use Rattle.targon_cli.specs.declared.runs.Read.TheVariants.{System as AsSystem}
-use Rattle.targon_cli.specs.Reply.{IsRead, IsTextOf, MakesRun, TellsOf}
+use Rattle.targon_cli.specs.Reply.{IsRead, IsTextOf, MakesRun, TellsOf, status_of}
 
 -- a run that came to its end has a log that did
-pub ends_finished : (system : System) (r : Run) → r.ended ≡ Finished → EndsAs system r.log r.ended → is_finished r.log ≡ true
+ends_finished : (system : System) (r : Run) → r.ended ≡ Finished → EndsAs system r.log r.ended → is_finished r.log ≡ true
 ends_finished system r e h = subst (λ (k : Ended). EndsAs system r.log k) e h
 
 -- nothing can move in the kernel of a good run that is finished
@@ -31,13 +31,13 @@ still : (system : System) (script : List ScriptWord) (r : Run) (kernel : Kernel)
 still system script r kernel good ended runs =
     finished_kernel_still system r.log kernel good.legal (ends_finished system r ended good.ended) (ap (plain_run system) (sym good.items) ∙ runs)
 
--- a run that came to its end is told of by its text
+-- a run is told of by its text
 tells : (system : System) (script : List ScriptWord) (print : Kernel → Run → List ℕ) (text : List ℕ) (ran : Ran) → IsCompleted system script ran → IsTextOf system print ran.run text → TellsOf system script print text ran
 tells system script print text ran completed told = record {
   completed = completed;
   kernel = told.0;
   scheduled = told.1;
-  still = still system script ran.run told.0 completed.good completed.ended told.1;
+  still = λ ended. still system script ran.run told.0 completed.good ended told.1;
   told = told.2;
 }
 
@@ -48,7 +48,7 @@ read_valid (Err refused) script shared is = absurd is
 
 -- what is told of its run is what the text makes
 pub ran_makes : (reading : Answer) (script : List ScriptWord) (shared : Arc System Global) (print : Kernel → Run → List ℕ) (reply : Reply) (ran : Ran) → IsRead reading script (AsSystem shared)
-    → IsCompleted (arc_value shared) script ran → reply.status ≡ 0 → IsTextOf (arc_value shared) print ran.run reply.text → MakesRun reading script print reply.status reply.text (Some ran)
+    → IsCompleted (arc_value shared) script ran → reply.status ≡ status_of (ran.run).ended → IsTextOf (arc_value shared) print ran.run reply.text → MakesRun reading script print reply.status reply.text (Some ran)
 ran_makes (Ok system) script shared print reply ran is completed done told =
     rw is.2 (done, tells system script print reply.text ran (subst (λ (s : System). IsCompleted s script ran) is.0 completed) (subst (λ (s : System). IsTextOf s print ran.run reply.text) is.0 told))
 ran_makes (Err refused) script shared print reply ran is completed done told = absurd is

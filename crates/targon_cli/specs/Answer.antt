@@ -101,6 +101,10 @@ pub record Completes (command : Command) (bytes : List ℕ) (status : ℕ) (befo
   pub made : Makes command bytes status text ran
   pub written : Appends before.holds after.holds text
 
+-- a reply that tells of a run has the status 0 or 7
+abbrev pub IsOfRun : ℕ → Type 0
+IsOfRun status = (status ≡ 0) ⊎ (status ≡ 7)
+
 -- A command made a run and its report of what it took, and a front of the report was written.
 pub record IsCutOff (words : List (List ℕ)) (old new : In) (ended : Bool) (before after : Out) (ran : Option Ran) : Type 0 where
   pub command : Command
@@ -108,7 +112,9 @@ pub record IsCutOff (words : List (List ℕ)) (old new : In) (ended : Bool) (bef
   pub bytes : List ℕ
   pub text : List ℕ
   pub read : Takes command old new ended bytes
-  pub made : Makes command bytes 0 text ran
+  pub wanted : ℕ
+  pub of_run : IsOfRun wanted
+  pub made : Makes command bytes wanted text ran
   pub written : AppendsPart before.holds after.holds text
 
 -- these bytes are what a source has left for a command that reads it, and are no more than are read
@@ -117,7 +123,7 @@ Offers command old bytes = reads_input (Some command) ≡ true → (old.left ≡
 
 -- the statuses of the program
 abbrev pub IsStatus : ℕ → Type 0
-IsStatus status = (status ≡ 0) ⊎ (status ≡ 1) ⊎ (status ≡ 2) ⊎ (status ≡ 3) ⊎ (status ≡ 4) ⊎ (status ≡ 5) ⊎ (status ≡ 6) ⊎ (status ≡ 8)
+IsStatus status = (status ≡ 0) ⊎ (status ≡ 1) ⊎ (status ≡ 2) ⊎ (status ≡ 3) ⊎ (status ≡ 4) ⊎ (status ≡ 5) ⊎ (status ≡ 6) ⊎ (status ≡ 7) ⊎ (status ≡ 8)
 
 -- What is answered where the words are this command, or no command that is built.
 abbrev pub AnswersFound : Option Command → (status : ℕ) → (old new : In) → (ended : Bool) → (before after : Out) → Option Ran → Type 0
@@ -136,7 +142,7 @@ pub record Answered (words : List (List ℕ)) (status : ℕ) (old new : In) (end
   pub left : LeavesInput (built_command_of words) old new
   -- the words are one
   pub command : (command : Command) → built_command_of words ≡ Some command → Answers command status old new ended before after ran
-  -- each status has its cause: 0 that a command was carried out, 1 that the words are no command that is built or name a cluster that the system
+  -- each status has its cause: 0 that a command was carried out, 7 that its run was ended by a loss that is not covered, 1 that the words are no command that is built or name a cluster that the system
   -- lacks, and 2 and 3 that the command refuses its input
   pub status_0 : status ≡ 0 → IsReplied words status old new ended before after ran
   pub status_1 : status ≡ 1 → (built_command_of words ≡ None) ⊎ IsReplied words status old new ended before after ran
@@ -144,6 +150,7 @@ pub record Answered (words : List (List ℕ)) (status : ℕ) (old new : In) (end
   pub status_3 : status ≡ 3 → IsReplied words status old new ended before after ran
   pub status_4 : status ≡ 4 → Rose old.faults new.faults
   pub status_5 : status ≡ 5 → Rose before.faults after.faults
+  pub status_7 : status ≡ 7 → IsReplied words status old new ended before after ran
   pub status_8 : status ≡ 8 → (bytes : List ℕ) × ReadsTooMany old new bytes
   pub no_other : IsStatus status
   -- where neither side fails, what a command makes of its input is written, unless memory is refused
@@ -151,5 +158,6 @@ pub record Answered (words : List (List ℕ)) (status : ℕ) (old new : In) (end
       → (bytes : List ℕ) → Offers command old bytes → Completes command bytes status before after ran ⊎ (status ≡ 6)
   -- a run is handed out exactly where all was done and it was `sim`, `run` or `load` without `--text` that did it, and besides at most where a front of its report was written
   pub ran_0 : status ≡ 0 → is_some ran ≡ makes_run (built_command_of words)
+  pub ran_7 : status ≡ 7 → is_some ran ≡ true
   pub ran_5 : status ≡ 5 → is_some ran ≡ true → IsCutOff words old new ended before after ran
-  pub no_run : (status ≡ 0 → ⊥) → (status ≡ 5 → ⊥) → ran ≡ None
+  pub no_run : (status ≡ 0 → ⊥) → (status ≡ 5 → ⊥) → (status ≡ 7 → ⊥) → ran ≡ None

@@ -1,5 +1,5 @@
 -- What is built of the commands, by their words.
-use Rattle.std.specs.Prelude.{ℕ, ◌^◌, ◌&&◌, ◌||◌, not, Bool, true, false, nat_lt, nat_le, if◌then◌else◌, List, length, Option, Some, None, option_and_then}
+use Rattle.std.specs.Prelude.{ℕ, ◌^◌, ◌&&◌, ◌||◌, not, Bool, true, false, nat_lt, if◌then◌else◌, List, Option, Some, None, option_and_then}
 use Rattle.std.specs.List.{list_all}
 use Rattle.cert_sched.specs.declared.script.ScriptWord.{ScriptWord}
 use Rattle.command_words.specs.declared.command.Command.{Command}
@@ -8,9 +8,9 @@ use Rattle.command_words.specs.Command.{command_of}
 use Rattle.cert_sched.specs.Built.{is_built_word}
 use Rattle.workload.specs.Ring.{is_size}
 
--- a script is built that has at most one word, by which a cluster is lost at a place of the log, before one of its kernel steps, or by its page disk
+-- a script is built by whose words clusters are lost at a place of the log, before one of their kernel steps, or by their page disks
 abbrev pub is_built_script : List ScriptWord → Bool
-is_built_script script = nat_le (length script) 1 && list_all is_built_word script
+is_built_script script = list_all is_built_word script
 
 -- built are `sim`, `run` and `load` with such a script, `load` where it only prints its workload, and the others
 abbrev pub is_built : Command → Bool

@@ -45,7 +45,7 @@ ExplainsAsm (Err refused) lines status why = (status ≡ 2) × SaysSome (asm_why
 
 -- a system has the clusters of the script; or it is told that it lacks one
 abbrev pub ExplainsByScript : (has : Bool) → (status : ℕ) → Option Why → Type 0
-ExplainsByScript true status why = (status ≡ 0) × (why ≡ None)
+ExplainsByScript true status why = ((status ≡ 0) ⊎ (status ≡ 7)) × (why ≡ None)
 ExplainsByScript false status why = (status ≡ 1) × (why ≡ Some whys.NoCluster)
 
 -- a text is read as a system that has the clusters of the script, or it is told why not

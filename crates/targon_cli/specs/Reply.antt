@@ -27,6 +27,8 @@ use Rattle.workload.specs.Ring.{workload}
 use Rattle.targon_cli.specs.Sections.{system_part, section_part, items_of_lines}
 use Rattle.report_text.specs.Report.{plain_report}
 use Rattle.report_text.specs.declared.run.Run.{Run}
+use Rattle.report_text.specs.declared.run.Ended.{Ended}
+use Rattle.report_text.specs.declared.run.Ended.TheVariants.{Finished, Lost}
 use Rattle.report_text.specs.Load.{load_report}
 use Rattle.report_text.specs.RunReport.{report_of, log_text_of}
 use Rattle.cluster_run.specs.declared.life.Ran.{Ran}
@@ -90,18 +92,23 @@ load_text size kernel r = load_report size kernel
 abbrev pub IsTextOf : System → (print : Kernel → Run → List ℕ) → Run → (text : List ℕ) → Type 0
 IsTextOf system print r text = (kernel : Kernel) × (plain_run system r.items ≡ Some kernel) × (text ≡ print kernel r)
 
--- The run is what its system and its script allow, and came to its end; its clusters did its work. Its schedule leads to a kernel in which nothing
--- can move, and of this kernel and of the run the text tells.
+-- a run that came to its end has the status 0, and one that a loss ended which is not covered has the status 7
+abbrev pub status_of : Ended → ℕ
+status_of Finished = 0
+status_of (Lost cluster at) = 7
+
+-- The run is what its system and its script allow, and its clusters did its work. Its schedule leads to a kernel, in which nothing can move where the run
+-- came to its end, and of this kernel and of the run the text tells.
 pub record TellsOf (system : System) (script : List ScriptWord) (print : Kernel → Run → List ℕ) (text : List ℕ) (ran : Ran) : Type 0 where
   pub completed : IsCompleted system script ran
   pub kernel : Kernel
   pub scheduled : plain_run system (ran.run).items ≡ Some kernel
-  pub still : is_still kernel ≡ true
+  pub still : (ran.run).ended ≡ Finished → is_still kernel ≡ true
   pub told : text ≡ print kernel ran.run
 
 abbrev pub TellsOfRun : System → List ScriptWord → (print : Kernel → Run → List ℕ) → (status : ℕ) → (text : List ℕ) → Option Ran → Type 0
 TellsOfRun system script print status text None = ⊥
-TellsOfRun system script print status text (Some ran) = (status ≡ 0) × TellsOf system script print text ran
+TellsOfRun system script print status text (Some ran) = (status ≡ status_of (ran.run).ended) × TellsOf system script print text ran
 
 -- the system has the cluster of each word of the script
 abbrev pub has_clusters_of : List ScriptWord → System → Bool

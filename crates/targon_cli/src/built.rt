@@ -1,6 +1,5 @@
 //! The commands that are built, by their words.
 ghost use Rattle.std.specs.Prelude.{◌≡◌, IfOk, true};
-ghost use Rattle.std.specs.List.{list_all};
 ghost use Rattle.cert_sched.specs.Built.{is_built_word as is_built_word_of};
 ghost use Rattle.targon_cli.specs.Built.{built, built_command_of, is_built as is_built_of, is_built_script as is_built_script_of, is_ready};
 
@@ -10,9 +9,8 @@ use std::alloc::Global;
 use t32_base::lists::Text;
 use t32_base::streams::NoMemory;
 
-/// The command that the words are, where it is built: `sim`, `run` and `load` without `--text` with at most one script
-/// word, which loses a cluster at a place of the log, before one of its kernel steps, or by a call of its
-/// page disk.
+/// The command that the words are, where it is built: `sim`, `run` and `load` without `--text` with script words that
+/// lose clusters at a place of the log, before one of their kernel steps, or by a call of their page disk.
 pub fn built_command(alloc: Global, words: &[Text]) -> Result<Option<Command>, NoMemory>
     ensures command { IfOk result (λ c. c ≡ built_command_of words.now) }
     ensures ready { IfOk result (λ c. is_ready c ≡ true) }
@@ -48,13 +46,7 @@ fn is_built(command: &Command) -> bool
 fn is_built_script(script: &[ScriptWord]) -> bool
     ensures { result ≡ is_built_script_of script.now }
 {
-    script.len() <= 1 && are_built_words(script)
-}
-
-fn are_built_words(words: &[ScriptWord]) -> bool
-    ensures { result ≡ list_all is_built_word_of words.now }
-{
-    words.iter().all(|word| is_built_word(word))
+    script.iter().all(|word| is_built_word(word))
 }
 
 fn is_built_word(word: &ScriptWord) -> bool

@@ -8,12 +8,12 @@ ghost use Rattle.sys_text.specs.Valid.{is_system};
 ghost use Rattle.targon_cli.specs.Built.{is_built_script};
 ghost use Rattle.targon_cli.specs.Explained.{ExplainsLoad};
 ghost use Rattle.targon_cli.specs.Noted.{MayNoteRun, NotesRan};
-ghost use Rattle.targon_cli.specs.Reply.{IsTextOf, MakesLoad, load_text};
+ghost use Rattle.targon_cli.specs.Reply.{IsTextOf, MakesLoad, load_text, status_of};
 ghost use Rattle.workload.specs.Ring.{is_size, workload as workload_of};
 
 use crate::notes::run_notes;
 use crate::reply::{DONE, Reply, no_cluster};
-use crate::runs::{Read, with_clusters};
+use crate::runs::{Read, status_of, with_clusters};
 use cert_sched::script::{Script, ScriptWord};
 use cluster_run::life::Ran;
 use cluster_run::running::run;
@@ -104,13 +104,13 @@ fn tell(
     requires valid { is_system system.now ≡ true }
     requires legal { IsLegalBy MayStand system.now run.now.log }
     requires items { run.now.items ≡ schedule_of system.now run.now.log }
-    ensures done { IfOk result (λ r. (r.status ≡ 0) × (r.why ≡ None)) }
+    ensures done { IfOk result (λ r. (r.status ≡ status_of run.now.ended) × (r.why ≡ None)) }
     ensures text { IfOk result (λ r. IsTextOf system.now (load_text size) run.now r.text) }
     ensures notes { IfOk result (λ r. MayNoteRun [] system.now script.now run.now r.notes) }
 {
     let text = load_report(alloc, system, run, size)?;
     Ok(Reply {
-        status: DONE,
+        status: status_of(run.ended),
         text,
         why: None,
         notes: run_notes(alloc, b"", system, script, run),

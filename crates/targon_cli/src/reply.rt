@@ -45,7 +45,10 @@ pub const REFUSED: u8 = 2;
 /// The status where an item of the schedule cannot be read or applied.
 pub const BAD_ITEM: u8 = 3;
 
-/// The status of a command, the text that is to be written, and why, where the status is not 0; and what is noted beside
+/// The status where the run was ended by a loss that is not covered.
+pub const LOST: u8 = 7;
+
+/// The status of a command, the text that is to be written, and why, where something is refused; and what is noted beside
 /// that for a person.
 #[derive(Drop)]
 pub struct Reply {

@@ -3,24 +3,25 @@ ghost use Rattle.std.specs.Prelude.{ℕ, ◌≡◌, ◌<◌, ◌^◌, IfOk, List
 ghost use Rattle.cert_sched.specs.Built.{MayStand};
 ghost use Rattle.cert_sched.specs.Legal.{IsLegalBy};
 ghost use Rattle.cert_sched.specs.Schedule.{schedule_of};
-ghost use Rattle.cert_sched.specs.Scripted.{is_finished};
 ghost use Rattle.sys_text.specs.Reading.{reading_of as system_reading};
 ghost use Rattle.sys_text.specs.Valid.{is_system};
+ghost use Rattle.report_text.specs.Good.{EndsAs};
+ghost use Rattle.report_text.specs.RunReport.{report_of};
 ghost use Rattle.text_parts.specs.Lines.{lines_of};
 ghost use Rattle.targon_cli.specs.Built.{is_built_script};
 ghost use Rattle.targon_cli.specs.Explained.{ExplainsRead, ExplainsRun};
 ghost use Rattle.targon_cli.specs.Noted.{MayNoteRun, NotesRead, NotesRun};
-ghost use Rattle.targon_cli.specs.Reply.{IsRead, IsTextOf, MakesRun, run_text as run_text_of};
+ghost use Rattle.targon_cli.specs.Reply.{IsRead, IsTextOf, MakesRun, run_text as run_text_of, status_of};
 
 use crate::notes::run_notes;
-use crate::reply::{DONE, Reply, no_cluster, refused_system};
+use crate::reply::{DONE, LOST, Reply, no_cluster, refused_system};
 use cert_sched::script::{Script, ScriptWord};
 use cluster_run::life::Ran;
 use cluster_run::running::run;
 use cluster_run::sim::sim;
 use command_words::allowed;
-use report_text::run::Run;
-use report_text::whole::{finished_report, log_text};
+use report_text::run::{Ended, Run};
+use report_text::whole::{finished_report, log_text, replayed_report};
 use std::alloc::Global;
 use std::sync::{Arc, Wait};
 use std::thread::Threads;
@@ -116,7 +117,7 @@ pub fn with_clusters(alloc: Global, system: System, script: &Script) -> Result<R
     }
 }
 
-// The reply that tells of a run that came to its end, of the system of a text.
+// The reply that tells of a run of the system of a text.
 fn tell(
     alloc: Global,
     bytes: &[u8],
@@ -128,31 +129,55 @@ fn tell(
     requires valid { is_system system.now ≡ true }
     requires legal { IsLegalBy MayStand system.now run.now.log }
     requires items { run.now.items ≡ schedule_of system.now run.now.log }
-    requires finished { is_finished run.now.log ≡ true }
-    ensures done { IfOk result (λ r. (r.status ≡ 0) × (r.why ≡ None)) }
+    requires ended { EndsAs system.now run.now.log run.now.ended }
+    ensures done { IfOk result (λ r. (r.status ≡ status_of run.now.ended) × (r.why ≡ None)) }
     ensures text { IfOk result (λ r. IsTextOf system.now (run_text_of log) run.now r.text) }
     ensures notes { IfOk result (λ r. MayNoteRun (lines_of bytes.now) system.now script.now run.now r.notes) }
 {
     let text = run_text(alloc, system, run, log)?;
     Ok(Reply {
-        status: DONE,
+        status: status_of(run.ended),
         text,
         why: None,
         notes: run_notes(alloc, bytes, system, script, run),
     })
 }
 
-// What is written of a run that came to its end, by its log.
+/// The status of a run: 0 where it came to its end, and 7 where a loss was not covered.
+pub fn status_of(ended: Ended) -> u8
+    ensures { result ≡ status_of ended }
+{
+    match ended {
+        Ended::Finished => DONE,
+        Ended::Lost { .. } => LOST,
+    }
+}
+
+// What is written of a run, by its log.
 fn run_text(alloc: Global, system: &System, run: &Run, log: bool) -> Result<Text, NoMemory>
     requires valid { is_system system.now ≡ true }
     requires legal { IsLegalBy MayStand system.now run.now.log }
     requires items { run.now.items ≡ schedule_of system.now run.now.log }
-    requires finished { is_finished run.now.log ≡ true }
+    requires ended { EndsAs system.now run.now.log run.now.ended }
     ensures { IfOk result (λ text. IsTextOf system.now (run_text_of log) run.now text) }
 {
-    let mut text = finished_report(alloc, system, run)?;
+    let mut text = report(alloc, system, run)?;
     if log {
         text.extend(log_text(alloc, run.log.as_slice())?.as_slice())?;
     }
     Ok(text)
+}
+
+// The report of a run. Where nothing can move any more its log tells all; where a loss was not covered its schedule is run again.
+fn report(alloc: Global, system: &System, run: &Run) -> Result<Text, NoMemory>
+    requires valid { is_system system.now ≡ true }
+    requires legal { IsLegalBy MayStand system.now run.now.log }
+    requires items { run.now.items ≡ schedule_of system.now run.now.log }
+    requires ended { EndsAs system.now run.now.log run.now.ended }
+    ensures { IfOk result (λ text. IsTextOf system.now report_of run.now text) }
+{
+    match run.ended {
+        Ended::Finished => finished_report(alloc, system, run),
+        Ended::Lost { .. } => replayed_report(alloc, system, run),
+    }
 }

@@ -39,7 +39,7 @@ const TOO_LONG: u8 = 8;
 /// where a command was carried out, 1 where the words are no command that is built, or name a cluster that the
 /// system lacks, 2 where the command refuses its input, 3 where an item of the schedule cannot be read
 /// or applied, 4 where the input could not be read, 5 where the output could not be written, 6 where memory was
-/// refused and nothing was written, and 8 where the input is longer than is read. After 0 `ran` is the run that `sim`, `run` or `load` made, and after 5 the
+/// refused and nothing was written, 7 where the run was ended by a loss that is not covered, and 8 where the input is longer than is read. After 0 and 7 `ran` is the run that `sim`, `run` or `load` made, and after 5 the
 /// run whose report was being written; else it is none. For `run` and `load` each cluster has a thread, which calls the
 /// gate before it tries to send; it may wait, so that no return is promised.
 pub fn targon<R: Threads + Wait + Sync, S: Source, K: Sink, G: Gate + Sync>(
@@ -62,7 +62,7 @@ pub fn targon<R: Threads + Wait + Sync, S: Source, K: Sink, G: Gate + Sync>(
     targon_explained(rt, alloc, words, input, output, gate, ran, &mut why)
 }
 
-/// The same, and `why` is afterwards why the program ends with its status: `None` exactly after 0. After a refusal it
+/// The same, and `why` is afterwards why the program ends with its status: `None` exactly after 0 and 7. After a refusal it
 /// has the line or the item as it stands, and less where memory was refused while this was made.
 pub fn targon_explained<R: Threads + Wait + Sync, S: Source, K: Sink, G: Gate + Sync>(
     rt: &R,

@@ -10,7 +10,7 @@ use Rattle.word_faults.specs.declared.fault.Name.TheVariants as names
 use Rattle.word_faults.specs.declared.fault.WordFault.{WordFault}
 use Rattle.word_faults.specs.declared.seen.Form.TheVariants as forms
 use Rattle.word_faults.specs.declared.seen.Reason.{Reason}
-use Rattle.word_faults.specs.declared.seen.Reason.TheVariants.{NoText, NoCommand, TakesNone, NoOption, Twice, NoPick, LacksSize, NoSize, NoScriptWord, SecondLoss, SecondReturn, NotBuilt}
+use Rattle.word_faults.specs.declared.seen.Reason.TheVariants.{NoText, NoCommand, TakesNone, NoOption, Twice, NoPick, LacksSize, NoSize, NoScriptWord, TooMany, NotBuilt}
 use Rattle.word_faults.specs.declared.seen.Seen.{Seen}
 use Rattle.word_faults.specs.Seen.{missing, nothing_of, with_word}
 
@@ -76,8 +76,7 @@ reason_text NoPick = codes "--pick takes a number, 0 to 2147483647\n"
 reason_text LacksSize = codes "load takes its size, 1 to 1000, before any other word that is no option\n"
 reason_text NoSize = codes "the size of load is a number, 1 to 1000\n"
 reason_text NoScriptWord = codes "it is none of crash:K@bus:N, crash:K@step:N, disk:K@N and return:K@bus:N, where K and N are 1 to 10 digits and N is at most 4294967295\n"
-reason_text SecondLoss = codes "a second word that loses a cluster is not built yet\n"
-reason_text SecondReturn = codes "a second word by which a cluster returns is not built yet\n"
+reason_text TooMany = codes "a script has 32 words at most\n"
 reason_text NotBuilt = codes "it is read, but not built yet\n"
 
 abbrev pub fault_text : List (List ℕ) → WordFault → List ℕ

@@ -1,5 +1,5 @@
 -- What the words of a command have given so far, and whether one more may stand behind them.
-use Rattle.std.specs.Prelude.{ℕ, ◌&&◌, Bool, true, false, not, List, codes, Option, Some, None, Result, Ok, Err, nat_le, nat_lt, if◌then◌else◌}
+use Rattle.std.specs.Prelude.{ℕ, ◌+◌, ◌&&◌, Bool, true, false, not, List, codes, Option, Some, None, Result, Ok, Err, nat_le, nat_lt, if◌then◌else◌}
 use Rattle.std.specs.Str.{bytes_eq}
 use Rattle.text_parts.specs.Numbers.{number_of}
 use Rattle.cert_sched.specs.declared.script.ScriptWord.{ScriptWord}
@@ -10,10 +10,10 @@ use Rattle.word_faults.specs.declared.seen.Form.{Form}
 use Rattle.word_faults.specs.declared.seen.Form.TheVariants.{Sim, Run, Load}
 use Rattle.word_faults.specs.declared.seen.Seen.{Seen}
 use Rattle.word_faults.specs.declared.seen.Reason.{Reason}
-use Rattle.word_faults.specs.declared.seen.Reason.TheVariants.{NoOption, Twice, NoPick, LacksSize, NoSize, NoScriptWord, SecondLoss, SecondReturn, NotBuilt}
+use Rattle.word_faults.specs.declared.seen.Reason.TheVariants.{NoOption, Twice, NoPick, LacksSize, NoSize, NoScriptWord, TooMany, NotBuilt}
 
 abbrev pub nothing_of : Form → Seen
-nothing_of form = record { form = form; flag = false; pick = false; awaits = false; size = false; loss = false; back = false; ended = false }
+nothing_of form = record { form = form; flag = false; pick = false; awaits = false; size = false; words = 0; ended = false }
 
 abbrev pub flag_of : Form → List ℕ
 flag_of Sim = codes "--log"
@@ -69,17 +69,18 @@ with_option seen word =
     else if bytes_eq word (codes "--pick") then with_pick seen true
     else with_pick_in seen word
 
-abbrev pub with_loss : Seen → Result Seen Reason
-with_loss seen = if seen.loss then Err SecondLoss else Ok (record seen { loss = true })
+-- a script word more: a script has 32 at most
+abbrev pub with_one : Seen → Result Seen Reason
+with_one seen = if nat_lt seen.words 32 then Ok (record seen { words = seen.words + 1 }) else Err TooMany
 
 -- a return is built where nothing is run
 abbrev pub with_return : Seen → Result Seen Reason
-with_return seen = if not (prints_alone seen.form) then Err NotBuilt else if seen.back then Err SecondReturn else Ok (record seen { back = true })
+with_return seen = if prints_alone seen.form then with_one seen else Err NotBuilt
 
 abbrev pub with_word_of : Seen → Option ScriptWord → Result Seen Reason
 with_word_of seen None = Err NoScriptWord
 with_word_of seen (Some (ReturnAt k place)) = with_return seen
-with_word_of seen (Some word) = with_loss seen
+with_word_of seen (Some word) = with_one seen
 
 abbrev pub with_script_word : Seen → List ℕ → Result Seen Reason
 with_script_word seen word = if lacks_size seen then Err LacksSize else with_word_of seen (script_word word)

@@ -64,8 +64,7 @@ fn reason_said(reason: Reason) -> &'static str
         Reason::NoScriptWord => {
             "it is none of crash:K@bus:N, crash:K@step:N, disk:K@N and return:K@bus:N, where K and N are 1 to 10 digits and N is at most 4294967295\n"
         }
-        Reason::SecondLoss => "a second word that loses a cluster is not built yet\n",
-        Reason::SecondReturn => "a second word by which a cluster returns is not built yet\n",
+        Reason::TooMany => "a script has 32 words at most\n",
         Reason::NotBuilt => "it is read, but not built yet\n",
     }
 }

@@ -2,11 +2,14 @@
 ghost use Rattle.std.specs.Prelude.{◌≡◌};
 ghost use Rattle.text_parts.specs.Numbers.{number_of};
 ghost use Rattle.command_words.specs.Options.{begins_with_hyphen as begins_with_hyphen_of};
-ghost use Rattle.word_faults.specs.Seen.{flag_of, is_below, is_sim, lacks_size, missing, nothing_of, prints_alone, with_flag, with_loss, with_option, with_pick, with_pick_in, with_pick_value, with_plain, with_return, with_script_word, with_word};
+ghost use Rattle.word_faults.specs.Seen.{flag_of, is_below, is_sim, lacks_size, missing, nothing_of, prints_alone, with_flag, with_one, with_option, with_pick, with_pick_in, with_pick_value, with_plain, with_return, with_script_word, with_word};
 
 use cert_sched::script::ScriptWord;
 use command_words::script_word;
 use text_parts::number;
+
+// The most words of a script.
+const MOST_WORDS: u8 = 32;
 
 /// A command that takes words. `prints` says that `--text` stands among them before any `--`.
 #[derive(Clone, Copy, PartialEq, Eq, Debug)]
@@ -16,8 +19,8 @@ pub enum Form {
     Load { prints: bool },
 }
 
-/// What the words of a command have given so far: its flag, `--pick`, whether its value is next, the size, a word that loses a
-/// cluster, one by which a cluster returns, and `--`.
+/// What the words of a command have given so far: its flag, `--pick`, whether its value is next, the size, how many script words,
+/// and `--`.
 #[derive(Clone, Copy, PartialEq, Eq, Debug)]
 pub struct Seen {
     pub form: Form,
@@ -25,8 +28,7 @@ pub struct Seen {
     pub pick: bool,
     pub awaits: bool,
     pub size: bool,
-    pub loss: bool,
-    pub back: bool,
+    pub words: u8,
     pub ended: bool,
 }
 
@@ -42,8 +44,7 @@ pub enum Reason {
     LacksSize,
     NoSize,
     NoScriptWord,
-    SecondLoss,
-    SecondReturn,
+    TooMany,
     NotBuilt,
 }
 
@@ -58,8 +59,7 @@ impl Seen {
             pick: false,
             awaits: false,
             size: false,
-            loss: false,
-            back: false,
+            words: 0,
             ended: false,
         }
     }
@@ -184,29 +184,31 @@ impl Seen {
         match script_word(word) {
             None => Err(Reason::NoScriptWord),
             Some(ScriptWord::ReturnAt { .. }) => self.with_return(),
-            Some(_) => self.with_loss(),
+            Some(_) => self.with_one(),
         }
     }
 
-    fn with_loss(self) -> Result<Seen, Reason>
-        ensures { result ≡ with_loss self }
+    // A script word more.
+    fn with_one(self) -> Result<Seen, Reason>
+        ensures { result ≡ with_one self }
     {
-        if self.loss {
-            Err(Reason::SecondLoss)
+        if self.words < MOST_WORDS {
+            Ok(Seen {
+                words: self.words + 1,
+                ..self
+            })
         } else {
-            Ok(Seen { loss: true, ..self })
+            Err(Reason::TooMany)
         }
     }
 
     fn with_return(self) -> Result<Seen, Reason>
         ensures { result ≡ with_return self }
     {
-        if !self.form.prints() {
-            Err(Reason::NotBuilt)
-        } else if self.back {
-            Err(Reason::SecondReturn)
+        if self.form.prints() {
+            self.with_one()
         } else {
-            Ok(Seen { back: true, ..self })
+            Err(Reason::NotBuilt)
         }
     }
 

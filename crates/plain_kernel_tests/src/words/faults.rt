@@ -16,7 +16,7 @@ fn assert_noted(alloc: Global, line: &[u8], wanted: &str) -> Result<(), Fail> {
     same("what is noted", &(line, shown), &(line, wanted.as_bytes()))
 }
 
-static NOTED: [(&[u8], &str); 14] = [
+static NOTED: [(&[u8], &str); 13] = [
     (b"", ""),
     (b"--help", ""),
     (b"sim --log --pick 3 crash:1@bus:9", ""),
@@ -40,10 +40,6 @@ static NOTED: [(&[u8], &str); 14] = [
     (
         b"sim --pick -- 1",
         "t32: word 3: --: --pick takes a number, 0 to 2147483647\n",
-    ),
-    (
-        b"sim crash:0@bus:0 disk:1@0",
-        "t32: word 3: disk:1@0: a second word that loses a cluster is not built yet\n",
     ),
     (
         b"run return:0@bus:1",

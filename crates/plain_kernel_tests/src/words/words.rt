@@ -38,7 +38,7 @@ pub fn words(alloc: Global, line: &[u8]) -> Result<Vec<Text>, NoMemory> {
     Ok(words)
 }
 
-fn command(alloc: Global, line: &[u8]) -> Result<Option<Command>, NoMemory> {
+pub fn command(alloc: Global, line: &[u8]) -> Result<Option<Command>, NoMemory> {
     let words = words(alloc, line)?;
     command_of(alloc, words.as_slice())
 }
@@ -255,6 +255,11 @@ const RETURN_AT: ScriptWord = ScriptWord::ReturnAt {
     place: 9,
 };
 
+const LATER_CRASH: ScriptWord = ScriptWord::CrashAt {
+    k: ClusterNo(3),
+    place: 10,
+};
+
 const LATER_RETURN: ScriptWord = ScriptWord::ReturnAt {
     k: ClusterNo(3),
     place: 10,
@@ -308,10 +313,26 @@ static SCRIPTS: [(&[u8], Read, &[ScriptWord]); 53] = [
         Read::Run(false),
         &[LATER_RETURN, DISK_AT],
     ),
-    (b"sim crash:2@bus:9 crash:3@bus:10", Read::Usage, &[]),
-    (b"sim crash:2@bus:9 -- crash:2@step:9", Read::Usage, &[]),
-    (b"sim crash:2@bus:9 disk:2@9", Read::Usage, &[]),
-    (b"run return:2@bus:9 return:2@bus:9", Read::Usage, &[]),
+    (
+        b"sim crash:2@bus:9 crash:3@bus:10",
+        Read::Sim(0, false),
+        &[CRASH_AT, LATER_CRASH],
+    ),
+    (
+        b"sim crash:2@bus:9 -- crash:2@step:9",
+        Read::Sim(0, false),
+        &[CRASH_AT, CRASH_STEP],
+    ),
+    (
+        b"sim crash:2@bus:9 disk:2@9",
+        Read::Sim(0, false),
+        &[CRASH_AT, DISK_AT],
+    ),
+    (
+        b"run return:2@bus:9 return:2@bus:9",
+        Read::Run(false),
+        &[RETURN_AT, RETURN_AT],
+    ),
     (b"sim crash:2@bus:9 crash", Read::Usage, &[]),
     (b"sim crash:2@bus:9 plain", Read::Usage, &[]),
     (

@@ -69,7 +69,7 @@ static WORDS: [(&[u8], u8); 25] = [
     (b"run crash:0@bus:0 --", 0),
     (b"sim crash:0@step:0", 0),
     (b"run crash:1@step:2", 0),
-    (b"sim crash:0@bus:0 crash:1@bus:1", 1),
+    (b"sim crash:0@bus:0 crash:1@bus:1", 7),
     (b"sim disk:0@0", 0),
     (b"sim disk:0", 1),
     (b"run return:0@bus:0", 1),

@@ -208,10 +208,20 @@ static REFUSED: [(&[u8], &str, u8, &str); 9] = [
     (b"sim crash:2@step:1", HI, 1, "t32: usage\n"),
     (b"sim crash:300@bus:0", HI, 1, "t32: usage\n"),
     (b"sim crash:2@bus:0", CUT, 2, "t32: system line 6 rule 10\n"),
-    (b"sim crash:0@bus:0 crash:1@bus:1", CUT, 1, "t32: usage\n"),
+    (
+        b"sim crash:0@bus:0 crash:1@bus:1",
+        CUT,
+        2,
+        "t32: system line 6 rule 10\n",
+    ),
     (b"sim crash:0@bus:1 return:0@bus:4", CUT, 1, "t32: usage\n"),
     (b"sim disk:2@0", HI, 1, "t32: usage\n"),
-    (b"sim disk:0@0 disk:1@0", CUT, 1, "t32: usage\n"),
+    (
+        b"sim disk:0@0 disk:1@4 crash:2@bus:0",
+        HI,
+        1,
+        "t32: usage\n",
+    ),
 ];
 
 #[test]

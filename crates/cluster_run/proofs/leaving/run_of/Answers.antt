@@ -5,7 +5,10 @@ use Rattle.bus_msg.specs.declared.entry.Entry.{Entry}
 use Rattle.cert_sched.specs.Legal.{IsLegalBy, Stands}
 use Rattle.cert_sched.specs.Counted.{counted}
 use Rattle.log_laws.proofs.records.Standing.{built_stands}
+use Rattle.report_text.specs.Good.{EndsAs}
+use Rattle.cluster_run.proofs.Ended.{ends_finished}
 use Rattle.cluster_run.proofs.GoodRun.{good_run}
+use Rattle.cluster_run.proofs.Worded.{spread_closes}
 use Rattle.cluster_run.proofs.leaving.run_of.Goals as goal
 
 pub counts_of-requires-clause-valid : goal.counts_of-requires-clause-valid
@@ -24,5 +27,13 @@ returns-clause-good c =
     let counts = c.in_ok-counts.counts in
     let log : c.as_slice.result.now ≡ b.log = c.as_slice.ensures ∙ c.in_ok-log.ensures.log in
     let count : counts.withheld ≡ counted b.system b.log = c.in_ok-counts.ensures.withheld ∙ (λ i. counted (sym c.requires.system i) (log i)) in
-    good_run b c.args.clusters.now c.in_ok-log.log c.in_ok-log.items counts.steps counts.disk_calls counts.withheld lawful.legal lawful.scripted c.requires.finished c.requires.left c.in_ok-log.ensures.log c.in_ok-log.ensures.items
+    let ends : EndsAs b.system b.log c.ended_of-ended.result = c.ended_of-ended.ensures in
+    good_run b c.args.clusters.now c.in_ok-log.log c.in_ok-log.items counts.steps counts.disk_calls counts.withheld c.ended_of-ended.result lawful.legal lawful.scripted ends c.requires.left c.in_ok-log.ensures.log c.in_ok-log.ensures.items
     c.in_ok-counts.ensures.steps c.in_ok-counts.ensures.calls count
+
+pub returns-clause-spread : goal.returns-clause-spread
+returns-clause-spread c spread =
+    let b = c.args.bus in
+    let lawful = c.in_ok-log.ensures.lawful in
+    let ends : EndsAs b.system b.log c.ended_of-ended.result = c.ended_of-ended.ensures in
+    ends_finished b.system b.log c.ended_of-ended.result lawful.legal (λ over. spread_closes b c.requires.left.valid lawful spread over) ends

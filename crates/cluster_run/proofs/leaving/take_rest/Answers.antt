@@ -4,6 +4,7 @@ use Rattle.bus_order.specs.Script.{off_at}
 use Rattle.bus_order.specs.View.{BusView}
 use Rattle.script_laws.proofs.OffLosses.{lost_off}
 use Rattle.cluster_run.proofs.AtTheEnd.{member_caught, rest_caught, still_along}
+use Rattle.cluster_run.proofs.CutOff.{finished_not_ended, whole_living}
 use Rattle.cluster_run.proofs.leaving.take_rest.Goals as goal
 
 pub returns-then-is_some-clause-caught : goal.returns-then-is_some-clause-caught
@@ -18,7 +19,7 @@ take_unnamed-requires-clause-shown c =
     let b : BusView = c.args.bus.now in
     let v = c.args.cluster.now in
     let on : is_some (off_at b.log v.number) ≡ false = ap (λ k. is_some (off_at b.log k)) (sym c.number.ensures) ∙ ap is_some (sym c.off_at.ensures.off) ∙ sym c.is_some.ensures ∙ c.if-is_some.false in
-    record { shows = tt; from_there = omega arith; sound = c.requires.sound; along = still_along b v (lost_off b.system b.log v.number c.requires.sound.legal ∙ on) (none_is (v.failed) (ap is_some (sym c.failed.ensures) ∙ sym c.is_some-2.ensures ∙ c.if-is_some-2.false)) c.requires.along }
+    record { shows = tt; from_there = omega arith; sound = c.requires.sound; along = still_along b v (whole_living v.number b.system b.log (lost_off b.system b.log v.number c.requires.sound.legal ∙ on) (finished_not_ended b.system b.log c.requires.finished)) (none_is (v.failed) (ap is_some (sym c.failed.ensures) ∙ sym c.is_some-2.ensures ∙ c.if-is_some-2.false)) c.requires.along }
 
 pub returns-clause-caught : goal.returns-clause-caught
 returns-clause-caught c =

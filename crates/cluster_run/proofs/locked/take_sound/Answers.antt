@@ -1,4 +1,4 @@
-use Rattle.std.proofs.Common.{◌≡◌, ◌∙◌, ap, arith, length}
+use Rattle.std.proofs.Common.{◌≡◌, ◌∙◌, ap}
 use Rattle.std.specs.List.{list_all}
 use Rattle.sys_text.specs.Valid.{is_system}
 use Rattle.cert_sched.specs.Built.{is_built_word}
@@ -18,8 +18,7 @@ returns-clause-sound g c =
     let origin : origin_of b ≡ made_of v.system from.script = same_from (origin_of b) (made_of v.system from.script) (seat_origin c.args.seat.now) c.take.ensures.origin from.from in
     let system : b.system ≡ v.system = ap (λ (o : Origin). o.system) origin in
     let script : b.script ≡ from.script = ap (λ (o : Origin). o.script) origin in
-    let few = from.word.one in
-    sound_of b (ap is_system system ∙ c.requires.valid) (ap (list_all is_built_word) script ∙ from.word.words) (let words = ap length script in omega (arith, words, few)) c.take.ensures.lawful
+    sound_of b (ap is_system system ∙ c.requires.valid) (ap (list_all is_built_word) script ∙ from.words) c.take.ensures.lawful
 
 pub returns-clause-system : goal.returns-clause-system
 returns-clause-system g c =

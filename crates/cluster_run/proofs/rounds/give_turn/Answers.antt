@@ -9,6 +9,7 @@ use Rattle.bus_order.specs.View.{BusView}
 use Rattle.cluster_core.specs.View.{ClusterView}
 use Rattle.cluster_run.specs.Along.{IsAlong, IsDue, IsFailed}
 use Rattle.cluster_run.proofs.AtTheEnd.{stands_there, still_due}
+use Rattle.cluster_run.proofs.CutOff.{open_not_ended, whole_living}
 use Rattle.cluster_run.proofs.Together.{all_after, one_member}
 use Rattle.cluster_run.specs.Progress.{remaining}
 use Rattle.cluster_run.proofs.Progressing.{done_given, turn_gets_on, turn_lasts}
@@ -29,7 +30,7 @@ take_turn-requires-clause-due c =
     let v = get_or c.args.clusters.now c.args.number c.index-clusters-number-2.result in
     let same : c.number.result.0 ≡ v.number.0 = ap (λ (k : ClusterNo). k.0) c.number.ensures ∙ first.number ∙ sym member.number in
     let lives : was_lost_in b.log v.number ≡ false = ap (λ k. was_lost_in b.log (cluster_no k)) (sym same) ∙ parts.1 in
-    due_here (still_due b v lives member.along)
+    due_here (still_due b v (whole_living v.number b.system b.log lives (open_not_ended b.system b.log parts.0)) member.along)
   where
     due_here : {v : ClusterView} → IsAlong c.args.bus.now v ⊎ IsFailed c.args.bus.now v → IsDue ⊤ 0 c.args.bus.now v
     due_here (inl along) = inl (record { shows = tt; from_there = omega arith; sound = c.requires.owned.sound; along = along })

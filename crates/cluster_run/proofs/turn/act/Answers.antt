@@ -85,7 +85,7 @@ returns-in-Ok-Queued-clause-own g c =
     where_ok c.send.result (a ≡ true → GoesOwn b → SendsAll b after worked new) (a ≡ true → GoesOwn b → TurnsOwn b after v new)
     (λ holds alone own.
     let sends = holds alone own in
-    sends_turn b b after v v worked new refl (none_taken b v c.requires.shown.along) place.number (sends.some queued) sends.sends sends.empty)
+    sends_turn b b after v v worked new refl (none_taken b v c.requires.shown.along) place.number (sends.some queued) sends)
     c.send.ensures.own
 
 pub returns-in_ok-tell-in-Ok-Rests-clause-own : goal.returns-in_ok-tell-in-Ok-Rests-clause-own

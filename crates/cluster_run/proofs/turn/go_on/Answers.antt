@@ -59,7 +59,7 @@ act-requires-clause-seen g c =
     let taken = c.in_ok-catch_up.ensures.taken c.if-branch.false in
     let parts = or_parts (is_over mid.system mid.log) (was_lost_in mid.log c.number.result) (sym c.has_ended.ensures ∙ c.if-has_ended.false) in
     let lives : was_lost_in mid.log v.number ≡ false = subst (λ k. was_lost_in mid.log k ≡ false) c.number.ensures parts.1 in
-    taken.caught ∙ upto_all mid v.number (taken.shown).sound parts.0 lives
+    taken.caught ∙ upto_all mid v.number parts.0 lives
 
 pub returns-clause-own : goal.returns-clause-own
 returns-clause-own g c =

@@ -9,9 +9,9 @@ use Rattle.cluster_run.proofs.turn.take_unnamed.Goals as goal
 
 pub entries-init : goal.entries-init
 entries-init g c =
-    let log = (g.P.Port.bus c.args.port.now).log in
+    let b = g.P.Port.bus c.args.port.now in
     let low = along_upto (g.P.Port.bus c.args.port.now) c.args.cluster.now c.requires.shown.sound c.requires.shown.along in
-    let end : c.upto-upto.result ≡ upto c.args.cluster.now.number log = c.upto-upto.ensures ∙ ap (λ (k : ClusterNo). upto k log) c.number.ensures in
+    let end : c.upto-upto.result ≡ upto c.args.cluster.now.number b.system b.log = c.upto-upto.ensures ∙ ap (λ (k : ClusterNo). upto k b.system b.log) c.number.ensures in
     record {
       taken = none_taken (g.P.Port.bus c.args.port.now) c.args.cluster.now c.requires.shown.along;
       upto = omega (arith, low, end);
@@ -25,16 +25,16 @@ is_named-requires-clause-unfailed g c = c.entries.invariant.taken.along.beside.u
 
 pub take_next-requires-clause-ready : goal.take_next-requires-clause-ready
 take_next-requires-clause-ready g c =
-    let log = (g.P.Port.bus c.args.port.now).log in
-    let end : c.upto-upto.result ≡ upto c.entries.cluster.number log = c.upto-upto.ensures ∙ ap (λ (k : ClusterNo). upto k log) (c.number.ensures ∙ sym c.entries.invariant.taken.same.number) in
-    let within : c.entries.cluster.cursor < upto c.entries.cluster.number log = omega (arith, c.cursor.ensures, end, c.entries-test.true) in
+    let b = g.P.Port.bus c.args.port.now in
+    let end : c.upto-upto.result ≡ upto c.entries.cluster.number b.system b.log = c.upto-upto.ensures ∙ ap (λ (k : ClusterNo). upto k b.system b.log) (c.number.ensures ∙ sym c.entries.invariant.taken.same.number) in
+    let within : c.entries.cluster.cursor < upto c.entries.cluster.number b.system b.log = omega (arith, c.cursor.ensures, end, c.entries-test.true) in
     ready_next (g.P.Port.bus c.args.port.now) c.entries.cluster c.requires.shown.sound c.entries.invariant.taken.along within
 
 pub entries-preserved : goal.entries-preserved
 entries-preserved g c =
-    let log = (g.P.Port.bus c.args.port.now).log in
-    let end : c.upto-upto.result ≡ upto c.entries.cluster.number log = c.upto-upto.ensures ∙ ap (λ (k : ClusterNo). upto k log) (c.number.ensures ∙ sym c.entries.invariant.taken.same.number) in
-    let within : c.entries.cluster.cursor < upto c.entries.cluster.number log = omega (arith, c.cursor.ensures, end, c.entries-test.true) in
+    let b = g.P.Port.bus c.args.port.now in
+    let end : c.upto-upto.result ≡ upto c.entries.cluster.number b.system b.log = c.upto-upto.ensures ∙ ap (λ (k : ClusterNo). upto k b.system b.log) (c.number.ensures ∙ sym c.entries.invariant.taken.same.number) in
+    let within : c.entries.cluster.cursor < upto c.entries.cluster.number b.system b.log = omega (arith, c.cursor.ensures, end, c.entries-test.true) in
     let next = c.in_ok-take_next.ensures.taken c.if-branch.false in
     let one : c.take_next.new.cluster.cursor ≡ c.entries.cluster.cursor + 1 = ap (λ (v : ClusterView). v.cursor) next.taken in
     record {
@@ -44,8 +44,8 @@ entries-preserved g c =
 
 pub returns-clause-caught : goal.returns-clause-caught
 returns-clause-caught g c goes =
-    let log = (g.P.Port.bus c.args.port.now).log in
-    let end : c.upto-upto.result ≡ upto c.entries.cluster.number log = c.upto-upto.ensures ∙ ap (λ (k : ClusterNo). upto k log) (c.number.ensures ∙ sym c.entries.invariant.taken.same.number) in
+    let b = g.P.Port.bus c.args.port.now in
+    let end : c.upto-upto.result ≡ upto c.entries.cluster.number b.system b.log = c.upto-upto.ensures ∙ ap (λ (k : ClusterNo). upto k b.system b.log) (c.number.ensures ∙ sym c.entries.invariant.taken.same.number) in
     omega (arith, c.cursor.ensures, end, c.entries-test.false, c.entries.invariant.upto)
 
 -- ---- where it is to be lost

@@ -3,9 +3,9 @@ use Rattle.cluster_core.specs.View.{ClusterView}
 use Rattle.bus_order.specs.View.{BusView, after_words}
 use Rattle.cluster_run.specs.Along.{is_done_with}
 use Rattle.cluster_run.specs.Offers.{GoesOnFor}
-use Rattle.cluster_run.specs.Turns.{OffersHead, SendsOwn}
-use Rattle.cluster_run.proofs.Offering.{sent_longer, was_behind, was_off, was_over, was_sent}
-use Rattle.cluster_run.proofs.Owning.{behind_own, loses_more, never_over, off_own, sent_own}
+use Rattle.cluster_run.specs.Turns.{LosesOwn, OffersHead, SendsOwn}
+use Rattle.cluster_run.proofs.Offering.{sent_longer, was_behind, was_ended, was_off, was_over, was_sent}
+use Rattle.cluster_run.proofs.Owning.{behind_own, loses_more, off_own, over_own, sent_own}
 use Rattle.cluster_run.proofs.Posting.{behind_posting}
 use Rattle.cluster_run.proofs.StepLosses.{before_along, lost_gone}
 use Rattle.cluster_run.proofs.TakingIn.{seen_lives}
@@ -136,7 +136,8 @@ returns-then-branch-3-clause-own g c alone own =
     let t : ClusterView = c.args.cluster.now in
     let p = c.requires.posting in
     let off = subst (λ o. OffersHead a t b after o) c.in-Over.is c.in_ok-offer_head.ensures.offered in
-    absurd (never_over a alone b after t off.0 own c.in_ok-offer_head.ensures.sound off.2)
+    let loses = over_own a alone b after t off.0 own c.in_ok-offer_head.ensures.sound off.2 (c.offer_head.ensures.adds alone) in
+    subst (LosesOwn t.number b) (sym (c.in_ok-take_in-in-Over.ensures.ended alone (was_ended a b after t off.0 (p.shown).along off.2))) loses
 
 pub returns-else-branch-3-clause-tries : goal.returns-else-branch-3-clause-tries
 returns-else-branch-3-clause-tries g c =
@@ -159,7 +160,8 @@ returns-else-branch-3-clause-own g c alone own =
     let t : ClusterView = c.args.cluster.now in
     let p = c.requires.posting in
     let off = subst (λ o. OffersHead a t b after o) c.in-Over.is c.in_ok-offer_head.ensures.offered in
-    absurd (never_over a alone b after t off.0 own c.in_ok-offer_head.ensures.sound off.2)
+    let loses = over_own a alone b after t off.0 own c.in_ok-offer_head.ensures.sound off.2 (c.offer_head.ensures.adds alone) in
+    subst (LosesOwn t.number b) (sym (c.in_ok-take_in-in-Over.ensures.kept c.if-branch-3.false)) loses
 
 -- ---- the cluster was lost
 

@@ -27,7 +27,7 @@ returns-in_ok-reply-in-System-clause-makes g c =
 pub returns-in_ok-reply-in-System-clause-why : goal.returns-in_ok-reply-in-System-clause-why
 returns-in_ok-reply-in-System-clause-why g c =
     let done = c.in_ok-reply-in-System.ensures.done in
-    nothing_to_explain (Ok c.args.ring) c.args.script.now [] c.in-System.system _ _ (rw c.in-System.is at c.in_ok-system.ensures.read) done.0 done.1
+    nothing_to_explain (Ok c.args.ring) c.args.script.now [] c.in-System.system (c.in_ok-ran-in-System.ran.run).ended _ _ (rw c.in-System.is at c.in_ok-system.ensures.read) done.0 done.1
 
 pub returns-in-Refused-clause-why : goal.returns-in-Refused-clause-why
 returns-in-Refused-clause-why g c = rw c.in-Refused.is at c.in_ok-system.ensures.why []

@@ -28,7 +28,7 @@ returns-in_ok-reply-in-System-clause-makes g c =
 pub returns-in_ok-reply-in-System-clause-why : goal.returns-in_ok-reply-in-System-clause-why
 returns-in_ok-reply-in-System-clause-why g c =
     let done = c.in_ok-reply-in-System.ensures.done in
-    nothing_to_explain (reading_of c.args.bytes.now) c.args.script.now (lines_of c.args.bytes.now) c.in-System.system _ _ (rw c.in-System.is at c.in_ok-system.ensures.read) done.0 done.1
+    nothing_to_explain (reading_of c.args.bytes.now) c.args.script.now (lines_of c.args.bytes.now) c.in-System.system (c.in_ok-ran-in-System.ran.run).ended _ _ (rw c.in-System.is at c.in_ok-system.ensures.read) done.0 done.1
 
 pub returns-in_ok-reply-in-System-clause-notes : goal.returns-in_ok-reply-in-System-clause-notes
 returns-in_ok-reply-in-System-clause-notes g c =

@@ -1,6 +1,7 @@
 use Rattle.std.proofs.Common.{◌≡◌, Bool, true, false}
 use Rattle.cert_sched.specs.Losses.{was_lost_in}
 use Rattle.bus_order.specs.View.{BusView}
+use Rattle.cluster_run.specs.Progress.{IsOver}
 use Rattle.cluster_run.specs.Turns.{GoesOwn, LosesOwn}
 use Rattle.cluster_run.proofs.Owning.{where_ok}
 use Rattle.cluster_run.proofs.lent.BusPort.lose.Goals as goal
@@ -12,3 +13,10 @@ returns-clause-own c =
     let k = c.args.cluster.now.number in
     let Own : Type 0 = GoesOwn b → was_lost_in b.log k ≡ false → LosesOwn k b after in
     where_ok c.lose_at.result Own (◌≡◌ {A = Bool} true true → Own) (λ holds alone. holds) c.lose_at.ensures.own
+
+pub returns-clause-kept : goal.returns-clause-kept
+returns-clause-kept c =
+    let b : BusView = c.args.self.now in
+    let after : BusView = c.lose_at.new.bus in
+    let Kept : Type 0 = IsOver b → after ≡ b in
+    where_ok c.lose_at.result Kept (◌≡◌ {A = Bool} true true → Kept) (λ holds alone. holds) c.lose_at.ensures.kept

@@ -11,4 +11,4 @@ returns-in-Some c =
 pub returns-in-None : goal.returns-in-None
 returns-in-None c =
     let b : BusView = c.args.self.now in
-    c.length_without_end.ensures ∙ sym (upto_not_off b.system c.args.number b.log c.requires.sound.legal (sym c.off_at.ensures.off ∙ c.in-None.is))
+    c.followed_length.ensures ∙ sym (upto_not_off b.system c.args.number b.log c.requires.sound.legal (sym c.off_at.ensures.off ∙ c.in-None.is))
