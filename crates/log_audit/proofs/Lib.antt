@@ -1,0 +1,3 @@
+pub mod Fronts
+pub mod Said
+pub mod Losing

@@ -1,0 +1,102 @@
+//! What is kept of a log for each further entry: the placement, whether the log is over, and its length.
+ghost use Rattle.std.specs.Prelude.{◌≡◌, ◌+◌, ◌-◌, ◌<◌, ◌^◌, true, not, [], IfOk, OnOk};
+ghost use Rattle.sys_text.specs.Valid.{is_system};
+ghost use Rattle.bus_msg.specs.Places.{lives_in};
+ghost use Rattle.bus_msg.specs.PlacedAfter.{what};
+ghost use Rattle.channel_table.specs.Changes.{CanBeAbsorbed, IsRoutable};
+ghost use Rattle.cert_sched.specs.Rules.{ends_run};
+ghost use Rattle.log_audit.specs.Front.{IsFrontOf, KeepsFront, entry_at, is_next};
+
+use bus_msg::entry::{Entry, Post, What};
+use cert_sched::start::placement_at_boot;
+use channel_table::placement::Placement;
+use std::alloc::Global;
+use std::marker::Model;
+use sys_text::system::System;
+use t32_base::process::ClusterNo;
+use t32_base::streams::NoMemory;
+
+/// The front of a log.
+#[derive(Drop)]
+pub struct Front {
+    places: Placement,
+    over: bool,
+    length: u64,
+}
+
+impl Model for Front {
+    ghost use Rattle.log_audit.specs.Front.{FrontState};
+
+    ghost Value = { FrontState };
+
+    ghost view = { λ f. record { places = f.places; over = f.over; length = f.length } };
+}
+
+impl Front {
+    /// That of the log with no entry.
+    pub fn start(alloc: Global, system: &System) -> Result<Front, NoMemory>
+        requires valid { is_system system.now ≡ true }
+        ensures { IfOk result (λ front. IsFrontOf system.now [] front) }
+    {
+        Ok(Front {
+            places: placement_at_boot(alloc, system)?,
+            over: false,
+            length: 0,
+        })
+    }
+
+    /// Takes in an entry. After want of memory nothing is said.
+    pub fn take(&mut self, entry: &Entry) -> Result<(), NoMemory>
+        requires next { CanBeAbsorbed self.old.places (what entry.now) }
+        requires room { self.old.length < 2 ^ 64 - 1 }
+        ensures { OnOk result (KeepsFront self.old self.new entry.now) }
+    {
+        let over = self.ends(&entry.post.what);
+        self.places.absorb(entry)?;
+        self.over = over;
+        self.length += 1;
+        Ok(())
+    }
+
+    // Whether an entry that says this ends the run.
+    fn ends(&self, what: &What) -> bool
+        ensures { result ≡ ends_run self.now.places what.now }
+    {
+        match what {
+            What::Done { .. } | What::Stop => true,
+            What::Crash { k, .. } => !self.places.covered(*k),
+            What::Mail { .. }
+            | What::Birth { .. }
+            | What::Exit { .. }
+            | What::Page { .. }
+            | What::Sync { .. }
+            | What::Fetch { .. }
+            | What::PageIs { .. }
+            | What::Return { .. }
+            | What::Rebackup { .. } => false,
+        }
+    }
+
+    /// Whether an entry with this place may stand next: it is the next place, and the log is not over. Takes no memory.
+    pub fn is_next(&self, place: u64) -> bool
+        ensures { result ≡ is_next self.now place }
+    {
+        self.length == place && !self.over
+    }
+
+    /// Whether a cluster lives. Takes no memory.
+    pub fn living(&self, k: ClusterNo) -> bool
+        ensures { result ≡ lives_in self.now.places k }
+    {
+        self.places.living(k)
+    }
+
+    /// The entry that a post becomes at this place. Takes no memory.
+    pub fn entry_at(&self, place: u64, post: Post) -> Entry
+        requires { IsRoutable self.now.places post.what }
+        ensures { result ≡ entry_at self.now place post }
+    {
+        let dests = self.places.route(&post);
+        Entry { place, post, dests }
+    }
+}
