@@ -1,3 +1,4 @@
 pub mod Fronts
 pub mod Said
 pub mod Losing
+pub mod Answering

@@ -42,16 +42,19 @@ not_true false is = refl
 pub applies : (system : System) (log : List Entry) (e : Entry) → IsLegalBy MayStand system log → ((k : Kernel) → items_of k (what e) ≡ []) → is_some (plain_after system (log ++ e ∷ [])) ≡ true
 applies system log e legal none = ap is_some (no_items system log e none) ∙ plain_there MayStand (λ system log e may. may.stands) system log legal
 
+-- an entry with the next place is placed in each log of which that is the front
+pub next_placed : (f : FrontState) (place : ℕ) → is_next f place ≡ true → (system : System) (log : List Entry) (w : What) → IsFrontOf system log f
+    → (place ≡ length log) × (route f.places w ≡ route (placement system log) w) × (is_over system log ≡ false)
+next_placed f place next system log w front =
+    let here = and_parts (eqb f.length place) (not f.over) next in (
+      sym (eqb-true f.length place here.0) ∙ front.length,
+      ap (λ (p : Places). route p w) front.places,
+      sym front.over ∙ not_true f.over here.1,
+    )
+
 module _ (f : FrontState) (place : ℕ) (by : ToldBy) (may : stop_may f place by ≡ true) where
-  parts : (is_next f place ≡ true) × (is_bus_told by ≡ true)
+  pub parts : (is_next f place ≡ true) × (is_bus_told by ≡ true)
   parts = and_parts (is_next f place) (is_bus_told by) may
-
-  here : (eqb f.length place ≡ true) × (not f.over ≡ true)
-  here = and_parts (eqb f.length place) (not f.over) parts.0
-
-  pub next_placed : (system : System) (log : List Entry) (w : What) → IsFrontOf system log f → (place ≡ length log) × (route f.places w ≡ route (placement system log) w) × (is_over system log ≡ false)
-  next_placed system log w front =
-      (sym (eqb-true f.length place here.0) ∙ front.length, ap (λ (p : Places). route p w) front.places, sym front.over ∙ not_true f.over here.1)
 
   pub stop_follows : AnswersLine f place by ToldStop (Some (entry_at f place (record { by = Bus; what = Stop })))
   stop_follows system log valid legal front =
@@ -59,7 +62,7 @@ module _ (f : FrontState) (place : ℕ) (by : ToldBy) (may : stop_may f place by
       let sender : by ≡ ByBus = told_bus by parts.1 in (
         λ i. record { place = place; by = sym sender i; what = ToldStop },
         record {
-          stands = record { placed = next_placed system log Stop front; by_right = refl; applies = applies system log e legal (λ k. refl); kind = tt };
+          stands = record { placed = next_placed f place parts.0 system log Stop front; by_right = refl; applies = applies system log e legal (λ k. refl); kind = tt };
           built = refl;
           limits = refl;
           new_page = refl;
@@ -72,11 +75,11 @@ pub loss_follows : (f : FrontState) (place : ℕ) (by : ToldBy) (k : ClusterNo) 
 loss_follows f place by k cause may system log valid legal front =
     let both = and_parts (stop_may f place by) (lives_in f.places k) may in
     let e : Entry = entry_at f place (record { by = Bus; what = Crash k cause }) in
-    let sender : by ≡ ByBus = told_bus by (and_parts (is_next f place) (is_bus_told by) both.0).1 in (
+    let sender : by ≡ ByBus = told_bus by (parts f place by both.0).1 in (
       λ i. record { place = place; by = sym sender i; what = ToldCrash k.0 cause },
       record {
         stands = record {
-          placed = next_placed f place by both.0 system log (Crash k cause) front;
+          placed = next_placed f place (parts f place by both.0).0 system log (Crash k cause) front;
           by_right = refl;
           applies = applies system log e legal (λ k. refl);
           kind = ap (λ (p : Places). lives_in p k) (sym front.places) ∙ both.1;
@@ -90,12 +93,16 @@ loss_follows f place by k cause may system log valid legal front =
 
 -- ---- where it stands next the tests pass
 
+pub next_passes : (system : System) (log : List Entry) (f : FrontState) (e : Entry) (place : ℕ) → IsFrontOf system log f → e.place ≡ place → Stands system log e → is_next f place ≡ true
+next_passes system log f e place front at stands =
+    let here : f.length ≡ place = front.length ∙ sym (stands.placed).0 ∙ at in
+    let goes_on : f.over ≡ false = front.over ∙ (stands.placed).2 in
+    ap (λ b. b && not f.over) (eq-eqb f.length place here) ∙ ap not goes_on
+
 passes : (system : System) (log : List Entry) (f : FrontState) (e : Entry) (t : Told) → IsFrontOf system log f → told_of e ≡ t → Stands system log e → is_bus (e.post).by ≡ true → stop_may f t.place t.by ≡ true
 passes system log f e t front line stands bus =
-    let at : f.length ≡ t.place = front.length ∙ sym (stands.placed).0 ∙ ap (λ (t : Told). t.place) line in
-    let open_still : f.over ≡ false = front.over ∙ (stands.placed).2 in
     let sender : is_bus_told t.by ≡ true = ap (λ (t : Told). is_bus_told t.by) (sym line) ∙ bus_told (e.post).by bus in
-    ap (λ b. (b && not f.over) && is_bus_told t.by) (eq-eqb f.length t.place at) ∙ ap (λ b. not b && is_bus_told t.by) open_still ∙ sender
+    ap (λ b. b && is_bus_told t.by) (next_passes system log f e t.place front (ap (λ (t : Told). t.place) line) stands) ∙ sender
 
 below : (cs : List ClusterPlace) (k : ℕ) → option_map_or (λ (c : ClusterPlace). c.lives) (slice_get cs k) false ≡ true → k < length cs
 below cs k lives = by_place (slice_get cs k) refl lives

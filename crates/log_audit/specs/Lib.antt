@@ -1,3 +1,4 @@
 pub mod Decides
 pub mod Front
 pub mod Losses
+pub mod Answers

@@ -1,7 +1,7 @@
 //! What is kept of a log for each further entry: the placement, whether the log is over, and its length.
-ghost use Rattle.std.specs.Prelude.{◌≡◌, ◌+◌, ◌-◌, ◌<◌, ◌^◌, true, not, [], IfOk, OnOk};
+ghost use Rattle.std.specs.Prelude.{◌≡◌, ◌+◌, ◌-◌, ◌<◌, ◌^◌, true, not, [], IfOk, OnOk, slice_get};
 ghost use Rattle.sys_text.specs.Valid.{is_system};
-ghost use Rattle.bus_msg.specs.Places.{lives_in};
+ghost use Rattle.bus_msg.specs.Places.{lives_in, servers_in};
 ghost use Rattle.bus_msg.specs.PlacedAfter.{what};
 ghost use Rattle.channel_table.specs.Changes.{CanBeAbsorbed, IsRoutable};
 ghost use Rattle.cert_sched.specs.Rules.{ends_run};
@@ -89,6 +89,13 @@ impl Front {
         ensures { result ≡ lives_in self.now.places k }
     {
         self.places.living(k)
+    }
+
+    /// The first of the two page servers that was never lost. Takes no memory.
+    pub fn first_server(&self) -> Option<ClusterNo>
+        ensures { result ≡ slice_get (servers_in self.now.places) 0 }
+    {
+        self.places.first_server()
     }
 
     /// The entry that a post becomes at this place. Takes no memory.
