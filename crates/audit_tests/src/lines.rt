@@ -1,4 +1,4 @@
-//! Lines of losses, of stops and of pages that come. The system has one process, 16, at home in cluster 0 with its backup in
+//! Lines of losses, of stops, and of pages that are asked for and that come. The system has one process, 16, at home in cluster 0 with its backup in
 //! cluster 1, and one page, whose first byte is that of the first word of its image.
 ghost use Rattle.std.specs.Prelude.{◌≡◌, ◌-◌, ◌<◌, ◌^◌, IfOk, IsTrue, IfSome};
 ghost use Rattle.page_accounts.specs.Answering.{IsKept, earliest};
@@ -6,6 +6,7 @@ ghost use Rattle.page_accounts.specs.Answering.{IsKept, earliest};
 use bus_msg::entry::{By, Cause, Dests, Entry, Post, What};
 use entry_lines::ToldBy;
 use log_audit::answers::next_page;
+use log_audit::fetches::{Asked, next_fetch};
 use log_audit::front::Front;
 use log_audit::losses::{next_loss, next_stop};
 use page_accounts::booting::put_roots;
@@ -146,4 +147,31 @@ fn the_first_page_server_may_answer_the_earliest_fetch(rt: HostRuntime) -> Resul
     ];
     let wanted = PAGES;
     same("the pages", &pages, &wanted)
+}
+
+// Whether page `index` of the process may be asked for, where it has one page and a loss moved it with a state.
+fn fetch(front: &Front, by: ToldBy, index: u64, asked: bool) -> Option<(u64, u16)> {
+    let kept = Asked {
+        pages: 1,
+        moved: true,
+        asked,
+    };
+    seen(next_fetch(front, 1, by, Pid(16), index, kept))
+}
+
+// After the loss of cluster 0: the page by the new home, by another cluster, a page that is not there, and the page again.
+const FETCHES: [Option<(u64, u16)>; 4] = [Some((1, 2)), None, None, None];
+
+#[test]
+fn a_page_is_asked_for_once_by_the_new_home(rt: HostRuntime) -> Result<(), Fail> {
+    let mut front = front(rt.alloc())?;
+    lose(&mut front)?;
+    let lines = [
+        fetch(&front, ToldBy::Cluster(1), 0, false),
+        fetch(&front, ToldBy::Cluster(0), 0, false),
+        fetch(&front, ToldBy::Cluster(1), 1, false),
+        fetch(&front, ToldBy::Cluster(1), 0, true),
+    ];
+    let wanted = FETCHES;
+    same("the fetches", &lines, &wanted)
 }

@@ -2,3 +2,4 @@ pub mod Decides
 pub mod Front
 pub mod Losses
 pub mod Answers
+pub mod Fetches

@@ -5,15 +5,17 @@ ghost use Rattle.bus_msg.specs.Places.{lives_in, servers_in};
 ghost use Rattle.bus_msg.specs.PlacedAfter.{what};
 ghost use Rattle.channel_table.specs.Changes.{CanBeAbsorbed, IsRoutable};
 ghost use Rattle.cert_sched.specs.Rules.{ends_run};
+ghost use Rattle.log_audit.specs.Fetches.{home_told};
 ghost use Rattle.log_audit.specs.Front.{IsFrontOf, KeepsFront, entry_at, is_next};
 
 use bus_msg::entry::{Entry, Post, What};
 use cert_sched::start::placement_at_boot;
 use channel_table::placement::Placement;
+use entry_lines::ToldBy;
 use std::alloc::Global;
 use std::marker::Model;
 use sys_text::system::System;
-use t32_base::process::ClusterNo;
+use t32_base::process::{ClusterNo, Pid};
 use t32_base::streams::NoMemory;
 
 /// The front of a log.
@@ -89,6 +91,23 @@ impl Front {
         ensures { result ≡ lives_in self.now.places k }
     {
         self.places.living(k)
+    }
+
+    /// The home of a process that has not ended, where that cluster lives and the line says that it sent it. Takes no memory.
+    pub fn home(&self, by: ToldBy, pid: Pid) -> Option<ClusterNo>
+        ensures { result ≡ home_told self.now.places by pid }
+    {
+        let ToldBy::Cluster(k) = by else {
+            return None;
+        };
+        let Some(placed) = self.places.unended(pid) else {
+            return None;
+        };
+        if u64::from(placed.home.0) == k && self.places.living(placed.home) {
+            Some(placed.home)
+        } else {
+            None
+        }
     }
 
     /// The first of the two page servers that was never lost. Takes no memory.

@@ -2,5 +2,6 @@
 #![tactic(auto)]
 
 pub mod answers;
+pub mod fetches;
 pub mod front;
 pub mod losses;
