@@ -1,0 +1,5 @@
+//! Tests of the checker of a printed log, line by line. The expected values are worked by hand from the formats.
+#![tactic(auto)]
+
+#[cfg(test)]
+mod lines;

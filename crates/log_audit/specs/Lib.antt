@@ -1,0 +1,5 @@
+pub mod Decides
+pub mod Front
+pub mod Losses
+pub mod Answers
+pub mod Fetches
