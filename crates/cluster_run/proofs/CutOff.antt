@@ -1,5 +1,5 @@
 -- Who was cut off, and how a log ends.
-use Rattle.std.proofs.Common.{◌≡◌, ℕ, ◌⊎◌, inl, inr, refl, sym, ◌∙◌, ap, List, Bool, true, false, not, ◌&&◌, ◌||◌, true≢false}
+use Rattle.std.proofs.Common.{◌≡◌, ◌⊎◌, inl, inr, refl, sym, ◌∙◌, ap, List, Bool, true, false, not, ◌&&◌, ◌||◌, true≢false}
 use Rattle.std.proofs.lemmas.Bool.{and_parts, or_left, or_right, or_parts}
 use Rattle.t32_base.specs.declared.process.ClusterNo.{ClusterNo}
 use Rattle.sys_text.specs.declared.system.System.{System}

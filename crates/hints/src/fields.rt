@@ -1,5 +1,5 @@
 //! Which field of a line of a system text breaks rule 4 or 5.
-ghost use Rattle.std.specs.Prelude.{◌≡◌, ◌||◌, ◌==◌, codes, is_none, is_some, length, option_map, take};
+ghost use Rattle.std.specs.Prelude.{◌≡◌, ◌||◌, ◌==◌, codes, is_none, is_some, length, option_map};
 ghost use Rattle.std.specs.Str.{bytes_eq};
 ghost use Rattle.text_parts.specs.Lines.{fields_of, lines_of};
 ghost use Rattle.text_parts.specs.Numbers.{number_of, word_of};

@@ -1,6 +1,5 @@
 //! Lines of the loss of a cluster and of a stop.
-ghost use Rattle.std.specs.Prelude.{◌≡◌, ◌<◌, IsSome, Option, Some, None};
-ghost use Rattle.std.specs.Option.{IfSome};
+ghost use Rattle.std.specs.Prelude.{◌≡◌, ◌<◌, Option, Some, None};
 ghost use Rattle.entry_lines.specs.declared.told.ToldWhat.TheVariants.{Crash, Stop};
 ghost use Rattle.log_audit.specs.Losses.{AnswersLine, loss_may, stop_may};
 

@@ -1,7 +1,7 @@
 //! Lines of a text by their shapes: in a shape `#` stands for a number, and each other byte for itself.
 ghost use Rattle.std.specs.Prelude.{◌≡◌, length, map, option_map};
 ghost use Rattle.text_parts.specs.Lines.{before, from};
-ghost use Rattle.log_section.specs.Lines.{is_other, number_of, past_number, past_byte, past_sign, past, behind_line, behind_one, behind_count, behind_most};
+ghost use Rattle.log_section.specs.Lines.{is_other, number_of, past_number, past_byte, past_sign, behind_line, behind_one, behind_count, behind_most};
 
 use entry_lines::number_in;
 use itoa::Buffer;

@@ -1,7 +1,6 @@
-use Rattle.std.proofs.Common.{◌≡◌, ◌∙◌, ◌-◌, ◌<◌, ◌⊎◌, inl, inr, sym, ap, arith, length, slice_get, true, Some, None, Option, true≢false}
+use Rattle.std.proofs.Common.{◌≡◌, ◌∙◌, ◌-◌, ◌⊎◌, inl, inr, sym, ap, arith, length, slice_get, true, Some, None, true≢false}
 use Rattle.std.specs.Option.{option_copied}
 use Rattle.std.proofs.lemmas.Option.{slice_get_cases}
-use Rattle.bus_msg.specs.declared.entry.Entry.{Entry}
 use Rattle.bus_order.specs.View.{BusView}
 use Rattle.cert_sched.specs.Scripted.{is_finished}
 use Rattle.cluster_run.specs.Ends.{ends_lost}
