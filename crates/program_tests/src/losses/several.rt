@@ -173,7 +173,8 @@ fn assert_pairs<R: AllocGlobal + Threads + Wait + Sync>(
     second: u32,
 ) -> Result<(), Fail> {
     let pair = (first.min(second), first.max(second));
-    let covered = case.covered[0] == pair || case.covered[1] == pair;
+    let pairs = case.covered;
+    let covered = pairs[0] == pair || pairs[1] == pair;
     for p in 0..case.most {
         for q in 0..case.most {
             if q % case.stride.max(1) == p % case.stride.max(1) {
