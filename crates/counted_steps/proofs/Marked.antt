@@ -102,9 +102,6 @@ no_further n left old mid within made none =
     let e : n - left + left ≡ n = omega (arith, within) in
     ap (λ (k : ℕ). silently k (state_of old)) (sym e) ∙ then_none (n - left) left (state_of old) (state_of mid) (silently-marked (n - left) (marked old) (marked mid) made) none
 
-pub all_made : (n left : ℕ) (old new : Process) → (0 < left → ⊥) → silently_marked (n - left) (marked old) ≡ Some (marked new) → silently_marked n (marked old) ≡ Some (marked new)
-all_made n left old new none made = let e : n - left ≡ n = omega (arith, none) in ap (λ (k : ℕ). silently_marked k (marked old)) (sym e) ∙ made
-
 -- ---- what is sent, and the fork
 
 sent_by : (mid new : ProcState) (step : Step) → Makes (next_step mid) (Ok step) mid new → emission_of (next_step mid) ≡ option_map (λ e. (e, new)) (sent_in step)
@@ -127,12 +124,6 @@ sends n old mid new step some made makes =
     sends_so n old new (sent_in step) (from_suc n (state_of old) some
     ∙ ap (option_and_then (λ q. emission_of (next_step q))) (silently-marked (n - 1) (marked old) (marked mid) made) ∙ sent_by (state_of mid) (state_of new) step makes)
 
-pub sends_not : (n : ℕ) (old new : Process) → 0 < n → MakesSilently (n - 1) old false new → Sends n old None new
-sends_not n old new some none = from_suc n (state_of old) some ∙ ap (option_and_then (λ q. emission_of (next_step q))) none
-
-pub sends_nothing : (n : ℕ) (old new : Process) → n ≡ 0 → Sends n old None new
-sends_nothing n old new none = ap (λ (k : ℕ). last_emission k (state_of old)) none
-
 forks_if : (s : ProcState) (n : Next) → if_forks s n ≡ (if is_fork n then Some s else None)
 forks_if s (Silent q) = refl
 forks_if s Blocked = refl
@@ -146,9 +137,6 @@ comes n old new made = by_fork (is_fork (next_step (state_of new))) (ap (option_
     by_fork : (b : Bool) → before_fork n (state_of old) ≡ (if b then Some (state_of new) else None) → ComesToFork n old b new
     by_fork true is = is
     by_fork false is = is
-
-pub comes_not : (n : ℕ) (old new : Process) → MakesSilently n old false new → ComesToFork n old false new
-comes_not n old new none = ap (option_and_then (λ q. if_forks q (next_step q))) none
 
 -- ---- tests
 
