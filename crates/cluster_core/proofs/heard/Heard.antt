@@ -214,7 +214,9 @@ module _ (c : ClusterView) (log : List Entry) (e : Entry) (server : Option Pager
       living (Some place) lives = ap not lives
 
       by_test : (x : Bool) → eqb j.0 k.0 ≡ x → eqb j.0 k.0 ≡ false
-      by_test true same = absurd (true≢false (sym (ap (λ n. option_map_or (λ (c : ClusterPlace). not c.lives) (slice_get places.clusters n) false) (sym (eqb-true j.0 k.0 same)) ∙ lost) ∙ living (slice_get places.clusters k.0) f.lives))
+      by_test true same =
+          let here : is_lost_in places k ≡ true = ap (λ n. option_map_or (λ (c : ClusterPlace). not c.lives) (slice_get places.clusters n) false) (sym (eqb-true j.0 k.0 same)) ∙ lost in
+          absurd (true≢false (sym here ∙ living (slice_get places.clusters k.0) f.lives))
       by_test false apart = apart
 
   -- and it is another that one loses
