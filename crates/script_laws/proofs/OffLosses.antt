@@ -1,5 +1,5 @@
 -- A cluster that no entry brings back is off from its loss on: it is lost once at most, lives exactly where it was not lost, and sends nothing afterwards.
-use Rattle.std.proofs.Common.{◌≡◌, ℕ, zero, suc, ◌+◌, ◌<◌, refl, sym, ◌∙◌, ap, List, [], ◌∷◌, ◌++◌, take, drop, Bool, false, true, not, ◌||◌, None, Option, Some, is_none, is_some, true≢false}
+use Rattle.std.proofs.Common.{◌≡◌, ℕ, ◌+◌, ◌<◌, refl, sym, ◌∙◌, ap, List, [], ◌∷◌, ◌++◌, take, drop, false, true, not, ◌||◌, None, Option, Some, is_none, is_some}
 use Rattle.std.specs.List.{list_any}
 use Rattle.std.proofs.lemmas.Bool.{or_parts}
 use Rattle.std.proofs.lemmas.List.{take-append-drop}

@@ -1,5 +1,5 @@
 -- A cluster is lost only where it lives, and brought back only where it is lost: so its losses and returns alternate.
-use Rattle.std.proofs.Common.{◌≡◌, ℕ, zero, suc, ◌+◌, ◌-◌, ◌<◌, ◌≤◌, refl, sym, ◌∙◌, ap, subst, arith, List, [], ◌∷◌, ◌++◌, append_assoc, append-nil, length, take, drop, slice_get, Bool, true, false, cond, not, ◌||◌, ◌⊎◌, inl, inr, eqb-true, Option, Some, None, is_none, is_some, true≢false}
+use Rattle.std.proofs.Common.{◌≡◌, ℕ, zero, suc, ◌+◌, ◌<◌, ◌≤◌, refl, sym, ◌∙◌, ap, subst, arith, List, [], ◌∷◌, ◌++◌, append_assoc, append-nil, take, drop, slice_get, Bool, true, false, cond, not, ◌||◌, ◌⊎◌, inl, inr, eqb-true, Option, Some, None, is_none, is_some, true≢false}
 use Rattle.std.specs.List.{list_any}
 use Rattle.std.specs.Option.{option_map_or}
 use Rattle.std.proofs.lemmas.Bool.{or_parts}

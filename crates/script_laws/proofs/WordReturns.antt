@@ -88,6 +88,6 @@ none_returned b k keeps losses = by_test (has_returned_in b.log k) refl
         by_word (DiskAt j call) built = refl
         by_word (ReturnAt j place) built = absurd (true≢false (sym built))
 
-    by_test : (b' : Bool) → has_returned_in b.log k ≡ b' → has_returned_in b.log k ≡ false
+    by_test : (x : Bool) → has_returned_in b.log k ≡ x → has_returned_in b.log k ≡ false
     by_test true returned = absurd (true≢false (sym (returns_worded b k keeps returned) ∙ none_back b.script losses))
     by_test false none = none
