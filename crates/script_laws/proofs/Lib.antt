@@ -6,7 +6,7 @@ pub mod LosingAtStep
 pub mod LosingAtCall
 pub mod PassedWords
 pub mod OffSince
-pub mod Turns
+pub mod Alternating
 pub mod OffLosses
 pub mod LookedOn
 pub mod WordLosses

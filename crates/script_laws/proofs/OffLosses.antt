@@ -16,7 +16,7 @@ use Rattle.cert_sched.specs.Built.{MayStand}
 use Rattle.bus_order.specs.Script.{off_at, turns}
 use Rattle.script_laws.specs.Off.{IsItsLoss, comes_back, has_returned_in}
 use Rattle.script_laws.proofs.OffSince.{lives_unless_off, off_since, off_where_lost, silent_until_back, turns_parts}
-use Rattle.script_laws.proofs.Turns.{lost_follows, stood_at}
+use Rattle.script_laws.proofs.Alternating.{lost_follows, stood_at}
 
 -- ---- a log by the rule that is in force
 

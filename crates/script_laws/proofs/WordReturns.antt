@@ -63,11 +63,11 @@ returned_before log e k other returned = by_test (has_returned_in log k) refl (s
 looked_back : (system : System) (script : List ScriptWord) (k : ClusterNo) (log : List Entry) (left : List ScriptWord) → Looked system script log left → has_returned_in log k ≡ true → list_any (brings_back k) script ≡ true
 looked_back system script k _ _ at_start returned = absurd (true≢false (sym returned))
 looked_back system script k _ _ (gives_nothing {log} {left} looked w first nothing) returned = looked_back system script k log left looked returned
-looked_back system script k _ _ (gives {log} {left} looked w e first given) returned = by_test (comes_back k (what e)) refl
+looked_back system script k _ _ (gives {log} {left} looked w e first given) returned = by_test (comes_back k (what e)) refl (looked_back system script k log left looked)
   where
-    by_test : (b : Bool) → comes_back k (what e) ≡ b → list_any (brings_back k) script ≡ true
-    by_test true back = left_in system script (brings_back k) log left looked (found_any (is_reached (length log)) (brings_back k) left w first (given_back (placement system log) w k (what e) given back))
-    by_test false other = looked_back system script k log left looked (returned_before log e k other returned)
+    by_test : (b : Bool) → comes_back k (what e) ≡ b → (has_returned_in log k ≡ true → list_any (brings_back k) script ≡ true) → list_any (brings_back k) script ≡ true
+    by_test true back before = left_in system script (brings_back k) log left looked (found_any (is_reached (length log)) (brings_back k) left w first (given_back (placement system log) w k (what e) given back))
+    by_test false other before = before (returned_before log e k other returned)
 looked_back system script k _ _ (goes_on {log} {left} looked e alone) returned = looked_back system script k log left looked (returned_before log e k (alone_stays k (what e) alone) returned)
 looked_back system script k _ _ (none_reached {log} {left} looked e waits none) returned = looked_back system script k log left looked (returned_before log e k (waits_stays k (what e) waits) returned)
 

@@ -1,4 +1,4 @@
-use Rattle.script_laws.proofs.Turns.{lives_by_last}
+use Rattle.script_laws.proofs.Alternating.{lives_by_last}
 use Rattle.script_laws.proofs.turns.last_turn_says_who_lives.Goals as goal
 
 pub returns : goal.returns

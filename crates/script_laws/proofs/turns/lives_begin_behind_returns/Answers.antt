@@ -1,4 +1,4 @@
-use Rattle.script_laws.proofs.Turns.{lost_from, off_from, on_behind}
+use Rattle.script_laws.proofs.Alternating.{lost_from, off_from, on_behind}
 use Rattle.script_laws.proofs.turns.lives_begin_behind_returns.Goals as goal
 
 pub returns-clause-begins : goal.returns-clause-begins

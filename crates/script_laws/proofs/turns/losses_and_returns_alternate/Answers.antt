@@ -1,4 +1,4 @@
-use Rattle.script_laws.proofs.Turns.{back_follows, lost_between, lost_follows, returned_between}
+use Rattle.script_laws.proofs.Alternating.{back_follows, lost_between, lost_follows, returned_between}
 use Rattle.script_laws.proofs.turns.losses_and_returns_alternate.Goals as goal
 
 pub returns-clause-lost : goal.returns-clause-lost
