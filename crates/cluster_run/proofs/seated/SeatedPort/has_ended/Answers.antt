@@ -1,5 +1,4 @@
 use Rattle.std.proofs.Common.{◌∙◌, ap, sym, is_some, ◌||◌}
-use Rattle.std.specs.Arc.{arc_value}
 use Rattle.bus_lock.specs.Seats.{seen}
 use Rattle.cert_sched.specs.Losses.{was_lost_in}
 use Rattle.bus_order.specs.Script.{off_at}
