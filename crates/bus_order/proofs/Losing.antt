@@ -1,7 +1,6 @@
 -- The loss of a cluster may stand next, by a word for a place that was reached, or by one for a step or a disk call.
 use Rattle.std.proofs.Common.{◌≡◌, ℕ, refl, sym, ◌∙◌, ap, subst, arith, List, [], ◌∷◌, ◌++◌, length, Bool, cond, ◌&&◌, true, false, eqb, eqb-true, Some, None, is_some, true≢false}
 use Rattle.std.specs.Prelude.{remove}
-use Rattle.std.specs.List.{list_all}
 use Rattle.std.proofs.Math.Bool.{and-false}
 use Rattle.std.proofs.lemmas.Bool.{and_parts}
 use Rattle.proc_state.specs.Mail.{without_first}
@@ -18,7 +17,7 @@ use Rattle.cert_sched.specs.CertAfter.{CertView}
 use Rattle.cert_sched.specs.Schedule.{placement}
 use Rattle.cert_sched.specs.Rules.{is_over}
 use Rattle.cert_sched.specs.Legal.{IsLegalBy}
-use Rattle.cert_sched.specs.Built.{MayStand, is_built_word}
+use Rattle.cert_sched.specs.Built.{MayStand}
 use Rattle.cert_sched.specs.Looked.{Looked, gives, goes_on as goes_by, first_reached, is_bus_word, is_reached, given_by, waits_for_no_word, without_reached}
 use Rattle.cert_sched.specs.Losses.{is_scripted_cause}
 use Rattle.cert_sched.specs.Simulation.{crash_entry}
@@ -26,7 +25,7 @@ use Rattle.cert_sched.proofs.LogLaws.{no_items}
 use Rattle.cert_sched.proofs.ThereLaws.{plain_there}
 use Rattle.bus_order.specs.Script.{IsFirst, is_loss_for, is_word_for}
 use Rattle.bus_order.specs.View.{BusView, IsKept, KeepsScript, MayLose}
-use Rattle.bus_order.proofs.WordsLaws.{find-filter, without-filter, filter-without, all-without, all-found, count-without, length-without}
+use Rattle.bus_order.proofs.WordsLaws.{find-filter, without-filter, filter-without, found_passes, count-without, length-without}
 use Rattle.bus_order.proofs.Keeping.{IsMore, accounts_more, reached_bus, words_stay}
 
 -- the crash of a cluster that lives may stand next in a log that goes on
@@ -47,7 +46,6 @@ crash_may_follow system log k cause legal goes_on lives = record {
 pub loss_more : (b : BusView) (k : ClusterNo) (cause : Cause) (left : List ScriptWord) → IsLegalBy MayStand b.system b.log → MayLose b k cause left → IsMore b (crash_entry b.system b.log k cause) left
 loss_more b k cause left legal may = record {
   may = crash_may_follow b.system b.log k cause legal may.goes_on may.lives;
-  words = may.words;
   looked = may.looked;
   scripted = may.scripted;
   used = may.used;
@@ -77,18 +75,17 @@ no_place_loss j k (Step n) = and-false (same_cluster k j)
 no_place_loss j k (Disk n) = and-false (same_cluster k j)
 
 -- the loss that the first word that was reached gives may stand next
-pub given_loses : (b : BusView) (w : ScriptWord) (k : ClusterNo) → KeepsScript b → list_all is_built_word b.left ≡ true → is_over b.system b.log ≡ false → first_reached b.log b.left ≡ Some w
+pub given_loses : (b : BusView) (w : ScriptWord) (k : ClusterNo) → KeepsScript b → is_over b.system b.log ≡ false → first_reached b.log b.left ≡ Some w
     → given_by (placement b.system b.log) w ≡ Some (Crash k Place) → MayLose b k Place (without_reached b.log b.left)
-given_loses b w k keeps built goes_on first given = record {
+given_loses b w k keeps goes_on first given = record {
   goes_on = goes_on;
   lives = given_lives (placement b.system b.log) w k given;
-  words = all-without (is_reached (length b.log)) is_built_word b.left built;
   looked =
       subst (Looked b.system b.script (b.log ++ crash_entry b.system b.log k Place ∷ [])) (without-filter (is_reached (length b.log)) is_bus_word (reached_bus (length b.log)) b.left)
       (gives keeps.looked w (crash_entry b.system b.log k Place) (find-filter (is_reached (length b.log)) is_bus_word (reached_bus (length b.log)) b.left ∙ first) given);
   scripted = refl;
   used = accounts_more b.script b.left (without_reached b.log b.left) b.log (crash_entry b.system b.log k Place) keeps.used (λ j cause.
-      let stay = words_stay (length b.log) b.left w j cause built first in
+      let stay = words_stay (length b.log) b.left w j cause first in
       let none : ◌≡◌ {A = ℕ} (cond (is_loss_for j cause (Crash k Place)) 1 0) 0 = ap (λ (c : Bool). cond c 1 0) (no_place_loss j k cause) in
       omega (arith, stay, none));
   fewer = let one = length-without (is_reached (length b.log)) b.left w first in omega (arith, one);
@@ -96,7 +93,7 @@ given_loses b w k keeps built goes_on first given = record {
 
 pub place_loses : (b : BusView) (over : Bool) (places : Places) (cert : CertView) (number : ℕ) (w : ScriptWord) (k : ClusterNo) → IsKept b over places cert → is_over b.system b.log ≡ false → IsFirst (is_reached (length b.log)) b.left number w
     → given_by (placement b.system b.log) w ≡ Some (Crash k Place) → MayLose b k Place (remove b.left number)
-place_loses b over places cert number w k kept goes_on first given = subst (MayLose b k Place) (sym first.2) (given_loses b w k kept.lawful.scripted kept.words goes_on first.0 given)
+place_loses b over places cert number w k kept goes_on first given = subst (MayLose b k Place) (sym first.2) (given_loses b w k kept.lawful.scripted goes_on first.0 given)
 
 -- ---- by a word for a step or a disk call
 
@@ -143,7 +140,6 @@ pub word_loses : (b : BusView) (over : Bool) (places : Places) (cert : CertView)
 word_loses b over places cert number w k cause kept going lives first scripted = subst (MayLose b k cause) (sym first.2) (record {
   goes_on = going;
   lives = lives;
-  words = all-without (is_word_for k cause) is_built_word b.left kept.words;
   looked =
       subst (Looked b.system b.script (b.log ++ crash_entry b.system b.log k cause ∷ [])) (sym (filter-without (is_word_for k cause) is_bus_word (word_not_bus k cause) b.left))
       (goes_by (kept.lawful.scripted).looked (crash_entry b.system b.log k cause) (word_unlooked k cause w is_for));
@@ -156,4 +152,4 @@ word_loses b over places cert number w k cause kept going lives first scripted =
 })
   where
     is_for : is_word_for k cause w ≡ true
-    is_for = (all-found (is_word_for k cause) is_built_word b.left w kept.words first.0).0
+    is_for = found_passes (is_word_for k cause) b.left w first.0

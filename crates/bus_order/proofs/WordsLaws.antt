@@ -107,6 +107,14 @@ all-found t p (x ∷ xs) w all found = by_test (t x) refl found (all-found t p x
     by_test true is e more = let same : x ≡ w = ap (λ o. unwrap_or o x) e in (ap t (sym same) ∙ is, ap p (sym same) ∙ parts.0)
     by_test false is e more = more e
 
+-- what is found passes
+pub found_passes : {X : Type 0} (t : X → Bool) (xs : List X) (w : X) → find t xs ≡ Some w → t w ≡ true
+found_passes t xs w found = (all-found t (λ x. true) xs w (all_true xs) found).0
+  where
+    all_true : {X : Type 0} (xs : List X) → list_all (λ (x : X). true) xs ≡ true
+    all_true [] = refl
+    all_true (x ∷ xs) = all_true xs
+
 pub none-found : {X : Type 0} (t : X → Bool) (xs : List X) → find t xs ≡ None → list_any t xs ≡ false
 none-found t [] none = refl
 none-found t (x ∷ xs) none = by_test (t x) none (none-found t xs)

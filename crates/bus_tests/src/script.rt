@@ -1,9 +1,7 @@
 //! A bus with a script: words for places of the log and for steps, in the order in which they are looked at.
 ghost use Rattle.std.specs.Prelude.{◌≡◌, [], true, IfOk};
-ghost use Rattle.std.specs.List.{list_all};
 ghost use Rattle.std.specs.Arc.{arc_value};
 ghost use Rattle.bus_msg.specs.declared.entry.Cause.TheVariants.{Step};
-ghost use Rattle.cert_sched.specs.Built.{is_built_word};
 ghost use Rattle.cert_sched.specs.Losses.{is_scripted_cause};
 ghost use Rattle.sys_text.specs.Valid.{is_system};
 ghost use Rattle.sys_text.specs.declared.system.System.{System as ASystem};
@@ -34,7 +32,6 @@ fn five(alloc: Global) -> Result<Arc<System>, Fail>
 
 // A bus of five clusters with this script.
 fn scripted(alloc: Global, script: &[ScriptWord]) -> Result<Bus, Fail>
-    requires { list_all is_built_word script.now ≡ true }
     ensures clusters { IfOk result (λ b. b.system.clusters ≡ 5) }
     ensures script { IfOk result (λ b. b.script ≡ script.now) }
     ensures log { IfOk result (λ b. b.log ≡ []) }
@@ -104,12 +101,31 @@ fn lost_by(entry: Option<&Entry>) -> Option<u8> {
     }
 }
 
-// The clusters that the entries 1 and 2 lose, the length of the log, whether it is over, and whether the end stands last.
-type Shown = ([Option<u8>; 2], u64, (bool, bool));
+// And of the one that it brings back.
+fn back_by(entry: Option<&Entry>) -> Option<u8> {
+    match &entry?.post.what {
+        What::Return { k } => Some(k.0),
+        _ => None,
+    }
+}
+
+// The clusters that the entries 1 and 2 lose, and those that they bring back.
+type Turned = ([Option<u8>; 2], [Option<u8>; 2]);
+
+fn turned_by(bus: &Bus) -> Turned {
+    let lost = [lost_by(bus.entry(1)), lost_by(bus.entry(2))];
+    let back = [back_by(bus.entry(1)), back_by(bus.entry(2))];
+    (lost, back)
+}
+
+const NONE_BACK: [Option<u8>; 2] = [None, None];
+
+// These, the length of the log, whether it is over, and whether the end stands last.
+type Shown = (Turned, u64, (bool, bool));
 
 fn shown_by(bus: &Bus) -> Shown {
-    let lost = [lost_by(bus.entry(1)), lost_by(bus.entry(2))];
-    (lost, bus.length(), (bus.is_over(), bus.is_finished()))
+    let turned = turned_by(bus);
+    (turned, bus.length(), (bus.is_over(), bus.is_finished()))
 }
 
 // The place of a stop, and how many entries stand before an end or a stop.
@@ -134,8 +150,7 @@ fn play(bus: &mut Bus, by: ClusterNo) -> Result<Played, Fail>
 
 // A bus with a script plays, whose first word loses cluster 0 at its step 5.
 fn played(alloc: Global, script: &[ScriptWord], by: ClusterNo) -> Result<Played, Fail>
-    requires built { list_all is_built_word script.now ≡ true }
-    requires may { (system : ASystem) → is_scripted_cause system script.now [] (record { 0 = 0 }) (Step 5) ≡ true }
+    requires { (system : ASystem) → is_scripted_cause system script.now [] (record { 0 = 0 }) (Step 5) ≡ true }
 {
     let mut bus = scripted(alloc, script)?;
     play(&mut bus, by)
@@ -160,7 +175,8 @@ static ORDER: [ScriptWord; 3] = [
 #[test]
 fn words_are_looked_at_in_order(rt: HostRuntime) -> Result<(), Fail> {
     let told = (Some(Ok(0)), (false, 1), Some(Err(Refused::Off { at: 2 })));
-    let wanted = (told, ([Some(4), Some(3)], 3, (false, false)), (Some(3), 3));
+    let turned = ([Some(4), Some(3)], NONE_BACK);
+    let wanted = (told, (turned, 3, (false, false)), (Some(3), 3));
     same(
         "the words",
         &played(rt.alloc(), &ORDER, ClusterNo(3))?,
@@ -184,7 +200,8 @@ static ONCE: [ScriptWord; 2] = [
 fn a_word_is_used_once(rt: HostRuntime) -> Result<(), Fail> {
     let behind = Some(Err(Refused::Behind { length: 1 }));
     let told = (Some(Ok(0)), (false, 1), behind);
-    let wanted = (told, ([None, None], 1, (false, false)), (Some(1), 1));
+    let turned = ([None, None], NONE_BACK);
+    let wanted = (told, (turned, 1, (false, false)), (Some(1), 1));
     same(
         "the words",
         &played(rt.alloc(), &ONCE, ClusterNo(1))?,
@@ -211,10 +228,120 @@ static UNCOVERED: [ScriptWord; 3] = [
 #[test]
 fn an_uncovered_loss_ends_the_log(rt: HostRuntime) -> Result<(), Fail> {
     let told = (Some(Ok(0)), (false, 1), Some(Err(Refused::Over { at: 1 })));
-    let wanted = (told, ([Some(1), None], 2, (true, false)), (None, 2));
+    let turned = ([Some(1), None], NONE_BACK);
+    let wanted = (told, (turned, 2, (true, false)), (None, 2));
     same(
         "the words",
         &played(rt.alloc(), &UNCOVERED, ClusterNo(0))?,
+        &wanted,
+    )
+}
+
+static BACK: [ScriptWord; 2] = [
+    ScriptWord::CrashStep {
+        k: ClusterNo(0),
+        step: 5,
+    },
+    ScriptWord::ReturnAt {
+        k: ClusterNo(0),
+        place: 1,
+    },
+];
+
+// Cluster 0 comes back at the place 1, and is not off then: it has not seen the two entries.
+#[test]
+fn a_lost_cluster_comes_back(rt: HostRuntime) -> Result<(), Fail> {
+    let behind = Some(Err(Refused::Behind { length: 2 }));
+    let told = (Some(Ok(0)), (false, 1), behind);
+    let turned = ([None, None], [Some(0), None]);
+    let wanted = (told, (turned, 2, (false, false)), (Some(2), 2));
+    same(
+        "the words",
+        &played(rt.alloc(), &BACK, ClusterNo(0))?,
+        &wanted,
+    )
+}
+
+static LATER: [ScriptWord; 2] = [
+    ScriptWord::CrashStep {
+        k: ClusterNo(0),
+        step: 5,
+    },
+    ScriptWord::ReturnAt {
+        k: ClusterNo(0),
+        place: 2,
+    },
+];
+
+// A word for the place 2 is not reached by a log with one entry, and cluster 0 stays off.
+#[test]
+fn a_return_is_not_early(rt: HostRuntime) -> Result<(), Fail> {
+    let told = (Some(Ok(0)), (false, 1), Some(Err(Refused::Off { at: 0 })));
+    let turned = ([None, None], NONE_BACK);
+    let wanted = (told, (turned, 1, (false, false)), (Some(1), 1));
+    same(
+        "the words",
+        &played(rt.alloc(), &LATER, ClusterNo(0))?,
+        &wanted,
+    )
+}
+
+static LIVING: [ScriptWord; 3] = [
+    ScriptWord::CrashStep {
+        k: ClusterNo(0),
+        step: 5,
+    },
+    ScriptWord::ReturnAt {
+        k: ClusterNo(3),
+        place: 0,
+    },
+    ScriptWord::CrashAt {
+        k: ClusterNo(3),
+        place: 1,
+    },
+];
+
+// The return of cluster 3, which lives, has no effect and is used up: the word behind it loses the cluster, and nothing brings it back.
+#[test]
+fn a_living_cluster_does_not_come_back(rt: HostRuntime) -> Result<(), Fail> {
+    let told = (Some(Ok(0)), (false, 1), Some(Err(Refused::Off { at: 1 })));
+    let turned = ([Some(3), None], NONE_BACK);
+    let wanted = (told, (turned, 2, (false, false)), (Some(2), 2));
+    same(
+        "the words",
+        &played(rt.alloc(), &LIVING, ClusterNo(3))?,
+        &wanted,
+    )
+}
+
+static AGAIN: [ScriptWord; 4] = [
+    ScriptWord::CrashStep {
+        k: ClusterNo(0),
+        step: 5,
+    },
+    ScriptWord::CrashAt {
+        k: ClusterNo(4),
+        place: 1,
+    },
+    ScriptWord::ReturnAt {
+        k: ClusterNo(4),
+        place: 1,
+    },
+    ScriptWord::CrashAt {
+        k: ClusterNo(4),
+        place: 2,
+    },
+];
+
+// Cluster 4 is lost, comes back, and is lost again, in one look at the words.
+#[test]
+fn a_cluster_that_came_back_is_lost_again(rt: HostRuntime) -> Result<(), Fail> {
+    let told = (Some(Ok(0)), (false, 1), Some(Err(Refused::Off { at: 3 })));
+    let turned = ([Some(4), None], [None, Some(4)]);
+    let wanted = (told, (turned, 4, (false, false)), (Some(4), 4));
+    same(
+        "the words",
+        &played(rt.alloc(), &AGAIN, ClusterNo(4))?,
         &wanted,
     )
 }

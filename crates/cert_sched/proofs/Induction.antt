@@ -1,5 +1,5 @@
 -- Induction over a legal log, the last entry last; and when a log is over.
-use Rattle.std.proofs.Common.{◌≡◌, sym, ◌∙◌, ap, subst, List, [], ◌∷◌, ◌++◌, append_assoc, append-nil, false}
+use Rattle.std.proofs.Common.{◌≡◌, ℕ, zero, suc, sym, ◌∙◌, ap, subst, List, [], ◌∷◌, ◌++◌, take, append_assoc, append-nil, false}
 use Rattle.std.specs.Option.{option_map_or}
 use Rattle.sys_text.specs.declared.system.System.{System}
 use Rattle.bus_msg.specs.declared.entry.Entry.{Entry}
@@ -25,6 +25,18 @@ pub legal_induction : (May : System → List Entry → Entry → Type 0) (system
     (log : List Entry) → IsLegalBy May system log → P log
 unfolding IsLegalBy
 legal_induction May system P none more log h = onward May system P more [] log none h
+
+-- ---- a beginning
+
+beginning_from : (May : System → List Entry → Entry → Type 0) (system : System) (before log : List Entry) (n : ℕ) → IsLegalFrom May system before log → IsLegalFrom May system before (take n log)
+beginning_from May system before log zero legal = tt
+beginning_from May system before [] (suc n) legal = tt
+beginning_from May system before (e ∷ rest) (suc n) legal = (legal.0, beginning_from May system (before ++ e ∷ []) rest n legal.1)
+
+-- of a legal log is legal
+pub legal_prefix : (May : System → List Entry → Entry → Type 0) (system : System) (log : List Entry) (n : ℕ) → IsLegalBy May system log → IsLegalBy May system (take n log)
+unfolding IsLegalBy
+legal_prefix May system log n legal = beginning_from May system [] log n legal
 
 -- ---- the end
 

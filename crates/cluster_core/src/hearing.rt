@@ -12,7 +12,6 @@ ghost use Rattle.sys_text.specs.declared.system.System.{System};
 ghost use Rattle.bus_msg.specs.declared.entry.What.{What};
 ghost use Rattle.bus_msg.specs.Places.{Places};
 ghost use Rattle.bus_msg.specs.PlacedAfter.{placed_after};
-ghost use Rattle.cert_sched.specs.Built.{is_built};
 ghost use Rattle.std.specs.Prelude.{Option, Some, option_map};
 ghost use Rattle.cert_sched.specs.Appended.{entry_of};
 ghost use Rattle.t32_base.specs.declared.process.Pid.{Pid as APid};
@@ -40,7 +39,7 @@ pub fn unheard_entries_are_passed_over()
 /// A law and no code: what a cluster knows of the placement it goes on to know, whichever entry but a new backup comes to it, and a loss moves
 /// the same records here by what it knows.
 pub fn placements_stay_known()
-    ensures known { (system : System) (k : AClusterNo) (known places : Places) (w : What) → is_built w ≡ true → is_rebackup w ≡ false → KnowsPlaces system k known places
+    ensures known { (system : System) (k : AClusterNo) (known places : Places) (w : What) → is_rebackup w ≡ false → KnowsPlaces system k known places
         → KnowsPlaces system k (placed_after known w) (placed_after places w) }
     ensures moved { (system : System) (k : AClusterNo) (known places : Places) (w : What) (recs : List BackRec) → KnowsPlaces system k known places
         → moved_by known k w recs ≡ moved_by places k w recs }

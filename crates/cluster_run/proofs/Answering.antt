@@ -39,6 +39,7 @@ use Rattle.bus_order.specs.declared.refused.Refused.TheVariants.{Over, Off, Behi
 use Rattle.bus_order.specs.declared.shared.Origin.{Origin}
 use Rattle.bus_order.specs.Script.{is_uncalled, is_unpassed}
 use Rattle.bus_order.specs.View.{Admits, BusView, Ends, Idles, MayIdle, MayTransmit, Transmits, after_words, is_awaited, with_mark, with_post}
+use Rattle.script_laws.specs.Off.{has_returned_in}
 use Rattle.script_laws.proofs.OffLosses.{not_off_not_lost}
 use Rattle.cluster_run.specs.declared.offers.Offered.TheVariants.{Sent}
 use Rattle.cluster_run.specs.Along.{IsAlong, IsSound}
@@ -164,7 +165,7 @@ adds_told old new k n m (Err NoMemory) t = adds_worded k old new (looked_worded 
 
 -- ---- what they answer
 
-module _ (old new : BusView) (c : ClusterView) (k : ClusterNo) (n : ℕ) (along : IsAlong old c) (legal : IsLegalBy MayStand new.system new.log) (k_is : k ≡ c.number) (n_is : n ≡ c.cursor) where
+module _ (old new : BusView) (c : ClusterView) (k : ClusterNo) (n : ℕ) (along : IsAlong old c) (unreturned : (j : ClusterNo) → has_returned_in new.log j ≡ false) (k_is : k ≡ c.number) (n_is : n ≡ c.cursor) where
   abbrev words : BusView
   words = after_words old
 
@@ -180,19 +181,19 @@ module _ (old new : BusView) (c : ClusterView) (k : ClusterNo) (n : ℕ) (along 
   pub is_sent : (post : Post) (at : ℕ) → Transmits old k n post (Ok at) new → OfferIs c.number c.cursor post Sent old new
   is_sent post at t = (goes_on_seen (t.0).0 (t.0).2, all_seen (t.0).2, t.2)
 
-  legal_words : new ≡ words → IsLegalBy MayStand words.system words.log
-  legal_words is = subst (λ (b : BusView). IsLegalBy MayStand b.system b.log) is legal
+  unreturned_words : new ≡ words → has_returned_in words.log k ≡ false
+  unreturned_words is = subst (λ (b : BusView). has_returned_in b.log k ≡ false) is (unreturned k)
 
   pub is_behind : (l : ℕ) → Admits words k n (Err (Behind l)) → new ≡ words → GoesOnFor c.number new × (c.cursor < length new.log)
   is_behind l a is =
-      let lives : was_lost_in words.log k ≡ false = not_off_not_lost words.system words.log k (legal_words is) a.1 in
+      let lives : was_lost_in words.log k ≡ false = not_off_not_lost words.log k (unreturned_words is) a.1 in
       let P : BusView → Type 0 = λ (b : BusView). GoesOnFor c.number b × (c.cursor < length b.log) in
       let less : c.cursor < length words.log = omega (arith, a.2, a.3, n_is) in
       subst P (sym is) (record { goes_on = a.0; lives = subst (λ k. was_lost_in words.log k ≡ false) k_is lives }, less)
 
   pub is_off : (at : ℕ) → Admits words k n (Err (Off at)) → new ≡ words → was_lost_in new.log c.number ≡ true
   is_off at a is =
-      let lost : was_lost_in words.log k ≡ true = lost_where_off words.system k words.log (legal_words is) at a.1 in
+      let lost : was_lost_in words.log k ≡ true = lost_where_off k words.log (unreturned_words is) at a.1 in
       let P : BusView → Type 0 = λ (b : BusView). was_lost_in b.log c.number ≡ true in
       subst P (sym is) (subst (λ k. was_lost_in words.log k ≡ true) k_is lost)
 

@@ -12,16 +12,13 @@ use Rattle.cert_sched.specs.Losses.{was_lost_in}
 use Rattle.cert_sched.specs.Rules.{is_by, is_over}
 use Rattle.cert_sched.specs.Legal.{IsLegalBy}
 use Rattle.cert_sched.specs.Built.{MayStand}
-use Rattle.cert_sched.proofs.ServerLaws.{first_server, servers_live}
-use Rattle.bus_order.proofs.OffLaws.{living_not_off}
-use Rattle.script_laws.proofs.OffLosses.{built_stands, not_off_not_lost}
-use Rattle.script_laws.proofs.ServersLeft.{server_left}
+use Rattle.cert_sched.proofs.ServerLaws.{first_server}
+use Rattle.script_laws.proofs.OffLosses.{built_stands}
+use Rattle.script_laws.proofs.ServersLeft.{never_unlost, server_left}
 
--- it lives, so it was not lost
+-- it was not lost
 pub first_lives : (system : System) (log : List Entry) (k : ClusterNo) → IsLegalBy MayStand system log → first_of (servers_in (placement system log)) ≡ Some k → was_lost_in log k ≡ false
-first_lives system log k legal first =
-    let never = first_server (placement system log) k (ap (is_by (Cluster k)) first ∙ eq-eqb k.0 k.0 refl) in
-    not_off_not_lost system log k legal (living_not_off system log k legal (servers_live system log k never))
+first_lives system log k legal first = never_unlost system log k (built_stands system log legal) (first_server (placement system log) k (ap (is_by (Cluster k)) first ∙ eq-eqb k.0 k.0 refl))
 
 -- the first of the servers that are left
 pub record FirstServer (system : System) (log : List Entry) : Type 0 where

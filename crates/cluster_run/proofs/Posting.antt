@@ -24,7 +24,7 @@ use Rattle.cluster_run.specs.Along.{HasTaken, IsAlong, IsPosting, IsReadyAt, IsS
 use Rattle.cluster_run.specs.Turns.{IsSent}
 use Rattle.cluster_run.specs.Offers.{GoesOnFor}
 use Rattle.cluster_run.proofs.OwnLosses.{passed_next}
-use Rattle.cluster_run.proofs.Prefixes.{legal_prefix}
+use Rattle.cert_sched.proofs.Induction.{legal_prefix}
 use Rattle.cluster_run.proofs.Offering.{along_tried}
 use Rattle.cluster_run.proofs.TakingIn.{upto_all}
 use Rattle.cluster_run.proofs.Sending.{clears, ready_sent, sent_along, sent_goes_on, sent_seen}

@@ -5,9 +5,10 @@ use mathlib.Core.List.{IsPrefix}
 use Rattle.sys_text.specs.declared.system.System.{System}
 use Rattle.bus_msg.specs.declared.entry.Entry.{Entry}
 use Rattle.cert_sched.specs.Rules.{is_over}
-use Rattle.cert_sched.specs.Legal.{IsLegalBy, IsLegalFrom}
+use Rattle.cert_sched.specs.Legal.{IsLegalBy}
 use Rattle.cert_sched.specs.Built.{MayStand}
 use Rattle.cert_sched.proofs.LogLaws.{IsLegal-last}
+use Rattle.cert_sched.proofs.Induction.{legal_prefix}
 use Rattle.bus_order.proofs.LogParts.{take_one}
 
 -- ---- lists
@@ -26,16 +27,6 @@ drop_whole [] = refl
 drop_whole (x ∷ xs) = drop_whole xs
 
 -- ---- legal logs
-
-legal_from : (May : System → List Entry → Entry → Type 0) (system : System) (before rest : List Entry) (n : ℕ) → IsLegalFrom May system before rest → IsLegalFrom May system before (take n rest)
-legal_from May system before rest zero legal = tt
-legal_from May system before [] (suc n) legal = tt
-legal_from May system before (e ∷ rest) (suc n) legal = (legal.0, legal_from May system (before ++ e ∷ []) rest n legal.1)
-
--- a beginning of a legal log is legal
-pub legal_prefix : (May : System → List Entry → Entry → Type 0) (system : System) (log : List Entry) (n : ℕ) → IsLegalBy May system log → IsLegalBy May system (take n log)
-unfolding IsLegalBy
-legal_prefix May system log n legal = legal_from May system [] log n legal
 
 -- the log before an entry of it goes on
 pub goes_on_before : (system : System) (log : List Entry) (n : ℕ) (e : Entry) → IsLegalBy MayStand system log → slice_get log n ≡ Some e → is_over system (take n log) ≡ false

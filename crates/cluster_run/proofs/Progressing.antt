@@ -11,6 +11,7 @@ use Rattle.bus_msg.specs.Places.{all_clusters, cluster_no, lives_in, servers_in}
 use Rattle.cert_sched.specs.Schedule.{placement}
 use Rattle.cert_sched.specs.Losses.{was_lost_in}
 use Rattle.cert_sched.specs.Rules.{is_over}
+use Rattle.script_laws.specs.Off.{has_returned_in}
 use Rattle.script_laws.proofs.OffLosses.{lives_unless_lost}
 use Rattle.cert_sched.proofs.Induction.{is_over-snoc}
 use Rattle.cert_sched.proofs.HomesLaws.{built_clusters-length}
@@ -304,12 +305,12 @@ not_none true (Some m) has = refl
 not_none false (Some m) has = refl
 
 -- where each cluster has its mark or was lost, none is awaited
-none_awaited : (b : BusView) → IsLegalBy MayStand b.system b.log → ((n : ℕ) → n < (b.system).clusters → HasMark b n ⊎ IsLost b n) → is_awaited (placement b.system b.log) b.marks ≡ false
-none_awaited b legal all = any_none (λ k. lives_in (placement b.system b.log) k && is_none (mark_in b.marks k)) (all_clusters (placement b.system b.log)) (λ n k at. one n k (slice_get (range_with_len 0 (length (placement b.system b.log).clusters)) n) refl (sym (slice_get-map cluster_no (range_with_len 0 (length (placement b.system b.log).clusters)) n) ∙ at))
+none_awaited : (b : BusView) → IsLegalBy MayStand b.system b.log → ((k : ClusterNo) → has_returned_in b.log k ≡ false) → ((n : ℕ) → n < (b.system).clusters → HasMark b n ⊎ IsLost b n) → is_awaited (placement b.system b.log) b.marks ≡ false
+none_awaited b legal unreturned all = any_none (λ k. lives_in (placement b.system b.log) k && is_none (mark_in b.marks k)) (all_clusters (placement b.system b.log)) (λ n k at. one n k (slice_get (range_with_len 0 (length (placement b.system b.log).clusters)) n) refl (sym (slice_get-map cluster_no (range_with_len 0 (length (placement b.system b.log).clusters)) n) ∙ at))
   where
     marked_or : (i : ℕ) → i < (b.system).clusters → HasMark b i ⊎ IsLost b i → (lives_in (placement b.system b.log) (cluster_no i) && is_none (mark_in b.marks (cluster_no i))) ≡ false
     marked_or i within (inl has) = not_none (lives_in (placement b.system b.log) (cluster_no i)) (mark_in b.marks (cluster_no i)) has
-    marked_or i within (inr lost) = ap (λ t. t && is_none (mark_in b.marks (cluster_no i))) (lives_unless_lost b.system b.log (cluster_no i) legal within ∙ ap not lost)
+    marked_or i within (inr lost) = ap (λ t. t && is_none (mark_in b.marks (cluster_no i))) (lives_unless_lost b.system b.log (cluster_no i) legal (unreturned (cluster_no i)) within ∙ ap not lost)
 
     one : (n : ℕ) (k : ClusterNo) (o : Option ℕ) → slice_get (range_with_len 0 (length (placement b.system b.log).clusters)) n ≡ o → option_map cluster_no o ≡ Some k → (lives_in (placement b.system b.log) k && is_none (mark_in b.marks k)) ≡ false
     one n k None at is = cc
@@ -320,7 +321,7 @@ none_awaited b legal all = any_none (λ k. lives_in (placement b.system b.log) k
         subst (λ k. (lives_in (placement b.system b.log) k && is_none (mark_in b.marks k)) ≡ false) same (marked_or i within (all i within))
 
 -- a round leaves less to do, or the log is over
-module _ (b then after : BusView) (left still now : Remaining) (first count : ℕ) (valid : is_system after.system ≡ true) (legal : IsLegalBy MayStand after.system after.log) (each : count ≡ (after.system).clusters) (over : IsOver then → IsOver after)
+module _ (b then after : BusView) (left still now : Remaining) (first count : ℕ) (valid : is_system after.system ≡ true) (legal : IsLegalBy MayStand after.system after.log) (unreturned : (k : ClusterNo) → has_returned_in after.log k ≡ false) (each : count ≡ (after.system).clusters) (over : IsOver then → IsOver after)
     (first_lasts : IsOver then ⊎ IsAtMost left still) (second_lasts : IsOver after ⊎ IsAtMost still now) where
   all_marked : Rests b then first count → Rests then after 0 first → (n : ℕ) → (n < first) ⊎ (first ≤ n) → n < count → HasMark after n ⊎ IsLost after n ⊎ AwaitsPage after
   all_marked one two n (inl earlier) low = two.marked n (omega arith) earlier
@@ -356,7 +357,7 @@ module _ (b then after : BusView) (left still now : Remaining) (first count : �
       let none = none_awaits goes one two in
       let all = λ (n : ℕ) (low : n < (after.system).clusters). marked_or_lost n none (all_marked one two n (nat_lt_or n first) (omega (arith, low, each))) in
       let has : HasMark after alive.number = has_mark after alive.number none alive.lives (all_marked one two alive.number (nat_lt_or alive.number first) (let within = alive.within in omega (arith, within, each))) in
-      true≢false (sym (awaited_by alive one two none (nat_lt_or alive.number first) has) ∙ none_awaited after legal all)
+      true≢false (sym (awaited_by alive one two none (nat_lt_or alive.number first) has) ∙ none_awaited after legal unreturned all)
     where
       marked_or_lost : (n : ℕ) → waiting_fetches after.system after.log ≡ [] → HasMark after n ⊎ IsLost after n ⊎ AwaitsPage after → HasMark after n ⊎ IsLost after n
       marked_or_lost n none (inl has) = inl has

@@ -35,7 +35,7 @@ use Rattle.bus_order.specs.declared.refused.Refused.{Refused}
 use Rattle.std.specs.Prelude.{Result, Ok, Err}
 use Rattle.bus_order.specs.declared.refused.Refused.TheVariants.{Over, Off, Behind, NoMemory}
 use Rattle.bus_order.proofs.OverLaws.{over_long}
-use Rattle.script_laws.specs.Off.{IsItsLoss}
+use Rattle.script_laws.specs.Off.{IsItsLoss, has_returned_in}
 use Rattle.script_laws.proofs.LosingAtCall.{may_at_call, may_at_sent}
 use Rattle.script_laws.proofs.LosingAtStep.{may_before, may_sent}
 use Rattle.script_laws.proofs.OffLosses.{not_off_not_lost, off_is_its_loss, silent_once_lost}
@@ -171,9 +171,9 @@ pub lost_gone : (b : BusView) (c : ClusterView) → IsSound b → IsBeforeStep b
 lost_gone b c sound before lost = by_off (off_at b.log c.number) refl
   where
     by_off : (o : Option ℕ) → off_at b.log c.number ≡ o → IsGone b c
-    by_off None on = absurd (true≢false (sym lost ∙ not_off_not_lost b.system b.log c.number sound.legal on))
+    by_off None on = absurd (true≢false (sym lost ∙ not_off_not_lost b.log c.number (sound.unreturned c.number) on))
     by_off (Some at) off =
-        let loss = off_is_its_loss b.system b.log c.number at sound.legal off in
+        let loss = off_is_its_loss b.system b.log c.number at sound.legal (sound.unreturned c.number) off in
         let first : position_or_len (its_loss c.number) b.log ≡ at = first_at (its_loss c.number) b.log at loss.entry loss.there loss.loses loss.none_before in
         let low = not_before (its_loss c.number) b.log c.cursor before.within before.lives in
         record {
@@ -331,7 +331,7 @@ lost_by_own b c left before lives =
 -- what the bus answers
 pub lost_answer : (old new : BusView) (c : ClusterView) (at : ℕ) → IsSound old → IsSound new → IsBeforeStep old c → Loses old c.number (own_cause c) (Ok at) new → IsStopped new c
 lost_answer old new c at sound sound_new before loses =
-    let lives = not_off_not_lost old.system old.log c.number sound.legal loses.1 in
+    let lives = not_off_not_lost old.log c.number (sound.unreturned c.number) loses.1 in
     record { sound = sound_new; gone = subst (λ b. IsGone b c) (sym loses.3) (lost_by_own old c (without_first (is_word_for c.number (own_cause c)) old.left) before lives) }
 
 -- the log tells of it
@@ -398,7 +398,7 @@ stands_of b c (inl (unfailed, inl beside)) = inl (unfailed, inl beside)
 stands_of b c (inl (unfailed, inr between)) = inl (unfailed, inr between.1)
 stands_of b c (inr failed) = inr failed.1
 
-module _ (b after : BusView) (c : ClusterView) (more : List Entry) (legal : IsLegalBy MayStand after.system after.log) (system : after.system ≡ b.system) (script : after.script ≡ b.script) (longer : after.log ≡ b.log ++ more) (left : LeftAs b c) where
+module _ (b after : BusView) (c : ClusterView) (more : List Entry) (legal : IsLegalBy MayStand after.system after.log) (unreturned : has_returned_in after.log c.number ≡ false) (system : after.system ≡ b.system) (script : after.script ≡ b.script) (longer : after.log ≡ b.log ++ more) (left : LeftAs b c) where
   -- who was lost stays so when others add to the log
   lost_longer : was_lost_in b.log c.number ≡ true → IsGone after c
   lost_longer was_lost =
@@ -406,7 +406,7 @@ module _ (b after : BusView) (c : ClusterView) (more : List Entry) (legal : IsLe
       let cut = cut_lost c.number after.system after.log lost in
       let front : take (length b.log) after.log ≡ b.log = ap (take (length b.log)) longer ∙ take-append-le (length b.log) b.log more (omega arith) ∙ take_all (length b.log) b.log (omega arith) in
       let rest : drop (length b.log) after.log ≡ more = ap (drop (length b.log)) longer ∙ drop-append-le (length b.log) b.log more (omega arith) ∙ ap (λ l. l ++ more) (drop_whole b.log) in
-      let silent : list_any (is_by_cluster c.number) more ≡ false = ap (list_any (is_by_cluster c.number)) (sym rest) ∙ silent_once_lost after.system after.log c.number (length b.log) legal (ap (λ l. was_lost_in l c.number) front ∙ was_lost) in
+      let silent : list_any (is_by_cluster c.number) more ≡ false = ap (list_any (is_by_cluster c.number)) (sym rest) ∙ silent_once_lost after.system after.log c.number (length b.log) legal unreturned (ap (λ l. was_lost_in l c.number) front ∙ was_lost) in
       let before = life_ends b.log c.number was_lost in
       let ends : end_of_life after.log c.number 0 ≡ end_of_life b.log c.number 0 =
       life_ends after.log c.number lost ∙ ap (position_or_len (its_loss c.number)) longer ∙ first_longer (its_loss c.number) b.log more was_lost ∙ sym before in
@@ -448,9 +448,9 @@ module _ (b after : BusView) (c : ClusterView) (more : List Entry) (legal : IsLe
       }
 
 -- who is gone stays so when others add to the log
-pub gone_longer : (b after : BusView) (c : ClusterView) (more : List Entry) → IsLegalBy MayStand after.system after.log → after.system ≡ b.system → after.script ≡ b.script → after.log ≡ b.log ++ more → IsGone b c → IsGone after c
-gone_longer b after c more legal system script longer gone = by_way (cut_parts c.number b.system b.log gone.lost)
+pub gone_longer : (b after : BusView) (c : ClusterView) (more : List Entry) → IsLegalBy MayStand after.system after.log → has_returned_in after.log c.number ≡ false → after.system ≡ b.system → after.script ≡ b.script → after.log ≡ b.log ++ more → IsGone b c → IsGone after c
+gone_longer b after c more legal unreturned system script longer gone = by_way (cut_parts c.number b.system b.log gone.lost)
   where
     by_way : (was_lost_in b.log c.number ≡ true) ⊎ ((was_lost_in b.log c.number ≡ false) × (ends_lost b.system b.log ≡ true)) → IsGone after c
-    by_way (inl lost) = lost_longer b after c more legal system script longer gone.left lost
-    by_way (inr (lives, ended)) = ended_longer b after c more legal system script longer gone.left lives ended
+    by_way (inl lost) = lost_longer b after c more legal unreturned system script longer gone.left lost
+    by_way (inr (lives, ended)) = ended_longer b after c more legal unreturned system script longer gone.left lives ended

@@ -14,7 +14,7 @@ use Rattle.cert_sched.specs.Losses.{is_crash_of, was_lost_in}
 use Rattle.cert_sched.specs.Rules.{is_over}
 use Rattle.bus_order.specs.Script.{off_at}
 use Rattle.bus_order.proofs.LogParts.{less_of, take_one}
-use Rattle.script_laws.specs.Off.{IsItsLoss}
+use Rattle.script_laws.specs.Off.{IsItsLoss, has_returned_in}
 use Rattle.script_laws.proofs.OffLosses.{lost_off, not_off_not_lost, off_is_its_loss}
 use Rattle.cluster_run.specs.Along.{upto}
 use Rattle.cluster_run.specs.Ends.{followed_length}
@@ -108,12 +108,12 @@ upto_loss k system log at loss = upto_first k system log at loss.entry loss.ther
 
 -- ---- what the bus says
 
-module _ (system : System) (k : ClusterNo) (log : List Entry) (legal : IsLegalBy MayStand system log) where
-  pub upto_off : (at : ℕ) → off_at log k ≡ Some at → upto k system log ≡ at
-  upto_off at is = upto_loss k system log at (off_is_its_loss system log k at legal is)
+module _ (system : System) (k : ClusterNo) (log : List Entry) (unreturned : has_returned_in log k ≡ false) where
+  pub upto_off : (at : ℕ) → IsLegalBy MayStand system log → off_at log k ≡ Some at → upto k system log ≡ at
+  upto_off at legal is = upto_loss k system log at (off_is_its_loss system log k at legal unreturned is)
 
   pub upto_not_off : off_at log k ≡ None → upto k system log ≡ followed_length system log
-  upto_not_off is = upto_living k system log (not_off_not_lost system log k legal is)
+  upto_not_off is = upto_living k system log (not_off_not_lost log k unreturned is)
 
-  pub lost_where_off : (at : ℕ) → off_at log k ≡ Some at → was_lost_in log k ≡ true
-  lost_where_off at is = lost_off system log k legal ∙ ap is_some is
+pub lost_where_off : (k : ClusterNo) (log : List Entry) → has_returned_in log k ≡ false → (at : ℕ) → off_at log k ≡ Some at → was_lost_in log k ≡ true
+lost_where_off k log unreturned at is = lost_off log k unreturned ∙ ap is_some is

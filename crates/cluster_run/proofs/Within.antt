@@ -66,7 +66,8 @@ use Rattle.checkpoint_laws.proofs.remaining.Bounded.{syncs_within}
 use Rattle.checkpoint_laws.proofs.remaining.StepsLeft.{after_log}
 use Rattle.cluster_run.specs.Progress.{Falls, IsOver, Remaining, remaining, total, unseen}
 use Rattle.cluster_run.proofs.Posting.{follows_some}
-use Rattle.cluster_run.proofs.Prefixes.{goes_on_before, legal_prefix}
+use Rattle.cert_sched.proofs.Induction.{legal_prefix}
+use Rattle.cluster_run.proofs.Prefixes.{goes_on_before}
 use Rattle.cluster_run.proofs.PagesWithin.{few_placed, most_pages, pages_within, placed_count}
 use Rattle.cluster_run.proofs.StepLosses.{gone_inside, same_sent}
 use Rattle.cluster_run.proofs.Together.{one_member}

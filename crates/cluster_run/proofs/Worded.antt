@@ -27,6 +27,7 @@ use Rattle.bus_order.proofs.Looking.{look_over, look_some}
 use Rattle.script_laws.proofs.OffLosses.{built_stands}
 use Rattle.script_laws.proofs.SpreadLosses.{spread_log_closes}
 use Rattle.script_laws.proofs.WordLosses.{all_worded}
+use Rattle.script_laws.proofs.WordReturns.{none_returned}
 use Rattle.cluster_run.specs.Gone.{is_told_by}
 use Rattle.cluster_run.specs.Along.{IsSound}
 use Rattle.cluster_run.specs.Seated.{bus_of, origin_of}
@@ -112,7 +113,7 @@ may_add k more none i d low = inl (none i d low)
 
 -- a bus is sound, as far as its script is
 pub sound_of : (b : BusView) → is_system b.system ≡ true → list_all is_built_word b.script ≡ true → IsLawful b → IsSound b
-sound_of b valid words lawful = record { valid = valid; words = words; legal = lawful.legal; fits = lawful.fits }
+sound_of b valid words lawful = record { valid = valid; words = words; legal = lawful.legal; unreturned = λ k. none_returned b k lawful.scripted words; fits = lawful.fits }
 
 pub sound_again : (old new : BusView) → IsSound old → new.system ≡ old.system → new.script ≡ old.script → IsLawful new → IsSound new
 sound_again old new sound system script lawful =
@@ -126,4 +127,4 @@ spread_closes b valid lawful spread over = spread_log_closes b.system b.script b
 pub sound_by_log : (b : BusView) (log : List Entry) → IsSound b → log ≡ b.log → IsSound (bus_of (origin_of b) log)
 sound_by_log b log sound same =
     let P : List Entry → Type 0 = λ l. IsSound (bus_of (origin_of b) l) in
-    subst P (sym same) (record { valid = sound.valid; words = sound.words; legal = sound.legal; fits = sound.fits })
+    subst P (sym same) (record { valid = sound.valid; words = sound.words; legal = sound.legal; unreturned = sound.unreturned; fits = sound.fits })

@@ -1,7 +1,6 @@
 -- In a log with no loss each loss is covered; so a log with one loss at most ends only by Done or Stop.
 use Rattle.std.proofs.Common.{◌≡◌, ◌+◌, ◌≤◌, refl, sym, ◌∙◌, ap, arith, List, [], ◌∷◌, length, Bool, true, false, cond, not, ◌||◌, eq-eqb, Option, Some, None, is_some, true≢false}
 use Rattle.std.specs.Option.{option_map_or}
-use Rattle.std.specs.List.{list_all}
 use Rattle.std.proofs.lemmas.Bool.{and_from}
 use Rattle.t32_base.specs.declared.process.ClusterNo.{ClusterNo}
 use Rattle.sys_text.specs.declared.system.System.{System}
@@ -17,7 +16,7 @@ use Rattle.cert_sched.specs.Schedule.{placement}
 use Rattle.cert_sched.specs.Rules.{is_over, ends_run}
 use Rattle.cert_sched.specs.Scripted.{closes, is_closed, is_lost_by}
 use Rattle.cert_sched.specs.Legal.{IsLegalBy}
-use Rattle.cert_sched.specs.Built.{MayStand, is_built_word}
+use Rattle.cert_sched.specs.Built.{MayStand}
 use Rattle.cert_sched.specs.Told.{cluster_lost}
 use Rattle.cert_sched.proofs.LogLaws.{IsLegal-snoc}
 use Rattle.cert_sched.proofs.Induction.{legal_induction, is_over-snoc}
@@ -82,7 +81,7 @@ few_losses_close system log valid legal =
     }) log legal).closed
 
 -- a script of one word ends no run
-pub one_word_closes : (b : BusView) → is_system b.system ≡ true → IsLegalBy MayStand b.system b.log → KeepsScript b → list_all is_built_word b.script ≡ true → length b.script ≤ 1 → is_over b.system b.log ≡ true → is_closed b.log ≡ true
-one_word_closes b valid legal keeps built few over =
-    let within = crashes_within b keeps legal built in
+pub one_word_closes : (b : BusView) → is_system b.system ≡ true → IsLegalBy MayStand b.system b.log → KeepsScript b → length b.script ≤ 1 → is_over b.system b.log ≡ true → is_closed b.log ≡ true
+one_word_closes b valid legal keeps few over =
+    let within = crashes_within b keeps in
     few_losses_close b.system b.log valid legal (omega (arith, within, few)) over

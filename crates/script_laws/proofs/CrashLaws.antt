@@ -1,7 +1,6 @@
 -- A log of a script has no more losses than the script has words.
 use Rattle.std.proofs.Common.{◌≡◌, ℕ, ◌+◌, ◌≤◌, refl, sym, ◌∙◌, arith, List, [], ◌∷◌, ◌++◌, length, length-append, Bool, true, false, cond, true≢false}
 use Rattle.std.specs.Prelude.{count_by, filter}
-use Rattle.std.specs.List.{list_all}
 use Rattle.std.proofs.lemmas.List.Sums.{sum_by-append}
 use Rattle.t32_base.proofs.Facts.{one_at_most}
 use Rattle.sys_text.specs.declared.system.System.{System}
@@ -12,8 +11,6 @@ use Rattle.bus_msg.specs.declared.entry.Entry.{Entry}
 use Rattle.bus_msg.specs.PlacedAfter.{what}
 use Rattle.cert_sched.specs.declared.script.ScriptWord.{ScriptWord}
 use Rattle.cert_sched.specs.declared.script.ScriptWord.TheVariants.{CrashAt, CrashStep, DiskAt, ReturnAt}
-use Rattle.cert_sched.specs.Legal.{IsLegalBy}
-use Rattle.cert_sched.specs.Built.{MayStand, is_built_word}
 use Rattle.cert_sched.specs.Looked.{Looked, at_start, gives_nothing, gives, goes_on, none_reached, is_bus_word, is_given, is_reached, waits_for_no_word, waits_for_words}
 use Rattle.bus_order.specs.View.{BusView, KeepsScript}
 use Rattle.bus_order.proofs.WordsLaws.{length-without}
@@ -114,8 +111,8 @@ keys_within b keeps =
     omega (arith, all, long)
 
 -- no more losses than words
-pub crashes_within : (b : BusView) → KeepsScript b → IsLegalBy MayStand b.system b.log → list_all is_built_word b.script ≡ true → crashes b.log ≤ length b.script
-crashes_within b keeps legal built =
+pub crashes_within : (b : BusView) → KeepsScript b → crashes b.log ≤ length b.script
+crashes_within b keeps =
     let each = crash_parts b.log in
     let places = looked_within b.system b.script b.log (filter is_bus_word b.left) keeps.looked in
     let keys = keys_within b keeps in
@@ -123,8 +120,8 @@ crashes_within b keeps legal built =
     omega (arith, each, places, keys, all)
 
 -- nor with those that are left
-pub crashes_and_left : (b : BusView) → KeepsScript b → IsLegalBy MayStand b.system b.log → list_all is_built_word b.script ≡ true → list_all is_built_word b.left ≡ true → crashes b.log + length b.left ≤ length b.script
-crashes_and_left b keeps legal built left =
+pub crashes_and_left : (b : BusView) → KeepsScript b → crashes b.log + length b.left ≤ length b.script
+crashes_and_left b keeps =
     let each = crash_parts b.log in
     let places = looked_within b.system b.script b.log (filter is_bus_word b.left) keeps.looked in
     let keys = keys_within b keeps in

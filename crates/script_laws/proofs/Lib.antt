@@ -6,8 +6,10 @@ pub mod LosingAtStep
 pub mod LosingAtCall
 pub mod PassedWords
 pub mod OffSince
+pub mod Alternating
 pub mod OffLosses
 pub mod LookedOn
 pub mod WordLosses
+pub mod WordReturns
 pub mod SpreadLosses
 pub mod ServersLeft

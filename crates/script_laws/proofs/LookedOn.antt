@@ -25,7 +25,7 @@ use Rattle.cert_sched.proofs.ListLaws.{list_all-weaker}
 use Rattle.cert_sched.proofs.LogLaws.{IsLegal-snoc}
 use Rattle.bus_order.specs.Script.{is_word_for}
 use Rattle.bus_order.specs.View.{BusView, KeepsScript, after_words, look_once, looks, no_marks, return_entry, with_given}
-use Rattle.bus_order.proofs.WordsLaws.{all-found, all-without, length-without}
+use Rattle.bus_order.proofs.WordsLaws.{all-without, found_passes, length-without}
 use Rattle.bus_order.proofs.Looking.{look_over, look_some, settled_stays}
 use Rattle.bus_order.proofs.Keeping.{IsMore, reached_no_word, scripted_more, scripted_passed}
 use Rattle.bus_order.proofs.Losing.{given_loses, loss_more}
@@ -203,20 +203,12 @@ by_look P b same passed lost back = by_end (is_over b.system b.log) refl
     by_end true over = subst P (sym (look_over b over)) same
     by_end false goes_on = by_first (first_reached b.log b.left) goes_on refl
 
-built_once : (b : BusView) → list_all is_built_word b.left ≡ true → list_all is_built_word (look_once b).left ≡ true
-built_once b built =
-    by_look (λ new. list_all is_built_word new.left ≡ true) b built
-    (λ w first given. all-without (is_reached (length b.log)) is_built_word b.left built)
-    (λ j place goes_on first given. all-without (is_reached (length b.log)) is_built_word b.left built)
-    (λ j place goes_on first given. all-without (is_reached (length b.log)) is_built_word b.left built)
-
--- what is found passes
-found_passes : (t : ScriptWord → Bool) (ws : List ScriptWord) (w : ScriptWord) → find t ws ≡ Some w → t w ≡ true
-found_passes t ws w found = (all-found t (λ w. true) ws w (all_true ws) found).0
-  where
-    all_true : (ws : List ScriptWord) → list_all (λ w. true) ws ≡ true
-    all_true [] = refl
-    all_true (w ∷ ws) = all_true ws
+all_once : (test : ScriptWord → Bool) (b : BusView) → list_all test b.left ≡ true → list_all test (look_once b).left ≡ true
+all_once test b all =
+    by_look (λ new. list_all test new.left ≡ true) b all
+    (λ w first given. all-without (is_reached (length b.log)) test b.left all)
+    (λ j place goes_on first given. all-without (is_reached (length b.log)) test b.left all)
+    (λ j place goes_on first given. all-without (is_reached (length b.log)) test b.left all)
 
 adds_once : (b : BusView) → AddsTurns b (look_once b)
 adds_once b =
@@ -277,7 +269,6 @@ none_is_reached n b none = settled_stays n b (by_end (is_over b.system b.log) re
 
 record Stays (b : BusView) : Type 0 where
   pub legal : IsLegalBy MayStand b.system b.log
-  pub words : list_all is_built_word b.left ≡ true
   pub scripted : KeepsScript b
 
 stays_once : (b : BusView) → Stays b → Stays (look_once b)
@@ -285,23 +276,20 @@ stays_once b stays =
     by_look Stays b stays
     (λ w first given. record {
       legal = stays.legal;
-      words = all-without (is_reached (length b.log)) is_built_word b.left stays.words;
-      scripted = scripted_passed b w stays.scripted stays.words first given;
+      scripted = scripted_passed b w stays.scripted first given;
     })
     (λ j place goes_on first given.
-    let may = given_loses b (CrashAt j place) j stays.scripted stays.words goes_on first given in
+    let may = given_loses b (CrashAt j place) j stays.scripted goes_on first given in
     let more : IsMore b (crash_entry b.system b.log j Place) (without_reached b.log b.left) = loss_more b j Place (without_reached b.log b.left) stays.legal may in
     record {
       legal = IsLegal-snoc MayStand b.system b.log (crash_entry b.system b.log j Place) stays.legal more.may;
-      words = more.words;
       scripted = scripted_more b (crash_entry b.system b.log j Place) (without_reached b.log b.left) (no_marks b.marks) stays.scripted more;
     })
     (λ j place goes_on first given.
-    let may = given_returns b (ReturnAt j place) j stays.scripted stays.words goes_on first given in
+    let may = given_returns b (ReturnAt j place) j stays.scripted goes_on first given in
     let more : IsMore b (return_entry b.system b.log j) (without_reached b.log b.left) = return_more b j (without_reached b.log b.left) stays.legal may in
     record {
       legal = IsLegal-snoc MayStand b.system b.log (return_entry b.system b.log j) stays.legal more.may;
-      words = more.words;
       scripted = scripted_more b (return_entry b.system b.log j) (without_reached b.log b.left) (no_marks b.marks) stays.scripted more;
     })
 
@@ -309,12 +297,12 @@ all_stays : (n : ℕ) (b : BusView) → Stays b → Stays (looks n b)
 all_stays zero b stays = stays
 all_stays (suc n) b stays = all_stays n (look_once b) (stays_once b stays)
 
-pub looks_legal : (n : ℕ) (b : BusView) → IsLegalBy MayStand b.system b.log → list_all is_built_word b.left ≡ true → KeepsScript b → IsLegalBy MayStand (looks n b).system (looks n b).log
-looks_legal n b legal built keeps = (all_stays n b (record { legal = legal; words = built; scripted = keeps })).legal
+pub looks_legal : (n : ℕ) (b : BusView) → IsLegalBy MayStand b.system b.log → KeepsScript b → IsLegalBy MayStand (looks n b).system (looks n b).log
+looks_legal n b legal keeps = (all_stays n b (record { legal = legal; scripted = keeps })).legal
 
-pub looks_built : (n : ℕ) (b : BusView) → list_all is_built_word b.left ≡ true → list_all is_built_word (looks n b).left ≡ true
-looks_built zero b built = built
-looks_built (suc n) b built = looks_built n (look_once b) (built_once b built)
+pub looks_all : (test : ScriptWord → Bool) (n : ℕ) (b : BusView) → list_all test b.left ≡ true → list_all test (looks n b).left ≡ true
+looks_all test zero b all = all
+looks_all test (suc n) b all = looks_all test n (look_once b) (all_once test b all)
 
-pub looks_scripted : (n : ℕ) (b : BusView) → IsLegalBy MayStand b.system b.log → list_all is_built_word b.left ≡ true → KeepsScript b → KeepsScript (looks n b)
-looks_scripted n b legal built keeps = (all_stays n b (record { legal = legal; words = built; scripted = keeps })).scripted
+pub looks_scripted : (n : ℕ) (b : BusView) → IsLegalBy MayStand b.system b.log → KeepsScript b → KeepsScript (looks n b)
+looks_scripted n b legal keeps = (all_stays n b (record { legal = legal; scripted = keeps })).scripted

@@ -1,216 +1,85 @@
--- A cluster is off from its loss on: it is lost once at most, lives exactly where it was not lost, and sends nothing afterwards.
-use Rattle.std.proofs.Common.{◌≡◌, ℕ, zero, suc, ◌+◌, ◌<◌, ◌≤◌, refl, sym, ◌∙◌, ap, subst, arith, List, [], ◌∷◌, ◌++◌, length, take, drop, Bool, true, false, cond, not, ◌||◌, ◌⊎◌, inl, inr, eqb-true, Option, Some, None, unwrap_or, is_some, true≢false}
+-- A cluster that no entry brings back is off from its loss on: it is lost once at most, lives exactly where it was not lost, and sends nothing afterwards.
+use Rattle.std.proofs.Common.{◌≡◌, ℕ, ◌+◌, ◌<◌, refl, sym, ◌∙◌, ap, List, [], ◌∷◌, ◌++◌, take, drop, false, true, not, ◌||◌, None, Option, Some, is_none, is_some}
 use Rattle.std.specs.List.{list_any}
-use Rattle.std.proofs.Math.Seq.{take-append_seam}
-use Rattle.std.proofs.lemmas.Option.{slice_get_within}
-use Rattle.std.proofs.lemmas.List.{take-append-le, take-append-drop, drop-append-le}
+use Rattle.std.proofs.lemmas.Bool.{or_parts}
+use Rattle.std.proofs.lemmas.List.{take-append-drop}
 use Rattle.std.proofs.lemmas.List.Folds.{list_any-append}
 use Rattle.t32_base.specs.declared.process.ClusterNo.{ClusterNo}
 use Rattle.sys_text.specs.declared.system.System.{System}
-use Rattle.bus_msg.specs.declared.entry.What.{What}
-use Rattle.bus_msg.specs.declared.entry.What.TheVariants.{Crash, Return}
 use Rattle.bus_msg.specs.declared.entry.Entry.{Entry}
 use Rattle.bus_msg.specs.Places.{lives_in}
 use Rattle.bus_msg.specs.PlacedAfter.{what}
 use Rattle.cert_sched.specs.Schedule.{placement}
-use Rattle.cert_sched.specs.Kinds.{KindHolds}
 use Rattle.cert_sched.specs.Losses.{is_by_cluster, is_crash_of, was_lost_in}
 use Rattle.cert_sched.specs.Legal.{IsLegalBy, IsLegalFrom, Stands}
-use Rattle.cert_sched.specs.Built.{MayStand, is_built}
-use Rattle.cert_sched.proofs.LogLaws.{IsLegal-snoc}
-use Rattle.cert_sched.proofs.Induction.{legal_induction}
-use Rattle.bus_order.specs.Script.{off_at, place_of_loss, turns}
-use Rattle.bus_order.proofs.Keeping.{none_legal}
-use Rattle.bus_order.proofs.OffLaws.{living_not_off, not_off_lives, off_at-snoc}
+use Rattle.cert_sched.specs.Built.{MayStand}
+use Rattle.bus_order.specs.Script.{off_at, turns}
 use Rattle.script_laws.specs.Off.{IsItsLoss, comes_back, has_returned_in}
-use Rattle.script_laws.proofs.OffSince.{off_silent, off_where_lost, or_one, silent_since, slice_get_before, slice_get_end}
+use Rattle.script_laws.proofs.OffSince.{lives_unless_off, off_since, off_where_lost, silent_until_back, turns_parts}
+use Rattle.script_laws.proofs.Alternating.{lost_follows, stood_at}
 
--- ---- lists
-
-nothing_in : {X : Type 0} (xs : List X) → length xs ≤ 0 → xs ≡ []
-nothing_in [] short = refl
-nothing_in (x ∷ xs) short = absurd (omega (arith, short))
-
-none_past : {X : Type 0} (xs : List X) (n : ℕ) → length xs ≤ n → drop n xs ≡ []
-none_past xs zero short = nothing_in xs short
-none_past [] (suc n) short = refl
-none_past (x ∷ xs) (suc n) short = none_past xs n (omega (arith, short))
-
--- ---- the entries of the kinds that are built
+-- ---- a log by the rule that is in force
 
 stands_from : (system : System) (log rest : List Entry) → IsLegalFrom MayStand system log rest → IsLegalFrom Stands system log rest
 stands_from system log [] legal = tt
 stands_from system log (e ∷ rest) legal = ((legal.0).stands, stands_from system (log ++ e ∷ []) rest legal.1)
 
--- each of them stands
+-- each of its entries stands
 pub built_stands : (system : System) (log : List Entry) → IsLegalBy MayStand system log → IsLegalBy Stands system log
 unfolding IsLegalBy
 built_stands system log legal = stands_from system [] log legal
 
--- ---- one more entry
+-- ---- the parts of a log in which nothing brings the cluster back
 
-lost-snoc : (log : List Entry) (e : Entry) (k : ClusterNo) → was_lost_in (log ++ e ∷ []) k ≡ (was_lost_in log k || is_crash_of k (what e))
-lost-snoc log e k = list_any-append (λ (e : Entry). is_crash_of k (what e)) log (e ∷ []) ∙ or_one (was_lost_in log k) (is_crash_of k (what e))
+back_parts : (log : List Entry) (k : ClusterNo) (n : ℕ) → has_returned_in log k ≡ false → (has_returned_in (take n log) k ≡ false) × (has_returned_in (drop n log) k ≡ false)
+back_parts log k n none =
+    or_parts (has_returned_in (take n log) k) (has_returned_in (drop n log) k)
+    (sym (ap (λ l. has_returned_in l k) (sym (take-append-drop n log)) ∙ list_any-append (λ (e : Entry). comes_back k (what e)) (take n log) (drop n log)) ∙ none)
 
--- of the kinds that are built only a loss turns a cluster off or on
-turns_lost : (k : ClusterNo) (w : What) → is_built w ≡ true → turns k w ≡ is_crash_of k w
-turns_lost k (Return j) built = absurd (true≢false (sym built))
-turns_lost k _ built = refl
-
-off_after : (log : List Entry) (e : Entry) (k : ClusterNo) → is_built (what e) ≡ true → off_at (log ++ e ∷ []) k ≡ cond (is_crash_of k (what e)) (Some e.place) (off_at log k)
-off_after log e k built =
-    off_at-snoc log e k
-    ∙ ap (λ b. cond b (place_of_loss k (Some e)) (off_at log k)) (turns_lost k (what e) built)
-    ∙ by_test (is_crash_of k (what e))
-  where
-    by_test : (b : Bool) → cond b (cond b (Some e.place) None) (off_at log k) ≡ cond b (Some e.place) (off_at log k)
-    by_test true = refl
-    by_test false = refl
-
--- no entry of the kinds that are built brings a cluster back
-pub none_back : (system : System) (log : List Entry) (k : ClusterNo) → IsLegalBy MayStand system log → has_returned_in log k ≡ false
-none_back system log k legal =
-    legal_induction MayStand system (λ log. has_returned_in log k ≡ false) refl
-    (λ log e before may. list_any-append (λ (e : Entry). comes_back k (what e)) log (e ∷ []) ∙ or_one (has_returned_in log k) (comes_back k (what e)) ∙ (λ i. before i || stays_away (what e) may.built i)) log legal
-  where
-    stays_away : (w : What) → is_built w ≡ true → comes_back k w ≡ false
-    stays_away (Return j) built = absurd (true≢false (sym built))
-    stays_away _ built = refl
+-- where nothing turns it, it is not lost
+unturned_unlost : (log : List Entry) (k : ClusterNo) → list_any (λ (e : Entry). turns k (what e)) log ≡ false → was_lost_in log k ≡ false
+unturned_unlost [] k none = refl
+unturned_unlost (e ∷ log) k none =
+    let parts = or_parts (turns k (what e)) (list_any (λ (e : Entry). turns k (what e)) log) none in
+    let here = or_parts (is_crash_of k (what e)) (comes_back k (what e)) (sym (turns_parts k (what e)) ∙ parts.0) in
+    ap (λ b. b || was_lost_in log k) here.0 ∙ unturned_unlost log k parts.1
 
 -- ---- off exactly where it was lost
 
-pub lost_off : (system : System) (log : List Entry) (k : ClusterNo) → IsLegalBy MayStand system log → was_lost_in log k ≡ is_some (off_at log k)
-lost_off system log k legal = sym (off_where_lost log k (none_back system log k legal))
+pub lost_off : (log : List Entry) (k : ClusterNo) → has_returned_in log k ≡ false → was_lost_in log k ≡ is_some (off_at log k)
+lost_off log k none = sym (off_where_lost log k none)
 
-pub not_off_not_lost : (system : System) (log : List Entry) (k : ClusterNo) → IsLegalBy MayStand system log → off_at log k ≡ None → was_lost_in log k ≡ false
-not_off_not_lost system log k legal none = lost_off system log k legal ∙ ap is_some none
+pub not_off_not_lost : (log : List Entry) (k : ClusterNo) → has_returned_in log k ≡ false → off_at log k ≡ None → was_lost_in log k ≡ false
+not_off_not_lost log k none on = lost_off log k none ∙ ap is_some on
 
 -- a cluster of the system lives exactly where it was not lost
-pub lives_unless_lost : (system : System) (log : List Entry) (k : ClusterNo) → IsLegalBy MayStand system log → k.0 < system.clusters → lives_in (placement system log) k ≡ not (was_lost_in log k)
-lives_unless_lost system log k legal within = by_off (off_at log k) refl
+pub lives_unless_lost : (system : System) (log : List Entry) (k : ClusterNo) → IsLegalBy MayStand system log → has_returned_in log k ≡ false → k.0 < system.clusters → lives_in (placement system log) k ≡ not (was_lost_in log k)
+lives_unless_lost system log k legal none within = lives_unless_off system log k (built_stands system log legal) within ∙ by_off (off_at log k) ∙ sym (ap not (lost_off log k none))
   where
-    no_some : (n : ℕ) → ◌≡◌ {A = Option ℕ} (Some n) None → ⊥
-    no_some n h = cc
-
-    by_off : (o : Option ℕ) → off_at log k ≡ o → lives_in (placement system log) k ≡ not (was_lost_in log k)
-    by_off None is = not_off_lives system log k legal within is ∙ sym (ap not (not_off_not_lost system log k legal is))
-    by_off (Some n) is = by_test (lives_in (placement system log) k) refl ∙ sym (ap not (lost_off system log k legal ∙ ap is_some is))
-      where
-        by_test : (b : Bool) → lives_in (placement system log) k ≡ b → lives_in (placement system log) k ≡ false
-        by_test true lives = absurd (no_some n (sym is ∙ living_not_off system log k legal lives))
-        by_test false lost = lost
+    by_off : (o : Option ℕ) → is_none o ≡ not (is_some o)
+    by_off None = refl
+    by_off (Some n) = refl
 
 -- ---- the loss
 
--- what loses a cluster loses one that lived
-lost_lived : (system : System) (log : List Entry) (e : Entry) (k : ClusterNo) (w : What) → KindHolds system log e w → is_crash_of k w ≡ true → lives_in (placement system log) k ≡ true
-lost_lived system log e k (Crash j cause) kind h = subst (λ c. lives_in (placement system log) c ≡ true) (λ i. record { 0 = eqb-true j.0 k.0 h i }) kind
-lost_lived system log e k _ kind h = absurd (true≢false (sym h))
-
-record Losses (system : System) (k : ClusterNo) (at : ℕ) (log : List Entry) : Type 0 where
-  pub legal : IsLegalBy MayStand system log
-  pub loss : off_at log k ≡ Some at → IsItsLoss log k at
-
--- the loss that stands last
-loss_last : (log : List Entry) (e : Entry) (k : ClusterNo) → is_crash_of k (what e) ≡ true → was_lost_in log k ≡ false → IsItsLoss (log ++ e ∷ []) k (length log)
-loss_last log e k loses none = record {
-  entry = e;
-  there = slice_get_end log e;
-  loses = loses;
-  none_before = ap (λ l. was_lost_in l k) (take-append_seam log (e ∷ [])) ∙ none;
-  none_after = ap (λ l. was_lost_in l k) (none_past (log ++ e ∷ []) (length log + 1) (let long = length_one log e in omega (arith, long)));
-}
-  where
-    length_one : (log : List Entry) (e : Entry) → length (log ++ e ∷ []) ≡ length log + 1
-    length_one [] e = refl
-    length_one (x ∷ log) e = let more = length_one log e in omega (arith, more)
-
--- an earlier one
-loss_earlier : (log : List Entry) (e : Entry) (k : ClusterNo) (at : ℕ) → is_crash_of k (what e) ≡ false → IsItsLoss log k at → IsItsLoss (log ++ e ∷ []) k at
-loss_earlier log e k at other loss =
-    let within = slice_get_within log at loss.entry loss.there in
-    record {
-      entry = loss.entry;
-      there = slice_get_before log (e ∷ []) at loss.entry loss.there;
-      loses = loss.loses;
-      none_before = ap (λ l. was_lost_in l k) (take-append-le at log (e ∷ []) (omega (arith, within))) ∙ loss.none_before;
-      none_after =
-          ap (λ l. was_lost_in l k) (drop-append-le (at + 1) log (e ∷ []) (omega (arith, within))) ∙ lost-snoc (drop (at + 1) log) e k
-          ∙ ap (λ b. b || is_crash_of k (what e)) loss.none_after ∙ other;
-    }
-
 -- where a cluster is off it was lost there, and nowhere else
-pub off_is_its_loss : (system : System) (log : List Entry) (k : ClusterNo) (at : ℕ) → IsLegalBy MayStand system log → off_at log k ≡ Some at → IsItsLoss log k at
-off_is_its_loss system log k at legal =
-    (legal_induction MayStand system (Losses system k at) (record { legal = none_legal system; loss = λ is. absurd (nothing is) })
-    (λ log e before may. record {
-      legal = IsLegal-snoc MayStand system log e before.legal may;
-      loss = λ is. by_test log e before may (is_crash_of k (what e)) refl (sym (off_after log e k may.built) ∙ is);
-    }) log legal).loss
-  where
-    nothing : ◌≡◌ {A = Option ℕ} None (Some at) → ⊥
-    nothing h = cc
-
-    by_test : (log : List Entry) (e : Entry) → Losses system k at log → MayStand system log e → (b : Bool) → is_crash_of k (what e) ≡ b → cond (is_crash_of k (what e)) (Some e.place) (off_at log k) ≡ Some at → IsItsLoss (log ++ e ∷ []) k at
-    by_test log e before may true loses is =
-        let placed : length log ≡ at = sym ((may.stands).placed).0 ∙ ap (λ (o : Option ℕ). unwrap_or o at) (sym (ap (λ b. cond b (Some e.place) (off_at log k)) loses) ∙ is) in
-        let lived = lost_lived system log e k (what e) (may.stands).kind loses in
-        let none = not_off_not_lost system log k before.legal (living_not_off system log k before.legal lived) in
-        subst (IsItsLoss (log ++ e ∷ []) k) placed (loss_last log e k loses none)
-    by_test log e before may false other is =
-        loss_earlier log e k at other (before.loss (sym (ap (λ b. cond b (Some e.place) (off_at log k)) other) ∙ is))
+pub off_is_its_loss : (system : System) (log : List Entry) (k : ClusterNo) (at : ℕ) → IsLegalBy MayStand system log → has_returned_in log k ≡ false → off_at log k ≡ Some at → IsItsLoss log k at
+off_is_its_loss system log k at legal none off =
+    let all = built_stands system log legal in
+    let since = off_since system log k at all off in
+    let stood = stood_at Stands system log at since.entry all since.there in
+    record {
+      entry = since.entry;
+      there = since.there;
+      loses = since.loses;
+      none_before = not_off_not_lost (take at log) k (back_parts log k at none).0 (lost_follows system (take at log) since.entry k stood.0 stood.1 since.loses).1;
+      none_after = unturned_unlost (drop (at + 1) log) k since.none_after;
+    }
 
 -- ---- what a cluster sends
 
--- one that was lost sends no further entry
-lost_sends_not : (system : System) (log : List Entry) (e : Entry) (k : ClusterNo) → IsLegalBy MayStand system log → MayStand system log e → was_lost_in log k ≡ true → is_by_cluster k e ≡ false
-lost_sends_not system log e k legal may lost = off_silent system log e k (built_stands system log legal) may.stands (sym (lost_off system log k legal) ∙ lost)
-
-taken_lost : (log : List Entry) (n : ℕ) (k : ClusterNo) → was_lost_in (take n log) k ≡ true → was_lost_in log k ≡ true
-taken_lost log n k lost =
-    ap (λ l. was_lost_in l k) (sym (take-append-drop n log)) ∙ list_any-append (λ (e : Entry). is_crash_of k (what e)) (take n log) (drop n log)
-    ∙ ap (λ b. b || was_lost_in (drop n log) k) lost
-
-record Silent (system : System) (k : ClusterNo) (n : ℕ) (log : List Entry) : Type 0 where
-  pub legal : IsLegalBy MayStand system log
-  pub silent : was_lost_in (take n log) k ≡ true → list_any (is_by_cluster k) (drop n log) ≡ false
-
 -- no entry of a cluster stands after its loss
-pub silent_once_lost : (system : System) (log : List Entry) (k : ClusterNo) (n : ℕ) → IsLegalBy MayStand system log → was_lost_in (take n log) k ≡ true → list_any (is_by_cluster k) (drop n log) ≡ false
-silent_once_lost system log k n legal =
-    (legal_induction MayStand system (Silent system k n) (record { legal = none_legal system; silent = λ lost. ap (list_any (is_by_cluster k)) (none_past [] n (omega arith)) })
-    (λ log e before may. record {
-      legal = IsLegal-snoc MayStand system log e before.legal may;
-      silent = by_length log e before may (within n (length log));
-    }) log legal).silent
-  where
-    within : (n m : ℕ) → (n ≤ m) ⊎ (m + 1 ≤ n)
-    within zero m = inl (omega arith)
-    within (suc n) zero = inr (omega arith)
-    within (suc n) (suc m) = by_less (within n m)
-      where
-        by_less : (n ≤ m) ⊎ (m + 1 ≤ n) → (suc n ≤ suc m) ⊎ (suc m + 1 ≤ suc n)
-        by_less (inl h) = inl (omega (arith, h))
-        by_less (inr h) = inr (omega (arith, h))
-
-    long : (log : List Entry) (e : Entry) → length (log ++ e ∷ []) ≡ length log + 1
-    long [] e = refl
-    long (x ∷ log) e = let more = long log e in omega (arith, more)
-
-    none_of : (a b : Bool) → a ≡ false → b ≡ false → (a || (b || false)) ≡ false
-    none_of true b h g = absurd (true≢false h)
-    none_of false true h g = absurd (true≢false g)
-    none_of false false h g = refl
-
-    by_length : (log : List Entry) (e : Entry) → Silent system k n log → MayStand system log e → (n ≤ length log) ⊎ (length log + 1 ≤ n) → was_lost_in (take n (log ++ e ∷ [])) k ≡ true → list_any (is_by_cluster k) (drop n (log ++ e ∷ [])) ≡ false
-    by_length log e before may (inl short) lost =
-        let here : was_lost_in (take n log) k ≡ true = sym (ap (λ l. was_lost_in l k) (take-append-le n log (e ∷ []) short)) ∙ lost in
-        ap (list_any (is_by_cluster k)) (drop-append-le n log (e ∷ []) short)
-        ∙ list_any-append (is_by_cluster k) (drop n log) (e ∷ [])
-        ∙ none_of (list_any (is_by_cluster k) (drop n log)) (is_by_cluster k e) (before.silent here) (lost_sends_not system log e k before.legal may (taken_lost log n k here))
-    by_length log e before may (inr past) lost =
-        ap (list_any (is_by_cluster k)) (none_past (log ++ e ∷ []) n (let more = long log e in omega (arith, past, more)))
-
--- nor after the place since which it is off
-pub silent_once_off : (system : System) (log : List Entry) (k : ClusterNo) (at : ℕ) → IsLegalBy MayStand system log → off_at log k ≡ Some at → list_any (is_by_cluster k) (drop (at + 1) log) ≡ false
-silent_once_off system log k at legal off = silent_since system log k at (built_stands system log legal) off
+pub silent_once_lost : (system : System) (log : List Entry) (k : ClusterNo) (n : ℕ) → IsLegalBy MayStand system log → has_returned_in log k ≡ false → was_lost_in (take n log) k ≡ true → list_any (is_by_cluster k) (drop n log) ≡ false
+silent_once_lost system log k n legal none lost =
+    let parts = back_parts log k n none in
+    silent_until_back system log k n (built_stands system log legal) (off_where_lost (take n log) k parts.0 ∙ lost) parts.1

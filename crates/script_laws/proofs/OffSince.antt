@@ -63,7 +63,7 @@ sender_lives places serve (Cluster j) k w right from = subst (λ c. lives_in pla
 sender_lives places serve Bus k w right from = absurd (true≢false (sym from))
 
 -- one that lives is not off
-lives_on : (system : System) (log : List Entry) (k : ClusterNo) → IsLegalBy Stands system log → lives_in (placement system log) k ≡ true → off_at log k ≡ None
+pub lives_on : (system : System) (log : List Entry) (k : ClusterNo) → IsLegalBy Stands system log → lives_in (placement system log) k ≡ true → off_at log k ≡ None
 lives_on system log k legal lives =
     let within : k.0 < system.clusters = omega (arith, lives_within (placement system log) k lives, clusters-length Stands system log legal) in
     is_nothing (off_at log k) (sym (lives_where_not_off Stands (λ system log e stands. stands) system log k legal within) ∙ lives)
@@ -172,7 +172,7 @@ record Silent (system : System) (k : ClusterNo) (n : ℕ) (log : List Entry) : T
   pub silent : is_some (off_at (take n log) k) ≡ true → has_returned_in (drop n log) k ≡ false → list_any (is_by_cluster k) (drop n log) ≡ false
 
 -- what turns a cluster loses it or brings it back
-turns_parts : (k : ClusterNo) (w : What) → turns k w ≡ (is_crash_of k w || comes_back k w)
+pub turns_parts : (k : ClusterNo) (w : What) → turns k w ≡ (is_crash_of k w || comes_back k w)
 turns_parts k (Crash j cause) = by_test (eqb j.0 k.0)
   where
     by_test : (b : Bool) → b ≡ (b || false)
@@ -182,7 +182,7 @@ turns_parts k (Return j) = refl
 turns_parts k _ = refl
 
 -- where it does not bring it back it loses it
-turns_lost : (k : ClusterNo) (w : What) → comes_back k w ≡ false → turns k w ≡ is_crash_of k w
+pub turns_lost : (k : ClusterNo) (w : What) → comes_back k w ≡ false → turns k w ≡ is_crash_of k w
 turns_lost k w other = turns_parts k w ∙ ap (λ b. is_crash_of k w || b) other ∙ by_test (is_crash_of k w)
   where
     by_test : (b : Bool) → (b || false) ≡ b
@@ -255,7 +255,12 @@ silent_more system k n log e before stands = by_length (compared n (length log))
           silent = λ off none. ap (list_any (is_by_cluster k)) (drop_all n (log ++ e ∷ []) long);
         }
 
--- from a place where it is off it sends nothing until it is brought back
+-- from a place where it is off it stays off until it is brought back
+pub off_until_back : (system : System) (log : List Entry) (k : ClusterNo) (n : ℕ) → IsLegalBy Stands system log → is_some (off_at (take n log) k) ≡ true → has_returned_in (drop n log) k ≡ false → is_some (off_at log k) ≡ true
+off_until_back system log k n legal =
+    (legal_induction Stands system (Silent system k n) (silent_empty system k n (none_legal system)) (λ log e before stands. silent_more system k n log e before stands) log legal).off
+
+-- and sends nothing
 pub silent_until_back : (system : System) (log : List Entry) (k : ClusterNo) (n : ℕ) → IsLegalBy Stands system log → is_some (off_at (take n log) k) ≡ true → has_returned_in (drop n log) k ≡ false → list_any (is_by_cluster k) (drop n log) ≡ false
 silent_until_back system log k n legal =
     (legal_induction Stands system (Silent system k n) (silent_empty system k n (none_legal system)) (λ log e before stands. silent_more system k n log e before stands) log legal).silent

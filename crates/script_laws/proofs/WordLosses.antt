@@ -74,7 +74,7 @@ is_worded_number script (Crash k (Disk n)) = is_lost_by script k
 is_worded_number script _ = true
 
 -- the words that are left are words of the script
-left_in : (system : System) (script : List ScriptWord) (test : ScriptWord → Bool) (log : List Entry) (left : List ScriptWord) → Looked system script log left → list_any test left ≡ true → list_any test script ≡ true
+pub left_in : (system : System) (script : List ScriptWord) (test : ScriptWord → Bool) (log : List Entry) (left : List ScriptWord) → Looked system script log left → list_any test left ≡ true → list_any test script ≡ true
 left_in system script test _ _ at_start some = any_filtered test is_bus_word script some
 left_in system script test _ _ (gives_nothing {log} {left} looked w first nothing) some = left_in system script test log left looked (any-within (is_reached (length log)) test left some)
 left_in system script test _ _ (gives {log} {left} looked w e first given) some = left_in system script test log left looked (any-within (is_reached (length log)) test left some)

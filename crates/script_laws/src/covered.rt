@@ -1,6 +1,5 @@
 //! Whether a loss ends the run.
-ghost use Rattle.std.specs.Prelude.{ℕ, ◌≡◌, ◌≤◌, true, false, List, length};
-ghost use Rattle.std.specs.List.{list_all};
+ghost use Rattle.std.specs.Prelude.{◌≡◌, ◌≤◌, true, false, List, length};
 ghost use Rattle.t32_base.specs.declared.process.ClusterNo.{ClusterNo};
 ghost use Rattle.sys_text.specs.declared.system.System.{System};
 ghost use Rattle.sys_text.specs.Valid.{is_system};
@@ -11,7 +10,7 @@ ghost use Rattle.cert_sched.specs.Schedule.{placement};
 ghost use Rattle.cert_sched.specs.Rules.{is_over};
 ghost use Rattle.cert_sched.specs.Scripted.{is_closed, is_lost_by, is_spread};
 ghost use Rattle.cert_sched.specs.Legal.{IsLegalBy, Stands};
-ghost use Rattle.cert_sched.specs.Built.{MayStand, is_built_word};
+ghost use Rattle.cert_sched.specs.Built.{MayStand};
 ghost use Rattle.bus_order.specs.View.{BusView, KeepsScript};
 ghost use Rattle.script_laws.specs.Crashes.{crashes};
 ghost use Rattle.script_laws.specs.Servers.{HasServer};
@@ -26,7 +25,7 @@ pub fn one_word_ends_no_run()
     // A log of a valid system with one loss at most is over only where the end or a stop stands last,
     ensures few { (system : System) (log : List Entry) → is_system system ≡ true → IsLegalBy MayStand system log → crashes log ≤ 1 → is_over system log ≡ true → is_closed log ≡ true }
     // and so is one of a script of one word at most.
-    ensures word { (b : BusView) → is_system b.system ≡ true → IsLegalBy MayStand b.system b.log → KeepsScript b → list_all is_built_word b.script ≡ true → length b.script ≤ 1 → is_over b.system b.log ≡ true → is_closed b.log ≡ true }
+    ensures word { (b : BusView) → is_system b.system ≡ true → IsLegalBy MayStand b.system b.log → KeepsScript b → length b.script ≤ 1 → is_over b.system b.log ≡ true → is_closed b.log ≡ true }
 {}
 
 /// A law and no code: where the words of a script that lose clusters name neither both clusters of a root nor both page servers, none of its

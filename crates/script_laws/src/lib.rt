@@ -7,3 +7,4 @@ pub mod looks;
 pub mod lost_at;
 pub mod off;
 pub mod passed;
+pub mod turns;

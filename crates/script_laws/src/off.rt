@@ -31,15 +31,13 @@ pub fn off_unless_back()
     ensures { (log : List Entry) (k : ClusterNo) → has_returned_in log k ≡ false → is_some (off_at log k) ≡ was_lost_in log k }
 {}
 
-/// A law and no code: while the entries are of the kinds that are built so far, none of them a return, a cluster is off exactly where it
-/// was lost.
+/// A law and no code: a cluster that no entry brings back, as none is by words for losses alone, is off exactly where it was lost.
 pub fn off_is_lost()
     // It was lost at the place since which it is off, and nowhere else.
-    ensures off { (system : System) (log : List Entry) (k : ClusterNo) (at : ℕ) → IsLegalBy MayStand system log → off_at log k ≡ Some at → IsItsLoss log k at }
-    ensures not_off { (system : System) (log : List Entry) (k : ClusterNo) → IsLegalBy MayStand system log → off_at log k ≡ None → was_lost_in log k ≡ false }
+    ensures off { (system : System) (log : List Entry) (k : ClusterNo) (at : ℕ) → IsLegalBy MayStand system log → has_returned_in log k ≡ false → off_at log k ≡ Some at → IsItsLoss log k at }
+    ensures not_off { (log : List Entry) (k : ClusterNo) → has_returned_in log k ≡ false → off_at log k ≡ None → was_lost_in log k ≡ false }
     // One of the system lives exactly where it was not lost.
-    ensures lives { (system : System) (log : List Entry) (k : ClusterNo) → IsLegalBy MayStand system log → k.0 < system.clusters → lives_in (placement system log) k ≡ not (was_lost_in log k) }
-    // After its loss it sends no entry, so none after the place since which it is off.
-    ensures silent { (system : System) (log : List Entry) (k : ClusterNo) (n : ℕ) → IsLegalBy MayStand system log → was_lost_in (take n log) k ≡ true → list_any (is_by_cluster k) (drop n log) ≡ false }
-    ensures silent_off { (system : System) (log : List Entry) (k : ClusterNo) (at : ℕ) → IsLegalBy MayStand system log → off_at log k ≡ Some at → list_any (is_by_cluster k) (drop (at + 1) log) ≡ false }
+    ensures lives { (system : System) (log : List Entry) (k : ClusterNo) → IsLegalBy MayStand system log → has_returned_in log k ≡ false → k.0 < system.clusters → lives_in (placement system log) k ≡ not (was_lost_in log k) }
+    // After its loss it sends no entry.
+    ensures silent { (system : System) (log : List Entry) (k : ClusterNo) (n : ℕ) → IsLegalBy MayStand system log → has_returned_in log k ≡ false → was_lost_in (take n log) k ≡ true → list_any (is_by_cluster k) (drop n log) ≡ false }
 {}

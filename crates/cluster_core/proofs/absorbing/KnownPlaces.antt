@@ -12,7 +12,6 @@ use Rattle.bus_msg.specs.declared.entry.Post.{Post}
 use Rattle.bus_msg.specs.declared.placed.Placed.{Placed}
 use Rattle.bus_msg.specs.Places.{Places, is_cluster, is_moved_by, placed_at, same_cluster, same_pid, unended_at}
 use Rattle.bus_msg.specs.PlacedAfter.{after_exit, after_loss, after_sync, changed_at, child_of, lost_cluster, moved_to, placed_after, raised_serial, returned_cluster, with_birth}
-use Rattle.cert_sched.specs.Built.{is_built}
 use Rattle.cert_sched.specs.Record.{is_root}
 use Rattle.cert_sched.specs.Told.{cluster_lost}
 use Rattle.cert_sched.proofs.UnendedLaws.{loss_keeps}
@@ -187,24 +186,24 @@ birth_known system k child known places (Some r) (Some q) knows found = by_found
     by_found (inl same) = subst (λ x. KnowsPlaces system k (with_birth known child (Some x)) (with_birth places child (Some q))) (sym same) (born q.home (child_of q child))
     by_found (inr m) = subst (λ x. KnowsPlaces system k (with_birth known child (Some x)) (with_birth places child (Some q))) (sym m.1) (born q.home (child_of q child))
 
--- what is known before an entry of a kind that is built, other than a new backup, leads to what is known after it
-pub known_after : (system : System) (k : ClusterNo) (known places : Places) (w : What) → is_built w ≡ true → is_rebackup w ≡ false → KnowsPlaces system k known places
+-- what is known before an entry other than a new backup leads to what is known after it
+pub known_after : (system : System) (k : ClusterNo) (known places : Places) (w : What) → is_rebackup w ≡ false → KnowsPlaces system k known places
     → KnowsPlaces system k (placed_after known w) (placed_after places w)
-known_after system k known places (Birth parent at child end) built other knows =
+known_after system k known places (Birth parent at child end) other knows =
     birth_known system k child known places (placed_at known parent) (placed_at places parent) knows
     (found_known system k (λ (q : Placed). same_pid q.pid parent) (λ q. refl) known.placed places.placed knows.placed)
-known_after system k known places (Exit pid at end) built other knows =
+known_after system k known places (Exit pid at end) other knows =
     record { clusters = knows.clusters; pager = knows.pager; placed = goes_each system k (after_exit pid) (exit_goes system k pid) known.placed places.placed knows.placed }
-known_after system k known places (Sync pid small read took) built other knows =
+known_after system k known places (Sync pid small read took) other knows =
     record { clusters = knows.clusters; pager = knows.pager; placed = sync_knows system k pid known.placed places.placed knows.placed }
-known_after system k known places (Crash lost cause) built other knows = record {
+known_after system k known places (Crash lost cause) other knows = record {
   clusters = ap (λ cs. changed_at lost.0 lost_cluster (slice_get cs lost.0) cs) knows.clusters;
   pager = knows.pager;
   placed = goes_each system k (after_loss lost) (loss_goes system lost k) known.placed places.placed knows.placed;
 }
-known_after system k known places (Return j) built other knows = record { clusters = ap (λ cs. changed_at j.0 returned_cluster (slice_get cs j.0) cs) knows.clusters; pager = knows.pager; placed = knows.placed }
-known_after system k known places (Rebackup to fresh recs) built other knows = absurd (true≢false other)
-known_after system k known places _ built other knows = knows
+known_after system k known places (Return j) other knows = record { clusters = ap (λ cs. changed_at j.0 returned_cluster (slice_get cs j.0) cs) knows.clusters; pager = knows.pager; placed = knows.placed }
+known_after system k known places (Rebackup to fresh recs) other knows = absurd (true≢false other)
+known_after system k known places _ other knows = knows
 
 -- ---- the records that move
 

@@ -14,9 +14,9 @@ use Rattle.bus_msg.specs.declared.entry.What.TheVariants.{Birth, Exit, Sync, Cra
 use Rattle.bus_msg.specs.declared.entry.Cause.{Cause}
 use Rattle.bus_msg.specs.declared.entry.Entry.{Entry}
 use Rattle.bus_msg.specs.declared.placed.Placed.{Placed}
-use Rattle.bus_msg.specs.Places.{ClusterPlace, Places, is_cluster, never_lost, same_cluster, same_pid, servers_in, unended_at, placed_at}
-use Rattle.bus_msg.specs.PlacedAfter.{after_loss, after_sync, moved_to, placed_after, what, raised_serial}
-use Rattle.cert_sched.specs.Built.{MayStand, is_built}
+use Rattle.bus_msg.specs.Places.{ClusterPlace, Places, is_cluster, is_lost_in, never_lost, same_cluster, same_pid, servers_in, unended_at, placed_at}
+use Rattle.bus_msg.specs.PlacedAfter.{after_loss, after_sync, moved_to, placed_after, returned_cluster, what, raised_serial}
+use Rattle.cert_sched.specs.Built.{MayStand}
 use Rattle.cert_sched.specs.Losses.{capped, is_by_cluster, is_crash_of, least_steps}
 use Rattle.cert_sched.specs.Schedule.{placement}
 use Rattle.cert_sched.proofs.ExitLaws.{unended_exit}
@@ -47,7 +47,7 @@ use Rattle.birth_notice.specs.Family.{stands_in}
 use Rattle.log_laws.proofs.births.NewBirth.{birth_last, stands_in_none}
 use Rattle.cluster_core.proofs.absorbing.Absorbed.{absorbs, ready_own}
 use Rattle.cluster_core.proofs.absorbing.Counted.{capped_next, count_by-snoc, lost_before}
-use Rattle.cluster_core.proofs.losses.FirstServer.{lost_other, same_pager}
+use Rattle.cluster_core.proofs.losses.FirstServer.{changed_other, lost_other, same_pager}
 use Rattle.cluster_core.proofs.absorbing.KnownPlaces.{known_after, left_alike, moved_alike, concerns_alike, queues_alike}
 use Rattle.cluster_core.proofs.losses.OwningWaits.{owns_waiting}
 use Rattle.cluster_core.proofs.heard.PassedOver.{own_upto}
@@ -202,17 +202,34 @@ module _ (c : ClusterView) (log : List Entry) (e : Entry) (server : Option Pager
   place_is : e.place ≡ length log
   place_is = ((may.stands).placed).0
 
-  -- it is another cluster that an entry loses
-  asks_stay : (t : ClusterPlace → Bool) → ((c : ClusterPlace) → t (raised_serial c) ≡ t c) → (w : What) → is_built w ≡ true → is_crash_of k w ≡ false
+  -- it is another cluster that an entry brings back, since this one lives
+  back_other : (j : ClusterNo) → what e ≡ Return j → eqb j.0 k.0 ≡ false
+  back_other j is = by_test (eqb j.0 k.0) refl
+    where
+      lost : is_lost_in places j ≡ true
+      lost = subst (KindHolds c.system log e) is (may.stands).kind
+
+      living : (o : Option ClusterPlace) → option_map_or (λ (c : ClusterPlace). c.lives) o false ≡ true → option_map_or (λ (c : ClusterPlace). not c.lives) o false ≡ false
+      living None lives = refl
+      living (Some place) lives = ap not lives
+
+      by_test : (x : Bool) → eqb j.0 k.0 ≡ x → eqb j.0 k.0 ≡ false
+      by_test true same =
+          let here : is_lost_in places k ≡ true = ap (λ n. option_map_or (λ (c : ClusterPlace). not c.lives) (slice_get places.clusters n) false) (sym (eqb-true j.0 k.0 same)) ∙ lost in
+          absurd (true≢false (sym here ∙ living (slice_get places.clusters k.0) f.lives))
+      by_test false apart = apart
+
+  -- and it is another that one loses
+  asks_stay : (t : ClusterPlace → Bool) → ((c : ClusterPlace) → t (raised_serial c) ≡ t c) → (w : What) → ((j : ClusterNo) → w ≡ Return j → eqb j.0 k.0 ≡ false) → is_crash_of k w ≡ false
       → option_map_or t (slice_get (placed_after places w).clusters k.0) false ≡ option_map_or t (slice_get places.clusters k.0) false
-  asks_stay t same (Birth parent at child end) is other = birth_keeps t same places child (placed_at places parent) k
-  asks_stay t same (Crash lost cause) is other = ap (λ o. option_map_or t o false) (lost_other places.clusters lost.0 k.0 other)
-  asks_stay t same (Return j) is other = absurd (true≢false (sym is))
-  asks_stay t same _ is other = refl
+  asks_stay t same (Birth parent at child end) back other = birth_keeps t same places child (placed_at places parent) k
+  asks_stay t same (Crash lost cause) back other = ap (λ o. option_map_or t o false) (lost_other places.clusters lost.0 k.0 other)
+  asks_stay t same (Return j) back other = ap (λ o. option_map_or t o false) (changed_other returned_cluster places.clusters j.0 k.0 (back j refl))
+  asks_stay t same _ back other = refl
 
   asked_later : (t : ClusterPlace → Bool) → ((c : ClusterPlace) → t (raised_serial c) ≡ t c)
       → option_map_or t (slice_get (placement c.system later).clusters k.0) false ≡ option_map_or t (slice_get places.clusters k.0) false
-  asked_later t same = ap (λ (p : Places). option_map_or t (slice_get p.clusters k.0) false) at_later ∙ asks_stay t same (what e) may.built spared
+  asked_later t same = ap (λ (p : Places). option_map_or t (slice_get p.clusters k.0) false) at_later ∙ asks_stay t same (what e) back_other spared
 
   served_before : (o p : Option PagerState) → Serves places e o p → is_some p ≡ true → is_some o ≡ true
   served_before None p is some = absurd (true≢false (sym some ∙ ap is_some is))
@@ -335,23 +352,22 @@ module _ (c : ClusterView) (log : List Entry) (e : Entry) (server : Option Pager
           ap (λ o. option_map_or of_here o false) (found_child c.system log e may.stands all parent at child end is born) ∙ ap (λ o. option_map_or of_here o false) (sym born.found)
           ∙ sym (concerns_alike c.system k c.places places (f.log).places (child, parent))
 
-  family_kept : (w : What) → what e ≡ w → is_built w ≡ true → is_crash_of k w ≡ false → Kept w
-  family_kept (Birth parent at child end) is kind other = birth_kept parent at child end is
-  family_kept (Exit pid at end) is kind other =
+  family_kept : (w : What) → what e ≡ w → is_crash_of k w ≡ false → Kept w
+  family_kept (Birth parent at child end) is other = birth_kept parent at child end is
+  family_kept (Exit pid at end) is other =
       ap (filter (λ (b : Pid × Pid). not (same_pid b.1 pid))) f.family
       ∙ without_child (concerns places k) (concerns (placement c.system later) k) pid (unsynced_births c.system log)
       (λ b apart. ap (λ ps. concerns ps k b) (there (Exit pid at end) is)
       ∙ ap (λ o. option_map_or of_here o false) (unended_exit pid b.1 places.placed (λ same. true≢false (sym (eq-eqb (b.1).0 pid.0 same) ∙ apart))))
       ∙ ap (filter (concerns (placement c.system later) k)) (sym (ended_goes c.system log e pid at end is))
-  family_kept (Sync pid small read took) is kind other =
+  family_kept (Sync pid small read took) is other =
       ap (filter (λ (b : Pid × Pid). not (same_pid b.1 pid))) f.family
       ∙ without_child (concerns places k) (concerns (placement c.system later) k) pid (unsynced_births c.system log) (λ b apart. ap (λ ps. concerns ps k b) (there (Sync pid small read took) is)
       ∙ sync_keeps_concerns places k pid small read took b)
       ∙ ap (filter (concerns (placement c.system later) k)) (sym (synced_goes c.system log e pid small read took is))
-  family_kept (Crash lost cause) is kind other = alike_here (Crash lost cause) is refl (loss_concerns lost cause other)
-  family_kept (Return j) is kind other = absurd (true≢false (sym kind))
-  family_kept (Rebackup to fresh more) is kind other = absurd (true≢false (sym (ap is_rebackup is) ∙ unrenewed))
-  family_kept w is kind other = alike_here w is refl (λ b. refl)
+  family_kept (Crash lost cause) is other = alike_here (Crash lost cause) is refl (loss_concerns lost cause other)
+  family_kept (Rebackup to fresh more) is other = absurd (true≢false (sym (ap is_rebackup is) ∙ unrenewed))
+  family_kept w is other = alike_here w is refl (λ b. refl)
 
   -- ---- the whole
 
@@ -368,7 +384,7 @@ module _ (c : ClusterView) (log : List Entry) (e : Entry) (server : Option Pager
     log = record {
       within = omega (arith, place_is, length-append log (e ∷ []));
       none_left = ap (λ n. list_any (λ (e : Entry). goes_to e.dests k) (drop (n + 1) later)) place_is ∙ ap (list_any (λ (e : Entry). goes_to e.dests k)) (all_dropped log e);
-      places = subst (λ ps. KnowsPlaces c.system k (placed_after c.places (what e)) ps) (sym at_later) (known_after c.system k c.places places (what e) may.built unrenewed (f.log).places);
+      places = subst (λ ps. KnowsPlaces c.system k (placed_after c.places (what e)) ps) (sym at_later) (known_after c.system k c.places places (what e) unrenewed (f.log).places);
     };
     processes = record { held = (still.processes).held; each_once = (still.processes).each_once };
     queue = record { own = (still.queue).own; legal = (still.queue).legal };
@@ -384,12 +400,12 @@ module _ (c : ClusterView) (log : List Entry) (e : Entry) (server : Option Pager
     pages = still.pages;
     marks = still.marks;
     records = still.records;
-    family = family_kept (what e) refl may.built spared;
+    family = family_kept (what e) refl spared;
     forks = λ parent child q h at beside any.
         still.forks parent child q h at beside
         (ap (list_any (λ (b : Pid × Pid). same_pid b.0 parent && same_pid b.1 child)) still.family
         ∙ any_less (λ (b : Pid × Pid). same_pid b.0 parent && same_pid b.1 child) (concerns (placement c.system later) k) (unsynced_births c.system later)
-        (ap (list_any (λ (b : Pid × Pid). same_pid b.0 parent && same_pid b.1 child)) (sym (family_kept (what e) refl may.built spared)) ∙ any));
+        (ap (list_any (λ (b : Pid × Pid). same_pid b.0 parent && same_pid b.1 child)) (sym (family_kept (what e) refl spared)) ∙ any));
     accounts = record { keeps = (still.accounts).keeps; there = (still.accounts).there; calls = (still.accounts).calls };
     server = server_stays;
     disk = still.disk;

@@ -141,7 +141,7 @@ module _ (c : ClusterView) (log : List Entry) (e : Entry) (valid : is_system c.s
   known_places =
       subst (KnowsPlaces c.system k knows.places) (sym (at_later c log e valid now next away f))
       (of_it c log e valid now next away f (λ w. KnowsPlaces c.system k (after_head_heard c w).places (placed_after places w)) (λ at letter. (f.log).places) (λ pid at index bytes. (f.log).places)
-      (λ pid small read took. known_after c.system k c.places places (Sync pid small read took) refl refl (f.log).places) (λ pid index. (f.log).places) (λ pid index bytes. (f.log).places))
+      (λ pid small read took. known_after c.system k c.places places (Sync pid small read took) refl (f.log).places) (λ pid index. (f.log).places) (λ pid index bytes. (f.log).places))
 
   known_births : knows.family ≡ filter (concerns (placement c.system later) k) (unsynced_births c.system later)
   known_births =

@@ -47,13 +47,17 @@ lost_now clusters k = by_place (slice_get clusters k) refl
     by_place None there = ap was_never there
     by_place (Some c) there = ap was_never (put_here clusters k (lost_cluster c) c there)
 
--- that of another leaves a cluster as it was
-pub lost_other : (clusters : List ClusterPlace) (j k : ℕ) → eqb j k ≡ false → slice_get (changed_at j lost_cluster (slice_get clusters j) clusters) k ≡ slice_get clusters k
-lost_other clusters j k apart = by_place (slice_get clusters j)
+-- a change of another leaves a cluster as it was
+pub changed_other : (f : ClusterPlace → ClusterPlace) (clusters : List ClusterPlace) (j k : ℕ) → eqb j k ≡ false → slice_get (changed_at j f (slice_get clusters j) clusters) k ≡ slice_get clusters k
+changed_other f clusters j k apart = by_place (slice_get clusters j)
   where
-    by_place : (o : Option ClusterPlace) → slice_get (changed_at j lost_cluster o clusters) k ≡ slice_get clusters k
+    by_place : (o : Option ClusterPlace) → slice_get (changed_at j f o clusters) k ≡ slice_get clusters k
     by_place None = refl
-    by_place (Some c) = kept_elsewhere clusters j k (lost_cluster c) (λ same. true≢false (sym (eq-eqb j k (sym same)) ∙ apart))
+    by_place (Some c) = kept_elsewhere clusters j k (f c) (λ same. true≢false (sym (eq-eqb j k (sym same)) ∙ apart))
+
+-- so does its loss
+pub lost_other : (clusters : List ClusterPlace) (j k : ℕ) → eqb j k ≡ false → slice_get (changed_at j lost_cluster (slice_get clusters j) clusters) k ≡ slice_get clusters k
+lost_other = changed_other lost_cluster
 
 -- a cluster that was never lost was not before the entry, which is not its loss
 pub record NeverBefore (places : Places) (w : What) (k : ClusterNo) : Type 0 where

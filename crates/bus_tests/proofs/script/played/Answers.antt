@@ -5,4 +5,4 @@ play-requires-clause-may c =
     let bus = c.in_ok-bus.bus in
     rw c.in_ok-bus.ensures.script
     (rw c.in_ok-bus.ensures.log
-    (c.requires.may bus.system))
+    (c.requires bus.system))

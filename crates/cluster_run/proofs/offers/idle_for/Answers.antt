@@ -26,4 +26,6 @@ pub returns-clause-answers : goal.returns-clause-answers
 returns-clause-answers c =
     let old : BusView = c.args.bus.now in
     let new : BusView = c.idle.new.self in
-    tell_answers old new c.args.cluster.now c.number.result c.cursor.result c.requires.along c.idle.ensures.lawful.legal c.number.ensures c.cursor.ensures c.args.mark c.idle.result c.idle.ensures.idles
+    let adds = adds_told old new c.number.result c.cursor.result c.args.mark c.idle.result c.idle.ensures.idles in
+    let sound = sound_again old new c.requires.sound adds.system adds.script c.idle.ensures.lawful in
+    tell_answers old new c.args.cluster.now c.number.result c.cursor.result c.requires.along sound.unreturned c.number.ensures c.cursor.ensures c.args.mark c.idle.result c.idle.ensures.idles

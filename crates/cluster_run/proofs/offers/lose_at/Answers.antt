@@ -13,14 +13,14 @@ returns-then-is_some-clause-stopped c =
     let b : BusView = c.args.bus.now in
     let v = c.args.cluster.now in
     let off : is_some (off_at b.log v.number) ≡ true = ap (λ k. is_some (off_at b.log k)) (sym c.number.ensures) ∙ ap is_some (sym c.off_at.ensures.off) ∙ sym c.is_some.ensures ∙ c.if-is_some.true in
-    record { sound = c.requires.sound; gone = lost_gone b v c.requires.sound c.requires.before (lost_off b.system b.log v.number c.requires.sound.legal ∙ off) }
+    record { sound = c.requires.sound; gone = lost_gone b v c.requires.sound c.requires.before (lost_off b.log v.number (c.requires.sound.unreturned v.number) ∙ off) }
 
 pub returns-then-is_some-clause-own : goal.returns-then-is_some-clause-own
 returns-then-is_some-clause-own c own lives =
     let b : BusView = c.args.bus.now in
     let v = c.args.cluster.now in
     let off : is_some (off_at b.log v.number) ≡ true = ap (λ k. is_some (off_at b.log k)) (sym c.number.ensures) ∙ ap is_some (sym c.off_at.ensures.off) ∙ sym c.is_some.ensures ∙ c.if-is_some.true in
-    absurd (true≢false (sym (lost_off b.system b.log v.number c.requires.sound.legal ∙ off) ∙ lives))
+    absurd (true≢false (sym (lost_off b.log v.number (c.requires.sound.unreturned v.number) ∙ off) ∙ lives))
 
 pub returns-in-Ok-clause-stopped : goal.returns-in-Ok-clause-stopped
 returns-in-Ok-clause-stopped c =

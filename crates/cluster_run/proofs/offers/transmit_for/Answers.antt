@@ -26,4 +26,6 @@ pub returns-clause-answers : goal.returns-clause-answers
 returns-clause-answers c =
     let old : BusView = c.args.bus.now in
     let new : BusView = c.transmit.new.self in
-    offer_answers old new c.args.cluster.now c.number.result c.cursor.result c.requires.along c.transmit.ensures.lawful.legal c.number.ensures c.cursor.ensures c.args.post.now c.transmit.result c.transmit.ensures.transmits
+    let adds = adds_sent old new c.number.result c.cursor.result c.args.post.now c.transmit.result (own_of c.args.bus.now c.args.cluster.now c.args.post.now c.number.result c.requires.along c.requires.head c.number.ensures) c.transmit.ensures.transmits in
+    let sound = sound_again old new c.requires.sound adds.system adds.script c.transmit.ensures.lawful in
+    offer_answers old new c.args.cluster.now c.number.result c.cursor.result c.requires.along sound.unreturned c.number.ensures c.cursor.ensures c.args.post.now c.transmit.result c.transmit.ensures.transmits

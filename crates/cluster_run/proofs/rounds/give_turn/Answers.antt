@@ -70,7 +70,7 @@ returns-clause-along c =
     let lives : was_lost_in b.log v.number ≡ false = ap (λ k. was_lost_in b.log (cluster_no k)) (sym same) ∙ parts.1 in
     let own = c.in_ok-take_turn.ensures.own refl (c.requires.owned, parts.0) lives in
     let after : BusView = c.take_turn.new.port in
-    all_after b after c.args.clusters.now c.args.number c.index-clusters-number-2.result c.take_turn.new.cluster c.requires.along c.requires.has parts.0 (own.owned.sound).legal
+    all_after b after c.args.clusters.now c.args.number c.index-clusters-number-2.result c.take_turn.new.cluster c.requires.along c.requires.has parts.0 (own.owned.sound).legal (own.owned.sound).unreturned
     (stands_there _ _ _ after c.take_turn.new.cluster c.in_ok-take_turn.ensures.stands) own.empty own.adds c.in_ok-take_turn.ensures.same.number
 
 pub returns-clause-system : goal.returns-clause-system

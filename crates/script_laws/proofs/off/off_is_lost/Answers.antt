@@ -1,4 +1,4 @@
-use Rattle.script_laws.proofs.OffLosses.{off_is_its_loss, not_off_not_lost, lives_unless_lost, silent_once_lost, silent_once_off}
+use Rattle.script_laws.proofs.OffLosses.{off_is_its_loss, not_off_not_lost, lives_unless_lost, silent_once_lost}
 use Rattle.script_laws.proofs.off.off_is_lost.Goals as goal
 
 pub returns-clause-off : goal.returns-clause-off
@@ -12,6 +12,3 @@ returns-clause-lives c = lives_unless_lost
 
 pub returns-clause-silent : goal.returns-clause-silent
 returns-clause-silent c = silent_once_lost
-
-pub returns-clause-silent_off : goal.returns-clause-silent_off
-returns-clause-silent_off c = silent_once_off

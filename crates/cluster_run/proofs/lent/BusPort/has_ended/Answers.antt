@@ -13,5 +13,5 @@ pub returns-else-is_over : goal.returns-else-is_over
 returns-else-is_over c =
     let b : BusView = c.args.self.now in
     let k = c.args.number in
-    ap not (c.living.ensures.lives ∙ ap (λ p. lives_in p k) c.places.ensures ∙ lives_unless_lost b.system b.log k c.requires.sound.legal c.requires.has) ∙ twice (was_lost_in b.log k)
+    ap not (c.living.ensures.lives ∙ ap (λ p. lives_in p k) c.places.ensures ∙ lives_unless_lost b.system b.log k c.requires.sound.legal (c.requires.sound.unreturned k) c.requires.has) ∙ twice (was_lost_in b.log k)
     ∙ ap (λ t. t || was_lost_in b.log k) (sym (sym c.is_over.ensures ∙ c.if-is_over.false))

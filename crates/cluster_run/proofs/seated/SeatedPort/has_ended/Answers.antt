@@ -1,5 +1,4 @@
 use Rattle.std.proofs.Common.{◌∙◌, ap, sym, is_some, ◌||◌}
-use Rattle.std.specs.Arc.{arc_value}
 use Rattle.bus_lock.specs.Seats.{seen}
 use Rattle.cert_sched.specs.Losses.{was_lost_in}
 use Rattle.bus_order.specs.Script.{off_at}
@@ -11,4 +10,4 @@ returns-else-self g c =
     let p = c.args.self.now in
     let log = seen p.seat in
     let off = c.requires.shows.off ∙ ap (off_at log) c.requires.sits.2 in
-    c.is_some.ensures ∙ ap is_some off ∙ sym (lost_off (arc_value p.system.now) log c.args._number c.requires.sound.legal) ∙ ap (λ t. t || was_lost_in log c.args._number) (sym (sym c.requires.shows.over ∙ c.if-self.false))
+    c.is_some.ensures ∙ ap is_some off ∙ sym (lost_off log c.args._number (c.requires.sound.unreturned c.args._number)) ∙ ap (λ t. t || was_lost_in log c.args._number) (sym (sym c.requires.shows.over ∙ c.if-self.false))

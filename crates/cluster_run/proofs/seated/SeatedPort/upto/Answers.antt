@@ -10,11 +10,11 @@ returns-in-Some g c =
     let p = c.args.self.now in
     let log = seen p.seat in
     let off = c.requires.shows.off ∙ ap (off_at log) c.requires.sits.2 in
-    sym (upto_off (arc_value p.system.now) c.args._number log c.requires.sound.legal c.in-Some.at (sym off ∙ c.in-Some.is))
+    sym (upto_off (arc_value p.system.now) c.args._number log (c.requires.sound.unreturned c.args._number) c.in-Some.at c.requires.sound.legal (sym off ∙ c.in-Some.is))
 
 pub returns-in-None : goal.returns-in-None
 returns-in-None g c =
     let p = c.args.self.now in
     let log = seen p.seat in
     let off = c.requires.shows.off ∙ ap (off_at log) c.requires.sits.2 in
-    c.requires.shows.upto ∙ sym (upto_not_off (arc_value p.system.now) c.args._number log c.requires.sound.legal (sym off ∙ c.in-None.is))
+    c.requires.shows.upto ∙ sym (upto_not_off (arc_value p.system.now) c.args._number log (c.requires.sound.unreturned c.args._number) (sym off ∙ c.in-None.is))
