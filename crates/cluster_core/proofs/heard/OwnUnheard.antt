@@ -120,6 +120,7 @@ module _ (c : ClusterView) (log : List Entry) (e : Entry) (valid : is_system c.s
     here = ((λ j. with_all_waiting (none_moved c log e valid now next away f (records_after c.number (what e) c.records) j) (here_after (what e) c.here)) ∙ here_stays) i;
     records = (all_left c log e valid now next away f (records_after c.number (what e) c.records) ∙ recs_stay) i;
     family = taken.family;
+    owed = owed_stays c log e valid now next away f c.owed i;
     steps = taken.steps;
   }
 
@@ -185,6 +186,7 @@ module _ (c : ClusterView) (log : List Entry) (e : Entry) (valid : is_system c.s
     marks = still.marks;
     records = still.records;
     family = known_births;
+    owed = still.owed;
     forks = λ parent child q h at beside any. f.forks parent child q h at beside (fewer parent child any);
     accounts = record { keeps = (still.accounts).keeps; there = (still.accounts).there; calls = (still.accounts).calls };
     server = λ some.

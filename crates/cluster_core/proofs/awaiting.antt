@@ -1,0 +1,4 @@
+pub mod Pids
+pub mod Alone
+pub mod Waiting
+pub mod OwedNext
