@@ -1,5 +1,5 @@
 -- What a cluster knows of the placement it goes on to know, whichever entry comes to it.
-use Rattle.std.proofs.Common.{◌≡◌, refl, sym, ◌∙◌, ap, subst, List, [], ◌∷◌, ◌++◌, map, Bool, true, false, cond, not, ◌&&◌, ◌||◌, Option, Some, None, inl, inr, true≢false}
+use Rattle.std.proofs.Common.{◌≡◌, ℕ, refl, sym, ◌∙◌, ap, subst, List, [], ◌∷◌, ◌++◌, map, Bool, true, false, cond, not, ◌&&◌, ◌||◌, Option, Some, None, is_some, inl, inr, true≢false}
 use Rattle.std.specs.Prelude.{filter, find, slice_get, ⊤}
 use Rattle.std.specs.Option.{option_map_or}
 use Rattle.t32_base.specs.declared.process.Pid.{Pid}
@@ -12,14 +12,18 @@ use Rattle.bus_msg.specs.declared.entry.Post.{Post}
 use Rattle.bus_msg.specs.declared.placed.Placed.{Placed}
 use Rattle.bus_msg.specs.Places.{Places, is_cluster, is_moved_by, placed_at, same_cluster, same_pid, unended_at}
 use Rattle.bus_msg.specs.PlacedAfter.{after_exit, after_loss, after_sync, changed_at, child_of, lost_cluster, moved_to, placed_after, raised_serial, returned_cluster, with_birth}
+use Rattle.bus_msg.specs.NewBackup.{next_backup, next_backup_at}
+use Rattle.plain_kernel.specs.Maps.{pid_of}
 use Rattle.cert_sched.specs.Built.{is_built}
 use Rattle.cert_sched.specs.Record.{is_root}
 use Rattle.cert_sched.specs.Told.{cluster_lost}
 use Rattle.cert_sched.proofs.UnendedLaws.{loss_keeps}
 use Rattle.crash_notice.specs.Splitting.{is_moved_here, moves_here, stays}
 use Rattle.cluster_core.specs.Hearing.{KnowsEach, KnowsPlaced, KnowsPlaces, concerns, may_miss}
+use Rattle.cluster_core.specs.Owed.{begins_wait, owed_after, pids_waiting, to_back, with_pids}
 use Rattle.cluster_core.specs.Queue.{falls, is_moved_from, is_rebackup, left_queued}
 use Rattle.cluster_core.specs.Recovered.{left_by, moved_by}
+use Rattle.cluster_core.proofs.awaiting.Pids.{waiting_more}
 use Rattle.cluster_core.proofs.heard.Unheard.{is_elsewhere}
 
 -- ---- one process

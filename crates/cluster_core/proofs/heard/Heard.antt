@@ -48,7 +48,7 @@ use Rattle.log_laws.proofs.births.NewBirth.{birth_last, stands_in_none}
 use Rattle.cluster_core.proofs.absorbing.Absorbed.{absorbs, ready_own}
 use Rattle.cluster_core.proofs.absorbing.Counted.{capped_next, count_by-snoc, lost_before}
 use Rattle.cluster_core.proofs.losses.FirstServer.{lost_other, same_pager}
-use Rattle.cluster_core.proofs.absorbing.KnownPlaces.{known_after, left_alike, moved_alike, concerns_alike, queues_alike}
+use Rattle.cluster_core.proofs.absorbing.KnownPlaces.{concerns_alike, known_after, left_alike, moved_alike, owed_alike, queues_alike}
 use Rattle.cluster_core.proofs.losses.OwningWaits.{owns_waiting}
 use Rattle.cluster_core.proofs.heard.PassedOver.{own_upto}
 use Rattle.cluster_core.proofs.heard.Shadow.{alike, queued_back, shadow, shadow_follows}

@@ -37,7 +37,7 @@ use Rattle.cluster_core.proofs.here.Here.{pid_same}
 use Rattle.cluster_core.proofs.losses.Homes.{HomeHere}
 use Rattle.cluster_core.proofs.absorbing.KnownPlaces.{known_after}
 use Rattle.cluster_core.proofs.absorbing.Noting.{noted_next}
-use Rattle.cluster_core.proofs.heard.PassedOver.{all_left, at_later, births_left, built, dropped, elsewhere, home_of_it, none_come, none_moved, of_it, own_upto, same_clusters, same_pager, serves, without_last}
+use Rattle.cluster_core.proofs.heard.PassedOver.{all_left, at_later, births_left, built, dropped, elsewhere, home_of_it, none_come, none_moved, of_it, own_upto, same_clusters, same_pager, serves, without_last, owed_stays}
 use Rattle.cluster_core.proofs.heard.Shadow.{alike, queued_back, shadow}
 use Rattle.cluster_core.proofs.heard.Unheard.{page_goes}
 

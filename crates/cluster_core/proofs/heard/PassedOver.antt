@@ -35,6 +35,7 @@ use Rattle.cluster_core.specs.Absorbing.{goes_to}
 use Rattle.cluster_core.specs.Calls.{ReadyFor, with_entry, here_after, with_page_come}
 use Rattle.cluster_core.specs.Follows.{FollowsBuilt, IsOpen}
 use Rattle.cluster_core.specs.Hearing.{FollowsHeard, KnowsEach, KnowsPlaces, concerns, heard_in}
+use Rattle.cluster_core.specs.Owed.{owed_after}
 use Rattle.cluster_core.specs.Parts.{AllOwn, IsHeldOwn}
 use Rattle.cluster_core.specs.Recovered.{left_by, moved_by, with_all_waiting}
 use Rattle.cluster_core.specs.Residents.{pids_in}
