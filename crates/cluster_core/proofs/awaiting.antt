@@ -2,3 +2,4 @@ pub mod Pids
 pub mod Alone
 pub mod Waiting
 pub mod OwedNext
+pub mod Joined

@@ -14,6 +14,7 @@ pub mod Syncing
 pub mod Bearing
 pub mod Families
 pub mod Owed
+pub mod Joined
 pub mod ForkingAgain
 pub mod ForksAgain
 pub mod Follows

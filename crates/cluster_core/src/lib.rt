@@ -8,6 +8,7 @@ mod falling;
 mod families;
 pub mod hearing;
 pub mod hurt;
+pub mod joined;
 mod owed;
 pub mod quantum;
 pub mod resident;

@@ -52,7 +52,9 @@ module _ (places : Places) (p : Pid) (q : Placed) (found : unended_at places p �
 
   -- it has one
   pub none_backed : is_some q.backup ≡ true → is_some (next_backup_at places p) ≡ false
-  none_backed backed = ap is_some next_is ∙ ap (λ b. is_some (cond (q.ended || b) None (backup_by_mode places q q.mode))) backed ∙ ap (λ b. is_some (cond b None (backup_by_mode places q q.mode))) (or_true q.ended)
+  none_backed backed =
+      ap is_some next_is ∙ ap (λ b. is_some (cond (q.ended || b) None (backup_by_mode places q q.mode))) backed
+      ∙ ap (λ b. is_some (cond b None (backup_by_mode places q q.mode))) (or_true q.ended)
 
 -- ---- where others live still
 

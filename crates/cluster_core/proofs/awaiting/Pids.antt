@@ -83,7 +83,8 @@ module _ (lost here : ClusterNo) where
   pub waiting_more : (q : Placed) (qs : List Placed) → pids_waiting lost here (q ∷ qs) ≡ cond (begins_wait lost here q) ((q.pid).0 ∷ pids_waiting lost here qs) (pids_waiting lost here qs)
   waiting_more q qs = by_test (begins_wait lost here q)
     where
-      by_test : (b : Bool) → map (λ (q : Placed). (q.pid).0) (cond b (q ∷ filter (begins_wait lost here) qs) (filter (begins_wait lost here) qs)) ≡ cond b ((q.pid).0 ∷ pids_waiting lost here qs) (pids_waiting lost here qs)
+      by_test : (b : Bool) → map (λ (q : Placed). (q.pid).0) (cond b (q ∷ filter (begins_wait lost here) qs) (filter (begins_wait lost here) qs))
+          ≡ cond b ((q.pid).0 ∷ pids_waiting lost here qs) (pids_waiting lost here qs)
       by_test true = refl
       by_test false = refl
 
@@ -102,7 +103,8 @@ module _ (lost here : ClusterNo) where
   -- one that begins to wait has not ended
   begun_open : (q : Placed) → begins_wait lost here q ≡ true → q.ended ≡ false
   begun_open q begins =
-      not-true q.ended (and_parts (same_cluster q.home lost) (not q.ended) (and_parts (is_at_home lost q) (is_cluster q.backup here) (and_parts (is_at_home lost q && is_cluster q.backup here) (is_full q.mode) begins).0).0).1
+      let moved = (and_parts (is_at_home lost q && is_cluster q.backup here) (is_full q.mode) begins).0 in
+      not-true q.ended (and_parts (same_cluster q.home lost) (not q.ended) (and_parts (is_at_home lost q) (is_cluster q.backup here) moved).0).1
 
   -- where no two have one pid, it is the one that is found and has not ended
   pub any_waiting : (p : Pid) (qs : List Placed) → NoTwo (placed_pids qs)
@@ -139,7 +141,8 @@ module _ (lost here : ClusterNo) where
   -- those of some processes, and then those of others
   waiting_append : (qs rs : List Placed) → pids_waiting lost here (qs ++ rs) ≡ pids_waiting lost here qs ++ pids_waiting lost here rs
   waiting_append qs rs =
-      ap (map (λ (q : Placed). (q.pid).0)) (filter-append (begins_wait lost here) qs rs) ∙ map-append (λ (q : Placed). (q.pid).0) (filter (begins_wait lost here) qs) (filter (begins_wait lost here) rs)
+      ap (map (λ (q : Placed). (q.pid).0)) (filter-append (begins_wait lost here) qs rs)
+      ∙ map-append (λ (q : Placed). (q.pid).0) (filter (begins_wait lost here) qs) (filter (begins_wait lost here) rs)
 
   -- those of one process more
   pub waiting_next : (qs : List Placed) (n : ℕ) (q : Placed) (owed between : List ℕ) → n < length qs → Some q ≡ slice_get qs n → between ≡ with_pids owed (pids_waiting lost here (take n qs))

@@ -138,14 +138,16 @@ module _ (system : System) (log : List Entry) (e : Entry) (k : ClusterNo) (valid
         by_found None there = ap (λ b. b && is_some (next_backup_at after p)) (none_then there) ∙ sym (none_now there)
         by_found (Some r) there = by_waits (has_awaited_backup system log p) refl (has_awaited_backup system later p) refl
           where
-            both : (a s : Bool) → has_awaited_backup system log p ≡ a → is_some (next_backup_at after p) ≡ s → (is_owed system log k p && is_some (next_backup_at after p)) ≡ ((same_cluster r.home k && not a) && s)
+            both : (a s : Bool) → has_awaited_backup system log p ≡ a → is_some (next_backup_at after p) ≡ s
+                → (is_owed system log k p && is_some (next_backup_at after p)) ≡ ((same_cluster r.home k && not a) && s)
             both a s waits next = λ i. owed_then r there a waits i && next i
 
             ended : has_awaited_backup system log p ≡ false → (names p (what e) ≡ true) ⊎ (is_alone p after ≡ true) → is_some (next_backup_at after p) ≡ false
             ended waits (inl named) = none_backed after p (f r) (now r there) (backed r there named)
             ended waits (inr alone) = none_alone after p (f r) (now r there) (full_now r there waits) alone
 
-            by_waits : (a : Bool) → has_awaited_backup system log p ≡ a → (b : Bool) → has_awaited_backup system later p ≡ b → (is_owed system log k p && is_some (next_backup_at after p)) ≡ is_owed system later k p
+            by_waits : (a : Bool) → has_awaited_backup system log p ≡ a → (b : Bool) → has_awaited_backup system later p ≡ b
+                → (is_owed system log k p && is_some (next_backup_at after p)) ≡ is_owed system later k p
             by_waits true then b is =
                 both true (is_some (next_backup_at after p)) then refl ∙ none_and (same_cluster r.home k) (is_some (next_backup_at after p))
                 ∙ sym (owed_now r there true (follows r there ∙ ap (λ x. x || (names p (what e) || is_alone p after)) then))
@@ -175,7 +177,12 @@ module _ (system : System) (log : List Entry) (e : Entry) (k : ClusterNo) (valid
 
   -- an entry that leaves it where it was
   same_there : (p : Pid) (w : What) → what e ≡ w → cluster_lost w ≡ None → unended_at (placed_after here w) p ≡ unended_at here p → Changes p (λ q. q)
-  same_there p w is none same = record { found = ap (λ places. unended_at places p) (places_are w is) ∙ same ∙ map_same (unended_at here p); stays = unmoved p w is none; mode = λ r. refl; home = λ r there. refl }
+  same_there p w is none same = record {
+    found = ap (λ places. unended_at places p) (places_are w is) ∙ same ∙ map_same (unended_at here p);
+    stays = unmoved p w is none;
+    mode = λ r. refl;
+    home = λ r there. refl;
+  }
 
   long : length after.clusters ≡ length here.clusters
   long = clusters-length Stands system later legal ∙ sym (clusters-length Stands system log before)
@@ -392,7 +399,8 @@ module _ (system : System) (log : List Entry) (e : Entry) (k : ClusterNo) (valid
         let c = same_there p (Return j) is refl refl in
         are p
         ∙ kept p (λ q. q) c (ap (names p) is)
-        (beside p (λ q. q) c (λ h lives. ap (λ places. lives_in places h) (places_are (Return j) is) ∙ kept_at (λ (c : ClusterPlace). c.lives) returned_cluster (λ c lives. refl) here.clusters j.0 h.0 lives))
+        (beside p (λ q. q) c (λ h lives. ap (λ places. lives_in places h) (places_are (Return j) is)
+        ∙ kept_at (λ (c : ClusterPlace). c.lives) returned_cluster (λ c lives. refl) here.clusters j.0 h.0 lives))
     by_kind (Rebackup to fresh recs) is =
         left_owed (Rebackup to fresh recs) owed is ∙ ap (λ b. b && is_some (next_backup_at after p)) (are p)
         ∙ changed p (after_rebackup to fresh recs) renewed
