@@ -1,4 +1,5 @@
 pub mod absorbing
+mod awaiting
 mod births
 mod losses
 mod paging

@@ -41,6 +41,7 @@ use Rattle.cluster_core.specs.ForkingAgain.{RollsAgain}
 use Rattle.cluster_core.specs.Recovered.{left_by, moved_by, with_all_waiting}
 use Rattle.cluster_core.specs.Bearing.{birth_post, with_born}
 use Rattle.cluster_core.specs.Families.{family_after}
+use Rattle.cluster_core.specs.Owed.{owed_after}
 use Rattle.cluster_core.specs.Work.{AnswersNext, AsksNext, any_lacks, child_of, fetch_post, owes_answer}
 use Rattle.cluster_core.specs.Follows.{FollowsBuilt, IsOpen, StandsBetween}
 
@@ -111,6 +112,7 @@ with_entry c e = record c {
   here = with_all_waiting (moved_by c.places c.number (what e) (records_after c.number (what e) c.records)) (here_after (what e) c.here);
   records = left_by c.places c.number (what e) (records_after c.number (what e) c.records);
   family = family_after (what e) c.family;
+  owed = owed_after c.number c.places (what e) c.owed;
   steps = next_count c.steps;
 }
 

@@ -11,6 +11,7 @@ use Rattle.cluster_core.specs.Queue.{IsQueued}
 use Rattle.cluster_core.specs.Syncing.{Synchronises}
 use Rattle.cluster_core.specs.Bearing.{BearsChild}
 use Rattle.cluster_core.specs.Families.{HoldsFamily}
+use Rattle.cluster_core.specs.Owed.{HoldsOwed}
 use Rattle.cluster_core.specs.ForksAgain.{HoldsForks}
 use Rattle.cluster_core.specs.Holds.{HoldsLog, HoldsProcesses, HoldsQueue, HoldsSteps, HoldsLimits, HoldsPages, HoldsMarks, IsMarked, CarriesMarks, HoldsRecords, HoldsAccounts, HasNotFailed}
 
@@ -37,6 +38,7 @@ pub record FollowsBuilt (system : System) (entries : List Entry) (c : ClusterVie
   pub marks : HoldsMarks CarriesMarks system entries c
   pub records : HoldsRecords system entries c
   pub family : HoldsFamily system entries c
+  pub owed : HoldsOwed system entries c
   pub forks : HoldsForks c
   pub accounts : HoldsAccounts system entries c
   pub disk : HasNotFailed c

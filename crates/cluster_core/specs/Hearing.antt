@@ -24,6 +24,7 @@ use Rattle.cluster_core.specs.Bearing.{BearsChild}
 use Rattle.cluster_core.specs.ForksAgain.{HoldsForks}
 use Rattle.cluster_core.specs.Holds.{CarriesMarks, HasNotFailed, HoldsAccounts, HoldsLimits, HoldsMarks, HoldsPages, HoldsProcesses, HoldsQueue, HoldsRecords}
 use Rattle.cluster_core.specs.Parts.{AllOwn}
+use Rattle.cluster_core.specs.Owed.{HoldsOwed}
 use Rattle.cluster_core.specs.Queue.{IsQueued}
 use Rattle.cluster_core.specs.Syncing.{Synchronises}
 use Rattle.cluster_core.specs.View.{ClusterView, after_head}
@@ -94,6 +95,7 @@ pub record FollowsHeard (system : System) (entries : List Entry) (c : ClusterVie
   pub marks : HoldsMarks CarriesMarks system entries c
   pub records : HoldsRecords system entries c
   pub family : HoldsFamilyHere system entries c
+  pub owed : HoldsOwed system entries c
   pub forks : HoldsForks c
   pub accounts : HoldsAccounts system entries c
   pub server : ServesThere system entries c

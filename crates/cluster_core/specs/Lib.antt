@@ -13,6 +13,8 @@ pub mod Holds
 pub mod Syncing
 pub mod Bearing
 pub mod Families
+pub mod Owed
+pub mod Joined
 pub mod ForkingAgain
 pub mod ForksAgain
 pub mod Follows

@@ -9,4 +9,4 @@ use Rattle.cluster_core.specs.View.{ClusterView}
 -- Behind its return in the log it has this placement and these children that never synchronised, and counts its kernel steps on; it has no process, no record, no disk, and nothing to send.
 abbrev pub returned : System → ClusterNo → Places → List (Pid × Pid) → (cursor : ℕ) → (steps : ℕ) → ClusterView
 returned system k places family cursor steps =
-    record { system = system; number = k; cursor = cursor; places = places; here = []; records = []; family = family; server = None; queue = []; tried = false; steps = steps; failed = None }
+    record { system = system; number = k; cursor = cursor; places = places; here = []; records = []; family = family; owed = []; server = None; queue = []; tried = false; steps = steps; failed = None }

@@ -32,8 +32,9 @@ pub data Held : Type 0 where
   Waits : (waiting : WaitingState) → Held
 
 -- its system and number, the length of the log that it has taken in, and the placement then; the processes at home here; the records of
--- processes whose backup is here; what it keeps where it is a page server: the accounts, the fetches that wait, and the counts of its disk; the posts
--- that are still to be sent, and whether the first was tried; its kernel steps, and the disk call that failed
+-- processes whose backup is here; the children that never synchronised; the pids of the processes that wait for their new backup, rising; what it keeps where
+-- it is a page server: the accounts, the fetches that wait, and the counts of its disk; the posts that are still to be sent, and whether the first was tried;
+-- its kernel steps, and the disk call that failed
 pub record ClusterView : Type 0 where
   pub system : System
   pub number : ClusterNo
@@ -42,6 +43,7 @@ pub record ClusterView : Type 0 where
   pub here : List (Pid × Held)
   pub records : List BackRec
   pub family : List (Pid × Pid)
+  pub owed : List ℕ
   pub server : Option PagerState
   pub queue : List Post
   pub tried : Bool

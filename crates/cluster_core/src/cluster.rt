@@ -16,6 +16,7 @@ use crate::booting::{limits_of, parts_at_boot};
 use crate::falling::drop_fallen;
 use crate::families::join;
 use crate::hurt::Hurt;
+use crate::owed::Owed;
 use crate::residents::Residents;
 use crate::serving::serve;
 use crate::taking_over::take_over;
@@ -39,8 +40,8 @@ use t32_base::process::{ClusterNo, Pid};
 use t32_base::streams::NoMemory;
 
 /// A cluster of a system: the placement, the processes at home there, the records of the processes whose backup
-/// is there, the children that never synchronised, the accounts of pages and the fetches that wait where it is one
-/// of the two page servers, and the posts that it has to send.
+/// is there, the children that never synchronised, the processes here that wait for their new backup, the accounts of
+/// pages and the fetches that wait where it is one of the two page servers, and the posts that it has to send.
 #[derive(Drop)]
 pub struct Cluster<D: PageDisk> {
     alloc: Global,
@@ -51,6 +52,7 @@ pub struct Cluster<D: PageDisk> {
     here: Residents,
     records: Records,
     family: Family,
+    owed: Owed,
     server: Option<Pager<D>>,
     queue: VecDeque<Post>,
     tried: bool,
@@ -74,6 +76,7 @@ impl<D: PageDisk> Model for Cluster<D> {
       here = (c.here).here;
       records = c.records;
       family = c.family;
+      owed = c.owed;
       server = c.server;
       queue = (c.queue).items;
       tried = c.tried;
@@ -114,6 +117,7 @@ impl<D: PageDisk + Drop> Cluster<D> {
             here: parts.here,
             records: parts.records,
             family: Family::none(alloc),
+            owed: Owed::none(alloc),
             server: parts.server,
             queue: VecDeque::new(alloc),
             tried: false,
@@ -146,6 +150,7 @@ impl<D: PageDisk + Drop> Cluster<D> {
             here: Residents::none(alloc, limits_of(system)),
             records: Records::none(alloc),
             family,
+            owed: Owed::none(alloc),
             server: None,
             queue: VecDeque::new(alloc),
             tried: false,
@@ -228,7 +233,8 @@ impl<D: PageDisk + Drop> Cluster<D> {
     /// process here that waits for it, which goes on from its record once all have come. At its own birth the parent forks, and the
     /// child runs beside it; any birth joins the children that never synchronised, and one that synchronised or ended leaves
     /// them. At the loss of another cluster the processes that this moves here wait for their pages, or for their parent's
-    /// fork, and their records are kept no more. A new backup brings its records here where it is to this cluster. A queued post that
+    /// fork, and their records are kept no more; those that are fullbacks wait for their new backup too, while another cluster
+    /// lives. A new backup brings its records here where it is to this cluster. A queued post that
     /// falls at the entry is to be sent no more. A call of its disk that fails leaves a cluster that has failed, in which there is no
     /// process. After want of memory nothing is said of the cluster but that it can be dropped.
     pub fn absorb(&mut self, entry: &Entry) -> Result<(), Hurt>
@@ -258,6 +264,7 @@ impl<D: PageDisk + Drop> Cluster<D> {
         serve(&mut self.server, &self.places, entry)?;
         note(self.number, &mut self.records, entry)?;
         join(&mut self.family, entry)?;
+        self.owed.wait(self.number, &self.places, entry)?;
         tell(self.alloc, self.number, &mut self.here, entry)?;
         drop_fallen(&self.places, entry, &mut self.queue);
         self.cursor += 1;
@@ -270,6 +277,7 @@ impl<D: PageDisk + Drop> Cluster<D> {
             entry,
         )?;
         self.places.absorb(entry)?;
+        self.owed.settle(&self.places, entry);
         self.count_step();
         Ok(())
     }

@@ -18,6 +18,9 @@ use t32_base::process::{ClusterNo, Pid};
 pub fn drop_fallen(before: &Placement, entry: &Entry, queue: &mut VecDeque<Post>)
     ensures { queue.new.items ≡ left_queued before.now (what entry.now) queue.old.items }
 {
+    if queue.is_empty() {
+        return;
+    }
     if let Some(last) = queue.back() {
         if falls(before, &entry.post.what, &last.what) {
             queue.pop_back();

@@ -8,6 +8,8 @@ mod falling;
 mod families;
 pub mod hearing;
 pub mod hurt;
+pub mod joined;
+mod owed;
 pub mod quantum;
 pub mod resident;
 mod residents;

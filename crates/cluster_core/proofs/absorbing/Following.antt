@@ -53,6 +53,8 @@ use Rattle.log_laws.proofs.records.KeptLaws.{records_kept}
 use Rattle.log_laws.proofs.records.Standing.{legal_stands}
 use Rattle.roll_forward.specs.Deeds.{Sends}
 use Rattle.cluster_core.specs.Families.{family_after}
+use Rattle.cluster_core.specs.Owed.{HoldsOwed, owed_after}
+use Rattle.cluster_core.proofs.awaiting.OwedNext.{owed_next, told_spares}
 use Rattle.cluster_core.specs.View.{ClusterView, Held, Runs, Rolls, Waits, arrived_held, held_at, head_of, after_head, after_sent, next_count, with_server, held_of, IsHeldWithin, limits_of}
 use Rattle.cluster_core.specs.Residents.{pids_in}
 use Rattle.cluster_core.specs.Parts.{AllOwn}
@@ -366,14 +368,14 @@ rolls_arrived system log e n queue p s counts births valid unended other none ro
 
 -- a cluster with an entry taken in that is no loss
 abbrev pub taken_in : ClusterView → Entry → ClusterView
-taken_in c e = record c { cursor = c.cursor + 1; places = placed_after c.places (what e); here = here_after (what e) c.here; records = records_after c.number (what e) c.records; family = family_after (what e) c.family; steps = next_count c.steps }
+taken_in c e = record c { cursor = c.cursor + 1; places = placed_after c.places (what e); here = here_after (what e) c.here; records = records_after c.number (what e) c.records; family = family_after (what e) c.family; owed = owed_after c.number c.places (what e) c.owed; steps = next_count c.steps }
 
 -- that is what the cluster is then
 pub told_taken : (c : ClusterView) (e : Entry) → tells_or_closes (what e) ≡ true → with_entry c e ≡ taken_in c e
 told_taken c e tells =
     let here = by_kind (λ w. with_all_waiting (moved_by c.places c.number w (records_after c.number w c.records)) (here_after w c.here) ≡ here_after w c.here) (λ at letter. refl) (λ pid at end. refl) (λ rests. refl) refl (what e) tells in
     let recs = by_kind (λ w. left_by c.places c.number w (records_after c.number w c.records) ≡ records_after c.number w c.records) (λ at letter. refl) (λ pid at end. refl) (λ rests. refl) refl (what e) tells in
-    λ i. record c { cursor = c.cursor + 1; places = placed_after c.places (what e); here = here i; records = recs i; family = family_after (what e) c.family; steps = next_count c.steps }
+    λ i. record c { cursor = c.cursor + 1; places = placed_after c.places (what e); here = here i; records = recs i; family = family_after (what e) c.family; owed = owed_after c.number c.places (what e) c.owed; steps = next_count c.steps }
 
 -- what is held stays what the log says
 held_foreign : (which : Pid → Bool) (c : ClusterView) (log : List Entry) (e : Entry) (n : Next c.system log e) (q : Queued) → c.queue ≡ posts_of q → AreTogether q → is_system c.system ≡ true → pids_differ (placement c.system log).placed ≡ true → AllOwn c.cursor c.here
@@ -523,6 +525,7 @@ follows_foreign which c log e n server valid differ own f foreign serves = recor
   pages = pages_told c log e n valid differ (f.processes).each_once f.pages;
   marks = marks_foreign which c log e n valid differ own f foreign;
   family = family_next c.system log e c.family valid (n.legal, n.before) (n.more, n.goes_on) f.family;
+  owed = owed_next c.system log e c.number c.places c.owed valid (n.more, n.goes_on) (f.log).places (told_spares c.number (what e) (n.may).built) f.owed;
   forks = forks_told (what e) c.family c.here (n.may).built f.forks;
   records = records_after_entry c.system log e n c.number c.records valid f.records;
   accounts =
@@ -718,6 +721,8 @@ follows_own c log e n l server valid differ own serves =
       pages = pages_told c log e n valid differ once (subst (λ hs. (p : Pid) (h : Held) → held_of hs p ≡ Some h → is_some (process_in h) ≡ true → has_its_pages c.system log p ≡ true) here f.pages);
       marks = marks_own c log e n l l.lone empty;
       family = family_next c.system log e c.family valid (n.legal, n.before) (n.more, n.goes_on) (ap (λ (d : ClusterView). d.family) l.same ∙ f.family);
+      owed = owed_next c.system log e c.number c.places c.owed valid (n.more, n.goes_on) (ap (λ (d : ClusterView). d.places) l.same ∙ (f.log).places) (told_spares c.number (what e) (n.may).built)
+          (subst (HoldsOwed c.system log) (sym l.same) f.owed);
       forks = forks_told (what e) c.family c.here (n.may).built (subst HoldsForks (sym l.same) f.forks);
       records = records_after_entry c.system log e n c.number c.records valid
           (subst (λ recs. KeepsRecords c.system log c.number recs) (sym (ap (λ (d : ClusterView). d.records) l.same))

@@ -1,5 +1,5 @@
 -- What a cluster knows of the placement it goes on to know, whichever entry comes to it.
-use Rattle.std.proofs.Common.{◌≡◌, refl, sym, ◌∙◌, ap, subst, List, [], ◌∷◌, ◌++◌, map, Bool, true, false, cond, not, ◌&&◌, ◌||◌, Option, Some, None, inl, inr, true≢false}
+use Rattle.std.proofs.Common.{◌≡◌, ℕ, refl, sym, ◌∙◌, ap, subst, List, [], ◌∷◌, ◌++◌, map, Bool, true, false, cond, not, ◌&&◌, ◌||◌, Option, Some, None, is_some, inl, inr, true≢false}
 use Rattle.std.specs.Prelude.{filter, find, slice_get, ⊤}
 use Rattle.std.specs.Option.{option_map_or}
 use Rattle.t32_base.specs.declared.process.Pid.{Pid}
@@ -12,13 +12,17 @@ use Rattle.bus_msg.specs.declared.entry.Post.{Post}
 use Rattle.bus_msg.specs.declared.placed.Placed.{Placed}
 use Rattle.bus_msg.specs.Places.{Places, is_cluster, is_moved_by, placed_at, same_cluster, same_pid, unended_at}
 use Rattle.bus_msg.specs.PlacedAfter.{after_exit, after_loss, after_sync, changed_at, child_of, lost_cluster, moved_to, placed_after, raised_serial, returned_cluster, with_birth}
+use Rattle.bus_msg.specs.NewBackup.{next_backup, next_backup_at}
+use Rattle.plain_kernel.specs.Maps.{pid_of}
 use Rattle.cert_sched.specs.Record.{is_root}
 use Rattle.cert_sched.specs.Told.{cluster_lost}
 use Rattle.cert_sched.proofs.UnendedLaws.{loss_keeps}
 use Rattle.crash_notice.specs.Splitting.{is_moved_here, moves_here, stays}
 use Rattle.cluster_core.specs.Hearing.{KnowsEach, KnowsPlaced, KnowsPlaces, concerns, may_miss}
+use Rattle.cluster_core.specs.Owed.{begins_wait, owed_after, pids_waiting, to_back, with_pids}
 use Rattle.cluster_core.specs.Queue.{falls, is_moved_from, is_rebackup, left_queued}
 use Rattle.cluster_core.specs.Recovered.{left_by, moved_by}
+use Rattle.cluster_core.proofs.awaiting.Pids.{waiting_more}
 use Rattle.cluster_core.proofs.heard.Unheard.{is_elsewhere}
 
 -- ---- one process
@@ -236,3 +240,49 @@ pub queues_alike : (system : System) (k : ClusterNo) (known places : Places) (w 
 queues_alike system k known places w [] knows = refl
 queues_alike system k known places w (post ∷ []) knows = ap (λ b. cond b [] (post ∷ [])) (falls_alike system k known places w post.what knows)
 queues_alike system k known places w (post ∷ next ∷ rest) knows = ap (λ ps. post ∷ ps) (queues_alike system k known places w (next ∷ rest) knows)
+
+-- ---- who waits for a new backup
+
+-- the same processes begin to wait
+waiting_alike : (system : System) (k lost : ClusterNo) (known qs : List Placed) → KnowsEach system k known qs → pids_waiting lost k known ≡ pids_waiting lost k qs
+waiting_alike system k lost [] [] knows = refl
+waiting_alike system k lost [] (q ∷ qs) knows = absurd knows
+waiting_alike system k lost (p ∷ known) [] knows = absurd knows
+waiting_alike system k lost (p ∷ known) (q ∷ qs) knows = waiting_more lost k p known ∙ by_head knows.0 ∙ sym (waiting_more lost k q qs)
+  where
+    rest : pids_waiting lost k known ≡ pids_waiting lost k qs
+    rest = waiting_alike system k lost known qs knows.1
+
+    by_head : KnowsPlaced system k p q
+        → cond (begins_wait lost k p) ((p.pid).0 ∷ pids_waiting lost k known) (pids_waiting lost k known) ≡ cond (begins_wait lost k q) ((q.pid).0 ∷ pids_waiting lost k qs) (pids_waiting lost k qs)
+    by_head (inl is) = λ i. cond (begins_wait lost k (is i)) (((is i).pid).0 ∷ rest i) (rest i)
+    by_head (inr m) = λ i. cond (begins_wait lost k (m.1 i)) (((m.1 i).pid).0 ∷ rest i) (rest i)
+
+-- a process gets the same new backup
+next_alike : (system : System) (k : ClusterNo) (known places : Places) → KnowsPlaces system k known places → (p : Pid) → is_some (next_backup_at known p) ≡ is_some (next_backup_at places p)
+next_alike system k known places knows p =
+    by_found (unended_at known p) (unended_at places p) (found_known system k (λ (q : Placed). same_pid q.pid p && not q.ended) (λ q. refl) known.placed places.placed knows.placed)
+  where
+    there : (q : Placed) → is_some (next_backup known q) ≡ is_some (next_backup places q)
+    there q = ap (λ cs. is_some (next_backup (record places { clusters = cs }) q)) knows.clusters
+
+    by_found : (o r : Option Placed) → KnowsFound system k o r → is_some (option_map_or (next_backup known) o None) ≡ is_some (option_map_or (next_backup places) r None)
+    by_found None None found = refl
+    by_found (Some q) (Some r) (inl is) = ap (λ q. is_some (next_backup known q)) is ∙ there r
+    by_found (Some q) (Some r) (inr m) = ap (λ q. is_some (next_backup known q)) m.1 ∙ there r
+    by_found None (Some r) found = absurd found
+    by_found (Some q) None found = absurd found
+
+settled_alike : (system : System) (k : ClusterNo) (known places : Places) (owed : List ℕ) → KnowsPlaces system k known places → to_back known owed ≡ to_back places owed
+settled_alike system k known places owed knows = ap (λ t. filter t owed) (λ i n. next_alike system k known places knows (pid_of n) i)
+
+-- so the same ones wait after an entry
+pub owed_alike : (system : System) (k : ClusterNo) (known places : Places) (w : What) (owed : List ℕ) → is_built w ≡ true → is_rebackup w ≡ false → KnowsPlaces system k known places
+    → owed_after k known w owed ≡ owed_after k places w owed
+owed_alike system k known places (Crash lost cause) owed built other knows =
+    settled_alike system k (placed_after known (Crash lost cause)) (placed_after places (Crash lost cause)) (with_pids owed (pids_waiting lost k known.placed)) (known_after system k known places (Crash lost cause) refl refl knows)
+    ∙ ap (λ ks. to_back (placed_after places (Crash lost cause)) (with_pids owed ks)) (waiting_alike system k lost known.placed places.placed knows.placed)
+owed_alike system k known places (Exit pid at end) owed built other knows =
+    settled_alike system k (placed_after known (Exit pid at end)) (placed_after places (Exit pid at end)) owed (known_after system k known places (Exit pid at end) refl refl knows)
+owed_alike system k known places (Rebackup to fresh recs) owed built other knows = absurd (true≢false other)
+owed_alike system k known places _ owed built other knows = refl

@@ -30,6 +30,7 @@ use Rattle.log_laws.proofs.records.Standing.{built_stands}
 use Rattle.page_server.specs.Account.{PagerState}
 use Rattle.cluster_core.specs.Calls.{here_after, with_entry}
 use Rattle.cluster_core.specs.Families.{family_after}
+use Rattle.cluster_core.specs.Owed.{owed_after}
 use Rattle.cluster_core.specs.Follows.{IsOpen}
 use Rattle.cluster_core.specs.ForksAgain.{ForksLeft}
 use Rattle.cluster_core.specs.Parts.{AllOwn}
@@ -51,11 +52,12 @@ return_taken c e back is = ap taken is ∙ sym (ap made is)
       here = with_all_waiting (moved_by c.places c.number w (records_after c.number w c.records)) (here_after w c.here);
       records = left_by c.places c.number w (records_after c.number w c.records);
       family = family_after w c.family;
+      owed = owed_after c.number c.places w c.owed;
       steps = next_count c.steps;
     }
 
     made : What → ClusterView
-    made w = record c { cursor = c.cursor + 1; places = placed_after c.places w; records = records_after c.number w c.records; family = family_after w c.family; steps = next_count c.steps }
+    made w = record c { cursor = c.cursor + 1; places = placed_after c.places w; records = records_after c.number w c.records; family = family_after w c.family; owed = owed_after c.number c.places w c.owed; steps = next_count c.steps }
 
 module _ (system : System) (log : List Entry) (e : Entry) (back : ClusterNo) (is : what e ≡ Return back) where
   abbrev later : List Entry

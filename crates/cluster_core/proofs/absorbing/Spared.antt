@@ -44,6 +44,7 @@ use Rattle.page_server.specs.Account.{PagerState}
 use Rattle.page_waits.specs.Waiting.{WaitingState}
 use Rattle.replay_laws.specs.forks.ForkWaits.{WaitsSo}
 use Rattle.cluster_core.specs.Families.{family_after}
+use Rattle.cluster_core.specs.Owed.{owed_after}
 use Rattle.cluster_core.specs.ForksAgain.{ForksLeft}
 use Rattle.replay_laws.proofs.forks.EitherWait.{so_alike, so_follows}
 use Rattle.cluster_core.specs.Families.{family_after}
@@ -54,6 +55,7 @@ use Rattle.cluster_core.specs.Queue.{AreTogether, Queued, Nothing, One, posts_of
 use Rattle.cluster_core.specs.Holds.{IsHeldAs, is_fetch_queued, CarriesMarks, MarkedIfThere, unended_process}
 use Rattle.cluster_core.specs.Follows.{IsOpen}
 use Rattle.cluster_core.proofs.births.FamilyNext.{family_next}
+use Rattle.cluster_core.proofs.awaiting.OwedNext.{owed_next}
 use Rattle.cluster_core.proofs.here.Beside.{FollowsBeside, HeldOf, of_them, one_of_them}
 use Rattle.cluster_core.specs.Calls.{with_entry}
 use Rattle.cluster_core.specs.Serving.{Serves}
@@ -113,7 +115,7 @@ pub record BringsNothing (system : System) (log : List Entry) (e : Entry) : Type
 
 -- what the cluster is then
 abbrev pub passed : ClusterView → Entry → ClusterView
-passed c e = record c { cursor = c.cursor + 1; places = placed_after c.places (what e); records = records_after c.number (what e) c.records; family = family_after (what e) c.family; steps = next_count c.steps }
+passed c e = record c { cursor = c.cursor + 1; places = placed_after c.places (what e); records = records_after c.number (what e) c.records; family = family_after (what e) c.family; owed = owed_after c.number c.places (what e) c.owed; steps = next_count c.steps }
 
 module _ (system : System) (valid : is_system system ≡ true) (log : List Entry) (e : Entry) (now : IsOpen MayStand system log) (next : IsOpen MayStand system (log ++ e ∷ [])) (n : BringsNothing system log e) where
   abbrev later : List Entry
@@ -248,6 +250,7 @@ module _ (system : System) (valid : is_system system ≡ true) (log : List Entry
     pages = λ p h at runs. pages_after system log e p c.number valid now.0 stands differ (home_of p h at) (loses_none c.number) (f.pages p h at runs);
     marks = marks;
     family = family_next system log e c.family valid now next f.family;
+    owed = owed_next system log e c.number c.places c.owed valid next (f.log).places (loses_none c.number) f.owed;
     forks = forks;
     records = records;
     accounts = accounts_next system log e c (with_server server (passed c e)) q (foreign_no_answer c.number e foreign) serves refl queue_is queue_is posts_legal f.accounts;

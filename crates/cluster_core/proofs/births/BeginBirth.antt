@@ -92,6 +92,7 @@ module _ (c : ClusterView) (p : Pid) (made : ℕ) (was : Held) (forking : Forkin
     marks = λ q h at all. marks_beside c log p (Runs k.now) [] f marked (λ q h other at m. subst (λ ps. MarkedIfThere CarriesMarks c.system (with_queue c.system log ps) q (unended_process h)) empty m) q h at;
     records = f.records;
     family = f.family;
+    owed = f.owed;
     forks = forks_changed c.family p (Runs k.between) (Runs k.now) c.here runs_there (run_forks k.between k.now) f.forks;
     accounts = record {
       keeps = (f.accounts).keeps;

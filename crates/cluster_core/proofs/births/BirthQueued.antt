@@ -166,6 +166,7 @@ module _ (system : System) (log : List Entry) (c : ClusterView) (b : BearsChild 
       marks = marks;
       records = f.records;
       family = f.family;
+      owed = f.owed;
       forks = f.forks;
       accounts = record { keeps = (f.accounts).keeps; there = (f.accounts).there; calls = λ kept server. subst (λ n. capped n ≤ disk_calls c) (sym calls) ((f.accounts).calls kept server) };
       disk = f.disk;
@@ -194,6 +195,7 @@ module _ (system : System) (log : List Entry) (c : ClusterView) (b : BearsChild 
     marks = marks;
     records = f.records;
     family = f.family;
+    owed = f.owed;
     forks = f.forks;
     accounts = record { keeps = (f.accounts).keeps; there = (f.accounts).there; calls = λ kept server. subst (λ n. capped n ≤ disk_calls c) calls ((f.accounts).calls kept server) };
     disk = f.disk;

@@ -30,6 +30,8 @@ use Rattle.log_laws.specs.records.Kept.{changes_in_place}
 use Rattle.log_laws.proofs.records.KeptLaws.{records_kept}
 use Rattle.log_laws.proofs.records.Standing.{built_stands}
 use Rattle.cluster_core.specs.Families.{family_after}
+use Rattle.cluster_core.specs.Owed.{owed_after}
+use Rattle.cluster_core.proofs.awaiting.OwedNext.{owed_next}
 use Rattle.birth_notice.specs.Family.{stands_in}
 use Rattle.log_laws.proofs.births.NewBirth.{stands_in_none}
 use Rattle.cluster_core.specs.ForksAgain.{ForksLeft}
@@ -142,7 +144,7 @@ module _ (system : System) (valid : is_system system ≡ true) (log : List Entry
 
   -- the cluster with the fork made
   abbrev born_view : ClusterView
-  born_view = record v { cursor = v.cursor + 1; places = placed_after v.places (what e); here = with_born p child v.here; records = records_after v.number (what e) v.records; family = family_after (what e) v.family; queue = []; tried = false; steps = next_count v.steps }
+  born_view = record v { cursor = v.cursor + 1; places = placed_after v.places (what e); here = with_born p child v.here; records = records_after v.number (what e) v.records; family = family_after (what e) v.family; owed = owed_after v.number v.places (what e) v.owed; queue = []; tried = false; steps = next_count v.steps }
 
   same_whole : with_queue system log v.queue ≡ later
   same_whole = ap (with_queue system log) b.posts ∙ ap (λ (x : Entry). log ++ x ∷ []) whole
@@ -180,6 +182,7 @@ module _ (system : System) (valid : is_system system ≡ true) (log : List Entry
     marks = each (λ q h. MarkedIfThere CarriesMarks system later q (unended_process h)) (parent_marked system valid log e v f b whole now next) (child_marked system valid log e v f b whole now next)
         (other_marked system valid log e v f b whole now next);
     family = family_next system log e v.family valid now next g.family;
+    owed = owed_next system log e v.number v.places v.owed valid next (g.log).places (ap (is_crash_of v.number) is) g.owed;
     forks = forks_after;
     records = records_kept system log e v.number v.records valid (built_stands system later next.0) (ap changes_in_place is) g.records;
     accounts = accounts_on system log e v (with_server server born_view) serves refl calls g.accounts;
@@ -197,13 +200,14 @@ module _ (system : System) (valid : is_system system ≡ true) (log : List Entry
         here = with_all_waiting (moved_by v.places v.number w (records_after v.number w v.records)) (here_after w v.here);
         records = left_by v.places v.number w (records_after v.number w v.records);
         family = family_after w v.family;
+        owed = owed_after v.number v.places w v.owed;
         queue = [];
         tried = false;
         steps = next_count v.steps;
       }
 
       made : What → ClusterView
-      made w = record v { cursor = v.cursor + 1; places = placed_after v.places w; here = with_born p child v.here; records = records_after v.number w v.records; family = family_after w v.family; queue = []; tried = false; steps = next_count v.steps }
+      made w = record v { cursor = v.cursor + 1; places = placed_after v.places w; here = with_born p child v.here; records = records_after v.number w v.records; family = family_after w v.family; owed = owed_after v.number v.places w v.owed; queue = []; tried = false; steps = next_count v.steps }
 
 -- a cluster that takes in the birth that it had queued
 pub follows_own_birth : (c : ClusterView) (log : List Entry) (e : Entry) (server : Option PagerState) → is_system c.system ≡ true → AllOwn c.cursor c.here → IsOpen MayStand c.system log → IsOpen MayStand c.system (log ++ e ∷ [])

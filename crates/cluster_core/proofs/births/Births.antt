@@ -41,6 +41,7 @@ use Rattle.cert_sched.specs.Rests.{home_pids}
 use Rattle.cluster_core.specs.Bearing.{with_fork}
 use Rattle.cluster_core.specs.Residents.{pids_in}
 use Rattle.cluster_core.specs.Families.{family_after}
+use Rattle.cluster_core.specs.Owed.{owed_after}
 use Rattle.cluster_core.specs.View.{ClusterView, Held, held_of, next_count, with_server}
 use Rattle.cluster_core.specs.Parts.{AllOwn}
 use Rattle.cluster_core.specs.Recovered.{left_by, moved_by, with_all_waiting}
@@ -71,11 +72,12 @@ birth_taken c e parent at child end is away = ap taken is ∙ ap (λ o. record (
       here = with_all_waiting (moved_by c.places c.number w (records_after c.number w c.records)) (here_after w c.here);
       records = left_by c.places c.number w (records_after c.number w c.records);
       family = family_after w c.family;
+      owed = owed_after c.number c.places w c.owed;
       steps = next_count c.steps;
     }
 
     spared : What → ClusterView
-    spared w = record c { cursor = c.cursor + 1; places = placed_after c.places w; records = records_after c.number w c.records; family = family_after w c.family; steps = next_count c.steps }
+    spared w = record c { cursor = c.cursor + 1; places = placed_after c.places w; records = records_after c.number w c.records; family = family_after w c.family; owed = owed_after c.number c.places w c.owed; steps = next_count c.steps }
 
 module _ (system : System) (valid : is_system system ≡ true) (log : List Entry) (e : Entry) (parent : Pid) (at : ℕ) (child : Pid) (end : ℕ) (is : what e ≡ Birth parent at child end) (now : IsOpen MayStand system log) (next : IsOpen MayStand system (log ++ e ∷ [])) where
   abbrev later : List Entry

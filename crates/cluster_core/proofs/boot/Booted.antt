@@ -1,5 +1,5 @@
 -- What a cluster has at boot is what it holds of the empty log.
-use Rattle.std.proofs.Common.{◌≡◌, ℕ, ◌+◌, ◌*◌, ◌<◌, Bool, true, false, ◌&&◌, cond, eqb, List, [], ◌∷◌, ◌++◌, length, map, refl, sym, ap, subst, ◌∙◌, arith, Some, None, eqb-true, eq-eqb, true≢false, Option, is_some, inl}
+use Rattle.std.proofs.Common.{◌≡◌, ℕ, ◌+◌, ◌*◌, ◌<◌, Bool, true, false, not, ◌&&◌, cond, eqb, List, [], ◌∷◌, ◌++◌, length, map, refl, sym, ap, subst, ◌∙◌, arith, Some, None, eqb-true, eq-eqb, true≢false, Option, is_some, inl}
 use Rattle.std.specs.Prelude.{◌%◌, filter, find, option_map}
 use Rattle.std.specs.List.{count_by, list_any}
 use Rattle.std.specs.FinMap as finmap
@@ -18,10 +18,15 @@ use Rattle.plain_kernel.specs.Maps.{booted_ttys, linked_processes}
 use Rattle.plain_kernel.proofs.Entries.{found_fresh, lookup_state}
 use Rattle.plain_kernel.proofs.Roots.{booted}
 use Rattle.bus_msg.specs.declared.placed.Placed.{Placed}
-use Rattle.bus_msg.specs.Places.{same_pid, is_at_home}
+use Rattle.bus_msg.specs.Places.{same_cluster, same_pid, is_at_home, unended_at}
 use Rattle.cert_sched.specs.Parts.{rising}
 use Rattle.cert_sched.specs.Rests.{home_pids}
-use Rattle.cert_sched.specs.Rules.{has_its_pages}
+use Rattle.cert_sched.specs.Rules.{has_awaited_backup, has_its_pages}
+use Rattle.cert_sched.specs.Moved.{was_moved}
+use Rattle.backup_laws.proofs.Given.{waiting_says}
+use Rattle.t32_base.proofs.Facts.{and_false}
+use Rattle.cluster_core.specs.Owed.{AreOwed, is_owed}
+use Rattle.std.specs.Option.{option_map_or}
 use Rattle.cert_sched.specs.Told.{told}
 use Rattle.cert_sched.specs.Schedule.{next_pid, placed_root, places_at_boot, placement, plain_after, process_after}
 use Rattle.cert_sched.specs.Steps.{silent_upto}
@@ -164,6 +169,7 @@ boot_view system number here recs server failed = record {
   here = here;
   records = recs;
   family = [];
+  owed = [];
   server = server;
   queue = [];
   tried = false;
@@ -214,6 +220,21 @@ limits_at_boot system number here is p h at =
 none_yet : (system : System) → [] ≡ unsynced_births system []
 none_yet system = refl
 
+none_moved : (system : System) (p : Pid) → was_moved system [] p ≡ false
+unfolding told
+none_moved system p = refl
+
+-- and nobody waits for a new backup
+none_waits : (system : System) (number : ClusterNo) → AreOwed system [] number []
+none_waits system number p = sym (by_wait (has_awaited_backup system [] p) refl)
+  where
+    at_home : Bool
+    at_home = option_map_or (λ (q : Placed). same_cluster q.home number) (unended_at (placement system []) p) false
+
+    by_wait : (b : Bool) → has_awaited_backup system [] p ≡ b → is_owed system [] number p ≡ false
+    by_wait true has = ap (λ b. at_home && not b) has ∙ and_false at_home
+    by_wait false waits = absurd (true≢false (sym (waiting_says system [] p waits).moved ∙ none_moved system p))
+
 -- a cluster at boot follows the empty log, where no call of its disk failed
 pub boot_follows : (system : System) (number : ClusterNo) (here : List (Pid × Held)) (recs : List BackRec) (server : Option PagerState) (failed : Option ℕ) → is_system system ≡ true → AreBooted system number here → KeepsRecords system [] number recs
     → is_some server ≡ is_server system number → BeginsToServe system server → (failed ≡ None) × IsAheadThere server → FollowsBuilt system [] (boot_view system number here recs server failed)
@@ -228,6 +249,7 @@ boot_follows system number here recs server failed valid is kept there begins so
   marks = marks_at_boot system number here is valid;
   records = kept;
   family = none_yet system;
+  owed = none_waits system number;
   forks = λ parent child q h at_parent at_child born. absurd (true≢false (sym born));
   accounts = accounts_begin system (boot_view system number here recs server failed) refl there begins;
   disk = sound;

@@ -1,5 +1,5 @@
 -- A cluster that has come back follows the log up to its return: no process is at home in it, and none has its backup there.
-use Rattle.std.proofs.Common.{◌≡◌, ℕ, zero, suc, refl, sym, ◌∙◌, ap, subst, List, [], ◌∷◌, ◌++◌, length, map, Bool, true, false, not, ◌||◌, eqb, eq-eqb, eqb-true, Option, Some, None, slice_get, true≢false, inl}
+use Rattle.std.proofs.Common.{◌≡◌, ℕ, zero, suc, refl, sym, ◌∙◌, ap, subst, List, [], ◌∷◌, ◌++◌, length, map, Bool, true, false, not, ◌&&◌, ◌||◌, eqb, eq-eqb, eqb-true, Option, Some, None, slice_get, true≢false, inl}
 use Rattle.std.specs.Option.{option_map_or}
 use Rattle.std.specs.List.{list_any, range_with_len}
 use Rattle.std.proofs.lemmas.List.Folds.{list_any-append}
@@ -12,7 +12,7 @@ use Rattle.bus_msg.specs.declared.entry.What.{What}
 use Rattle.bus_msg.specs.declared.entry.What.TheVariants.{Birth, Crash, Return}
 use Rattle.bus_msg.specs.declared.entry.Entry.{Entry}
 use Rattle.bus_msg.specs.declared.placed.Placed.{Placed}
-use Rattle.bus_msg.specs.Places.{ClusterPlace, Places, boot_cluster, is_lost_in, placed_at}
+use Rattle.bus_msg.specs.Places.{ClusterPlace, Places, boot_cluster, is_lost_in, placed_at, same_cluster, unended_at}
 use Rattle.bus_msg.specs.PlacedAfter.{changed_at, placed_after, returned_cluster, what}
 use Rattle.cert_sched.specs.Losses.{is_crash_of, was_lost_in}
 use Rattle.cert_sched.specs.Kinds.{KindHolds}
@@ -28,6 +28,8 @@ use Rattle.cert_sched.proofs.RollLaws.{all_roll, two_apart}
 use Rattle.log_laws.proofs.letters.LogReads.{itself}
 use Rattle.log_laws.specs.births.Unsynced.{unsynced_births}
 use Rattle.backup_laws.proofs.ReturnedEmpty.{returned_home, returned_records}
+use Rattle.cert_sched.specs.Rules.{has_awaited_backup}
+use Rattle.cluster_core.specs.Owed.{AreOwed, is_owed}
 use Rattle.cluster_core.specs.Follows.{FollowsBuilt}
 use Rattle.cluster_core.specs.Queue.{Nothing}
 use Rattle.cluster_core.specs.Returned.{returned}
@@ -107,6 +109,16 @@ none_home system log e k valid legal is = by_pids (home_pids system (log ++ e �
         home_here (placement system (log ++ e ∷ [])) k (n ∷ ns) p (differ_of _ (two_apart system (log ++ e ∷ []) (all_roll Stands itself system (log ++ e ∷ []) valid legal))) (ap rising (sym same)) (ap (λ b. b || list_any (λ m. eqb m n) ns) (eq-eqb n n refl)) in
         absurd (true≢false (sym there.home ∙ returned_home system log e k valid legal is p there.placed there.found))
 
+-- so nobody waits there for a new backup
+none_owed : (system : System) (log : List Entry) (e : Entry) (k : ClusterNo) → is_system system ≡ true → IsLegalBy Stands system (log ++ e ∷ []) → what e ≡ Return k → AreOwed system (log ++ e ∷ []) k []
+none_owed system log e k valid legal is p = sym (by_found (unended_at (placement system (log ++ e ∷ [])) p) refl)
+  where
+    by_found : (o : Option Placed) → unended_at (placement system (log ++ e ∷ [])) p ≡ o → is_owed system (log ++ e ∷ []) k p ≡ false
+    by_found None found = ap (λ o. option_map_or (λ (q : Placed). same_cluster q.home k) o false && not (has_awaited_backup system (log ++ e ∷ []) p)) found
+    by_found (Some q) found =
+        ap (λ o. option_map_or (λ (q : Placed). same_cluster q.home k) o false && not (has_awaited_backup system (log ++ e ∷ []) p)) found
+        ∙ ap (λ b. b && not (has_awaited_backup system (log ++ e ∷ []) p)) (returned_home system log e k valid legal is p q found)
+
 -- ---- it follows the log
 
 lost : (system : System) (log : List Entry) (e : Entry) (k : ClusterNo) → IsLegalBy Stands system (log ++ e ∷ []) → what e ≡ Return k → was_lost_in (log ++ e ∷ []) k ≡ true
@@ -127,6 +139,7 @@ returned_follows system log e k steps valid legal is = record {
   marks = λ p h there. cc;
   records = returned_records system log e k valid legal is;
   family = refl;
+  owed = none_owed system log e k valid legal is;
   forks = λ parent child q h there here born. cc;
   accounts = record { keeps = tt; there = λ stays serves. absurd (true≢false (sym (lost system log e k legal is) ∙ stays)); calls = λ stays serves. absurd (true≢false (sym (lost system log e k legal is) ∙ stays)) };
   disk = (refl, tt);

@@ -130,6 +130,7 @@ empty_view system n log = record {
   here = [];
   records = [];
   family = [];
+  owed = [];
   server = None;
   queue = [];
   tried = false;

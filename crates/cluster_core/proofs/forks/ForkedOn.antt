@@ -153,6 +153,7 @@ forks_again_follows c log p process counts child births valid empty go f there f
   marks = marks_forked c log p process counts child births valid empty go f there forks;
   records = f.records;
   family = f.family;
+  owed = f.owed;
   forks = family_forked c log p process counts child births valid empty go f there forks;
   accounts = record { keeps = (f.accounts).keeps; there = (f.accounts).there; calls = (f.accounts).calls };
   disk = f.disk;

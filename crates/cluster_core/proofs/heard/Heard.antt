@@ -48,7 +48,7 @@ use Rattle.log_laws.proofs.births.NewBirth.{birth_last, stands_in_none}
 use Rattle.cluster_core.proofs.absorbing.Absorbed.{absorbs, ready_own}
 use Rattle.cluster_core.proofs.absorbing.Counted.{capped_next, count_by-snoc, lost_before}
 use Rattle.cluster_core.proofs.losses.FirstServer.{changed_other, lost_other, same_pager}
-use Rattle.cluster_core.proofs.absorbing.KnownPlaces.{known_after, left_alike, moved_alike, concerns_alike, queues_alike}
+use Rattle.cluster_core.proofs.absorbing.KnownPlaces.{concerns_alike, known_after, left_alike, moved_alike, owed_alike, queues_alike}
 use Rattle.cluster_core.proofs.losses.OwningWaits.{owns_waiting}
 use Rattle.cluster_core.proofs.heard.PassedOver.{own_upto}
 use Rattle.cluster_core.proofs.heard.Shadow.{alike, queued_back, shadow, shadow_follows}
@@ -185,8 +185,11 @@ module _ (c : ClusterView) (log : List Entry) (e : Entry) (server : Option Pager
   queue_is : taken.queue ≡ heard.queue
   queue_is = sym (queues_alike c.system k c.places places (what e) c.queue (f.log).places)
 
+  owed_are : taken.owed ≡ heard.owed
+  owed_are = sym (owed_alike c.system k c.places places (what e) c.owed may.built unrenewed (f.log).places)
+
   as_heard : taken ≡ alike heard taken.cursor taken.places taken.family taken.steps
-  as_heard = λ i. record heard { cursor = taken.cursor; places = taken.places; here = here_is i; records = recs_are i; family = taken.family; queue = queue_is i; steps = taken.steps }
+  as_heard = λ i. record heard { cursor = taken.cursor; places = taken.places; here = here_is i; records = recs_are i; family = taken.family; owed = owed_are i; queue = queue_is i; steps = taken.steps }
 
   still : FollowsBuilt c.system later (alike heard taken.cursor taken.places taken.family taken.steps)
   still = subst (FollowsBuilt c.system later) as_heard goes_on
@@ -401,6 +404,7 @@ module _ (c : ClusterView) (log : List Entry) (e : Entry) (server : Option Pager
     marks = still.marks;
     records = still.records;
     family = family_kept (what e) refl spared;
+    owed = still.owed;
     forks = λ parent child q h at beside any.
         still.forks parent child q h at beside
         (ap (list_any (λ (b : Pid × Pid). same_pid b.0 parent && same_pid b.1 child)) still.family

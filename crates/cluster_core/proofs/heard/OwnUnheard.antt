@@ -37,7 +37,7 @@ use Rattle.cluster_core.proofs.here.Here.{pid_same}
 use Rattle.cluster_core.proofs.losses.Homes.{HomeHere}
 use Rattle.cluster_core.proofs.absorbing.KnownPlaces.{known_after}
 use Rattle.cluster_core.proofs.absorbing.Noting.{noted_next}
-use Rattle.cluster_core.proofs.heard.PassedOver.{all_left, at_later, births_left, built, dropped, elsewhere, home_of_it, none_come, none_moved, of_it, own_upto, same_clusters, same_pager, serves, without_last}
+use Rattle.cluster_core.proofs.heard.PassedOver.{all_left, at_later, births_left, built, dropped, elsewhere, home_of_it, none_come, none_moved, of_it, own_upto, same_clusters, same_pager, serves, without_last, owed_stays}
 use Rattle.cluster_core.proofs.heard.Shadow.{alike, queued_back, shadow}
 use Rattle.cluster_core.proofs.heard.Unheard.{page_goes}
 
@@ -120,6 +120,7 @@ module _ (c : ClusterView) (log : List Entry) (e : Entry) (valid : is_system c.s
     here = ((λ j. with_all_waiting (none_moved c log e valid now next away f (records_after c.number (what e) c.records) j) (here_after (what e) c.here)) ∙ here_stays) i;
     records = (all_left c log e valid now next away f (records_after c.number (what e) c.records) ∙ recs_stay) i;
     family = taken.family;
+    owed = owed_stays c log e valid now next away f c.owed i;
     steps = taken.steps;
   }
 
@@ -185,6 +186,7 @@ module _ (c : ClusterView) (log : List Entry) (e : Entry) (valid : is_system c.s
     marks = still.marks;
     records = still.records;
     family = known_births;
+    owed = still.owed;
     forks = λ parent child q h at beside any. f.forks parent child q h at beside (fewer parent child any);
     accounts = record { keeps = (still.accounts).keeps; there = (still.accounts).there; calls = (still.accounts).calls };
     server = λ some.

@@ -35,6 +35,7 @@ use Rattle.cluster_core.specs.Absorbing.{goes_to}
 use Rattle.cluster_core.specs.Calls.{ReadyFor, with_entry, here_after, with_page_come}
 use Rattle.cluster_core.specs.Follows.{FollowsBuilt, IsOpen}
 use Rattle.cluster_core.specs.Hearing.{FollowsHeard, KnowsEach, KnowsPlaces, concerns, heard_in}
+use Rattle.cluster_core.specs.Owed.{owed_after}
 use Rattle.cluster_core.specs.Parts.{AllOwn, IsHeldOwn}
 use Rattle.cluster_core.specs.Recovered.{left_by, moved_by, with_all_waiting}
 use Rattle.cluster_core.specs.Residents.{pids_in}
@@ -135,6 +136,9 @@ module _ (c : ClusterView) (log : List Entry) (e : Entry) (valid : is_system c.s
 
   pub all_left : (recs : List BackRec) → left_by places k (what e) recs ≡ recs
   all_left recs = of_it (λ w. left_by places k w recs ≡ recs) (λ at letter. refl) (λ pid at index bytes. refl) (λ pid small read took. refl) (λ pid index. refl) (λ pid index bytes. refl)
+
+  pub owed_stays : (owed : List ℕ) → owed_after k places (what e) owed ≡ owed
+  owed_stays owed = of_it (λ w. owed_after k places w owed ≡ owed) (λ at letter. refl) (λ pid at index bytes. refl) (λ pid small read took. refl) (λ pid index. refl) (λ pid index bytes. refl)
 
   -- ---- the placement
 
@@ -321,7 +325,7 @@ module _ (c : ClusterView) (log : List Entry) (e : Entry) (valid : is_system c.s
     recs_are = all_left (records_after c.number (what e) c.records) ∙ recs_stay
 
     as_before : taken ≡ alike c taken.cursor taken.places taken.family taken.steps
-    as_before = λ i. record c { cursor = taken.cursor; places = taken.places; here = here_is i; records = recs_are i; family = taken.family; steps = taken.steps }
+    as_before = λ i. record c { cursor = taken.cursor; places = taken.places; here = here_is i; records = recs_are i; family = taken.family; owed = owed_stays c.owed i; steps = taken.steps }
 
     still : FollowsBuilt c.system later (alike c taken.cursor taken.places taken.family taken.steps)
     still = subst (FollowsBuilt c.system later) as_before goes_on
@@ -351,6 +355,7 @@ module _ (c : ClusterView) (log : List Entry) (e : Entry) (valid : is_system c.s
       marks = still.marks;
       records = still.records;
       family = f.family ∙ births_stay;
+      owed = still.owed;
       forks = f.forks;
       accounts = record { keeps = (still.accounts).keeps; there = (still.accounts).there; calls = (still.accounts).calls };
       server = λ some.

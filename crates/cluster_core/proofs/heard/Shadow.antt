@@ -96,6 +96,7 @@ shadow_follows c log valid legal f = record {
   marks = f.marks;
   records = f.records;
   family = refl;
+  owed = f.owed;
   forks = λ parent child q h there beside any.
       let home = home_here (placement c.system log) c.number (pids_in c.here) child (differ_built c.system log valid legal) (f.processes).each_once (is_among c.here child h beside) in
       f.forks parent child q h there beside (ap (list_any (bears_by parent child)) f.family ∙ born_here (placement c.system log) c.number parent child (unsynced_births c.system log) home any);

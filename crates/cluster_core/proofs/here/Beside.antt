@@ -14,6 +14,7 @@ use Rattle.cluster_core.specs.View.{ClusterView, Held, Runs, Waits, held_at}
 use Rattle.cluster_core.specs.Queue.{IsQueued, with_queue}
 use Rattle.cluster_core.specs.Holds.{CarriesMarks, HasNotFailed, HoldsAccounts, HoldsLimits, HoldsLog, HoldsPages, HoldsQueue, HoldsRecords, HoldsSteps, IsHeldAs, MarkedIfThere, unended_process}
 use Rattle.cluster_core.specs.Families.{HoldsFamily}
+use Rattle.cluster_core.specs.Owed.{HoldsOwed}
 use Rattle.cluster_core.specs.ForksAgain.{HoldsForks}
 use Rattle.cluster_core.specs.Follows.{FollowsBuilt}
 
@@ -68,6 +69,7 @@ pub record FollowsBeside (which : Pid → Bool) (system : System) (entries : Lis
   pub marks : HoldsMarksOf which system entries c
   pub records : HoldsRecords system entries c
   pub family : HoldsFamily system entries c
+  pub owed : HoldsOwed system entries c
   pub forks : HoldsForks c
   pub accounts : HoldsAccounts system entries c
   pub disk : HasNotFailed c
@@ -89,6 +91,7 @@ beside_of system log c f queued = record {
   marks = λ p h there all. f.marks p h there;
   records = f.records;
   family = f.family;
+  owed = f.owed;
   forks = f.forks;
   accounts = f.accounts;
   disk = f.disk;
@@ -106,6 +109,7 @@ built_of system log c f = record {
   marks = λ p h there. f.marks p h there refl;
   records = f.records;
   family = f.family;
+  owed = f.owed;
   forks = f.forks;
   accounts = f.accounts;
   disk = f.disk;

@@ -49,6 +49,8 @@ use Rattle.replay_laws.proofs.forks.Begins.{state_none}
 use Rattle.replay_laws.proofs.rolling.ByRule.{built_stands as standing}
 use Rattle.log_laws.specs.births.Unsynced.{unsynced_births}
 use Rattle.cluster_core.specs.Families.{family_after}
+use Rattle.cluster_core.specs.Owed.{AreOwed, owed_after}
+use Rattle.cluster_core.proofs.awaiting.OwedNext.{owed_next}
 use Rattle.cluster_core.proofs.births.FamilyNext.{family_next}
 use Rattle.cluster_core.specs.View.{ClusterView, Held, Runs, Rolls, Waits, held_of, is_waiting, next_count, with_server, IsHeldWithin, limits_of}
 use Rattle.cluster_core.specs.Residents.{pids_in}
@@ -355,6 +357,8 @@ module _ (system : System) (valid : is_system system ≡ true) (log : List Entry
     marks = marks;
     records = subst (λ k. KeepsRecords system later k (filter (stays places lost k) c.records)) (sym number_is) (loss_kept system log e lost k cause c.records valid (built_stands system later n.more) n.same apart keeps);
     family = subst (λ w. family_after w c.family ≡ unsynced_births system later) n.same (family_next system log e c.family valid (n.legal, n.before) (n.more, n.goes_on) f.family);
+    owed = subst (λ w. AreOwed system later c.number (owed_after c.number places w c.owed)) n.same
+        (owed_next system log e c.number places c.owed valid (n.more, n.goes_on) refl (ap (λ j. is_crash_of j (what e)) number_is ∙ ap (is_crash_of k) n.same ∙ apart) f.owed);
     forks = forks;
     accounts =
         accounts_next system log e c (with_server server after) q (foreign_no_answer c.number e (ap (λ k. is_by_cluster k e) number_is ∙ foreign)) serves refl queue_is queue_is posts_legal f.accounts;
@@ -390,7 +394,7 @@ module _ (system : System) (valid : is_system system ≡ true) (log : List Entry
 
       -- what the cluster is after it
       after : ClusterView
-      after = record c { cursor = c.cursor + 1; places = placed_after places (Crash lost cause); here = with_all_waiting moved c.here; records = filter (stays places lost c.number) c.records; steps = next_count c.steps }
+      after = record c { cursor = c.cursor + 1; places = placed_after places (Crash lost cause); here = with_all_waiting moved c.here; records = filter (stays places lost c.number) c.records; owed = owed_after c.number places (Crash lost cause) c.owed; steps = next_count c.steps }
 
       whole : with_entry c e ≡ after
       whole =
@@ -400,6 +404,7 @@ module _ (system : System) (valid : is_system system ≡ true) (log : List Entry
             here = with_all_waiting (moved_by (places_is i) c.number (n.same i) (records_after c.number (n.same i) c.records)) (here_after (n.same i) c.here);
             records = left_by (places_is i) c.number (n.same i) (records_after c.number (n.same i) c.records);
             family = family_after (n.same i) c.family;
+            owed = owed_after c.number (places_is i) (n.same i) c.owed;
             steps = next_count c.steps;
           })
           ∙ (λ i. record c {
@@ -407,6 +412,7 @@ module _ (system : System) (valid : is_system system ≡ true) (log : List Entry
             places = placed_after places (Crash lost cause);
             here = with_all_waiting (filter (moves_here places lost (number_is i)) c.records) c.here;
             records = filter (stays places lost c.number) c.records;
+            owed = owed_after c.number places (Crash lost cause) c.owed;
             steps = next_count c.steps;
           })
         where

@@ -125,6 +125,7 @@ module _ (c : ClusterView) (served : Option PagerState) (post : Post) (owed : ow
         (f.marks q h there);
     records = f.records;
     family = f.family;
+    owed = f.owed;
     forks = f.forks;
     accounts = accounts_answered c.system log c (answered_view c served post) post a refl empty refl f.accounts;
     disk = ((f.disk).0, ahead_answered c.number c.server served post a (f.disk).1);

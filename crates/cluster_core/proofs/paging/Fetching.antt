@@ -117,6 +117,7 @@ module _ (c : ClusterView) (p : Pid) (index : ℕ) (waiting : WaitingState) (emp
           (λ q h other at. marks_queued c log (fetch_post c.number p index) valid empty go f refl (eq-eqb (c.number).0 (c.number).0 refl) fetch_follows q h at (others log q h other ((f.processes).held q h at)));
       records = f.records;
       family = f.family;
+      owed = f.owed;
       forks = forks_changed c.family p (Waits waiting) asked c.here there (asked_forks (Waits waiting)) f.forks;
       accounts = accounts_queued c.system log c (record c { here = with_changed p asked c.here; queue = fetch_post c.number p index ∷ []; steps = next_count c.steps }) (fetch_post c.number p index) refl refl empty refl refl f.accounts;
       disk = f.disk;

@@ -32,6 +32,8 @@ use Rattle.replay_laws.specs.rolling.Behind.{RollsBehind}
 use Rattle.replay_laws.proofs.rolling.KeepingBehind.{behind_standing}
 use Rattle.replay_laws.proofs.rolling.ByRule.{built_stands as standing}
 use Rattle.cluster_core.specs.Families.{family_after}
+use Rattle.cluster_core.specs.Owed.{HoldsOwed, owed_after}
+use Rattle.cluster_core.proofs.awaiting.OwedNext.{owed_next}
 use Rattle.cluster_core.specs.View.{page_held, ClusterView, Held, Runs, Rolls, Waits, next_count, with_server, held_of, IsHeldWithin, limits_of, rolling_held}
 use Rattle.cluster_core.specs.Residents.{pids_in}
 use Rattle.cluster_core.specs.Queue.{AreTogether, Queued, Nothing, One, posts_of, IsQueueLegal, move_of, state_by, state_now, with_queue}
@@ -115,7 +117,7 @@ pids_paged w here = by_page (λ w. pids_in (here_after w here) ≡ pids_in here)
 
 -- what the cluster is then
 abbrev pub paged : ClusterView → Entry → ClusterView
-paged c e = record c { cursor = c.cursor + 1; places = placed_after c.places (what e); here = here_after (what e) c.here; family = family_after (what e) c.family; steps = next_count c.steps }
+paged c e = record c { cursor = c.cursor + 1; places = placed_after c.places (what e); here = here_after (what e) c.here; family = family_after (what e) c.family; owed = owed_after c.number c.places (what e) c.owed; steps = next_count c.steps }
 
 pub page_taken : (c : ClusterView) (e : Entry) → is_of_page (what e) ≡ true → with_entry c e ≡ paged c e
 page_taken c e =
@@ -125,8 +127,9 @@ page_taken c e =
       here = with_all_waiting (moved_by c.places c.number w (records_after c.number w c.records)) (here_after w c.here);
       records = left_by c.places c.number w (records_after c.number w c.records);
       family = family_after w c.family;
+      owed = owed_after c.number c.places w c.owed;
       steps = next_count c.steps;
-    } ≡ record c { cursor = c.cursor + 1; places = placed_after c.places w; here = here_after w c.here; family = family_after w c.family; steps = next_count c.steps }) (λ pid index. refl) (λ pid index bytes. refl) (what e)
+    } ≡ record c { cursor = c.cursor + 1; places = placed_after c.places w; here = here_after w c.here; family = family_after w c.family; owed = owed_after c.number c.places w c.owed; steps = next_count c.steps }) (λ pid index. refl) (λ pid index bytes. refl) (what e)
 
 module _ (system : System) (valid : is_system system ≡ true) (log : List Entry) (e : Entry) (of : is_of_page (what e) ≡ true) (now : IsOpen MayStand system log) (next : IsOpen MayStand system (log ++ e ∷ [])) where
   abbrev later : List Entry
@@ -355,6 +358,7 @@ module _ (system : System) (valid : is_system system ≡ true) (log : List Entry
     pages = pages;
     marks = marks;
     family = family_next system log e c.family valid now next f.family;
+    owed = owed_next system log e c.number c.places c.owed valid next (f.log).places (loses_none c.number) f.owed;
     forks = forks_paged system valid log e now.0 next.0 of c.queue c.family c.here f.family (λ p h there. waits_as which system log c.queue p h ((f.processes).held p h there)) f.forks;
     records = records_stay c.number c.records f.records;
     accounts = accounts_next system log e c (with_server server (paged c e)) q (foreign_no_answer c.number e foreign) serves refl queue_is queue_is posts_legal f.accounts;
@@ -426,6 +430,7 @@ module _ (system : System) (valid : is_system system ≡ true) (log : List Entry
     pages = pages;
     marks = λ p h at. subst (λ ps. MarkedIfThere CarriesMarks system (with_queue system later ps) p (unended_process h)) (sym empty) (marks p h at);
     family = family_next system log e c.family valid now next (ap (λ (d : ClusterView). d.family) l.same ∙ f.family);
+    owed = owed_next system log e c.number c.places c.owed valid next (ap (λ (d : ClusterView). d.places) l.same ∙ (f.log).places) (loses_none c.number) (subst (HoldsOwed system log) (sym l.same) f.owed);
     forks = forks_paged system valid log e now.0 next.0 of (e.post ∷ []) c.family c.here (ap (λ (d : ClusterView). d.family) l.same ∙ f.family) (λ p h there. told_waits system log (e.post ∷ []) p h (was_held p h there)) (subst HoldsForks (sym l.same) f.forks);
     records = records_stay c.number c.records (subst (λ recs. KeepsRecords system log c.number recs) (sym (ap (λ (d : ClusterView). d.records) l.same)) (subst (λ k. KeepsRecords system log k (l.before).records) number f.records));
     accounts =

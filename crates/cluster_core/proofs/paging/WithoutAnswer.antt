@@ -45,6 +45,7 @@ module _ (system : System) (log : List Entry) (c : ClusterView) (post : Post) (p
     marks = λ q h there all. marks q h there;
     records = f.records;
     family = f.family;
+    owed = f.owed;
     forks = f.forks;
     accounts = record { keeps = (f.accounts).keeps; there = (f.accounts).there; calls = λ kept server. calls ((f.accounts).calls kept server) };
     disk = f.disk;

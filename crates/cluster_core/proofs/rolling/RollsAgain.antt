@@ -36,6 +36,7 @@ rolls_again_follows c log p n was now valid empty go f there some rolls = record
   marks = marks_beside c log p now c.queue f (subst (λ ps. MarkedIfThere CarriesMarks c.system (with_queue c.system log ps) p (unended_process now)) (sym empty) (marked_between c p was empty there valid log go f n now rolls)) (λ q h other held m. m);
   records = f.records;
   family = f.family;
+  owed = f.owed;
   forks = forks_changed c.family p was now c.here there (rolled_forks n was now rolls) f.forks;
   accounts = record { keeps = (f.accounts).keeps; there = (f.accounts).there; calls = (f.accounts).calls };
   disk = f.disk;

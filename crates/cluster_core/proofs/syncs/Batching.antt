@@ -112,6 +112,7 @@ module _ (system : System) (log : List Entry) (c : ClusterView) (y : Synchronise
     marks = marks;
     records = f.records;
     family = f.family;
+    owed = f.owed;
     forks = f.forks;
     accounts = record { keeps = (f.accounts).keeps; there = (f.accounts).there; calls = λ kept server. subst (λ n. capped n ≤ disk_calls c) calls ((f.accounts).calls kept server) };
     disk = f.disk;
@@ -167,6 +168,7 @@ module _ (system : System) (log : List Entry) (c : ClusterView) (y : Synchronise
     marks = marks;
     records = f.records;
     family = f.family;
+    owed = f.owed;
     forks = f.forks;
     accounts = record { keeps = (f.accounts).keeps; there = (f.accounts).there; calls = λ kept server. subst (λ n. capped n ≤ disk_calls c) (sym calls) ((f.accounts).calls kept server) };
     disk = f.disk;

@@ -175,6 +175,7 @@ module _ (c : ClusterView) (p : Pid) (process : Process) (valid : is_system c.sy
     marks = others_marked;
     records = f.records;
     family = f.family;
+    owed = f.owed;
     forks = forks_changed c.family p (Runs process) (Runs (synced process)) c.here there (record { waits = refl; bears = λ child. refl }) f.forks;
     accounts = record {
       keeps = (f.accounts).keeps;

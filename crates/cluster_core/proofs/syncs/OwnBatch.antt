@@ -39,6 +39,7 @@ use Rattle.cluster_core.specs.Follows.{FollowsBuilt, IsOpen, StandsBetween}
 use Rattle.cluster_core.specs.Calls.{with_entry}
 use Rattle.cluster_core.specs.Serving.{Serves}
 use Rattle.cluster_core.proofs.births.FamilyNext.{family_next}
+use Rattle.cluster_core.proofs.awaiting.OwedNext.{owed_next}
 use Rattle.cluster_core.proofs.syncs.BatchPosts.{batch_fetches_none, batch_moves, batch_moves_other}
 use Rattle.cluster_core.proofs.absorbing.ByKind.{by_sync, is_of_sync}
 use Rattle.cluster_core.proofs.absorbing.Counted.{count_by-snoc, lost_before}
@@ -156,6 +157,7 @@ module _ (system : System) (valid : is_system system ≡ true) (log : List Entry
     pages = λ q h at runs. pages_after system log e q b.number valid now.0 (stands system valid log e of now next) (differ system valid log e of now next) (home q h at) (loses_none system valid log e of now next b.number) (f.pages q h at runs);
     marks = λ q h at. subst (λ whole. MarkedIfThere CarriesMarks system whole q (unended_process h)) same_whole (f.marks q h at);
     family = family_next system log e b.family valid now next f.family;
+    owed = owed_next system log e b.number b.places b.owed valid next (f.log).places (loses_none system valid log e of now next b.number) f.owed;
     forks = forks_synced (what e) b.family b.here of f.forks;
     records = records_stay system valid log e of now next b.number b.records f.records;
     accounts = accounts_on system log e b (with_server server (passed (left b rest) e)) serves refl calls f.accounts;

@@ -41,6 +41,7 @@ use Rattle.log_laws.proofs.records.Standing.{built_stands}
 use Rattle.page_server.specs.Account.{PagerState}
 use Rattle.page_waits.specs.Waiting.{WaitingState}
 use Rattle.cluster_core.specs.Families.{family_after}
+use Rattle.cluster_core.specs.Owed.{owed_after}
 use Rattle.cluster_core.specs.View.{ClusterView, Held, Waits, next_count, with_server}
 use Rattle.cluster_core.specs.Parts.{AllOwn}
 use Rattle.cluster_core.specs.Queue.{AreTogether, Queued, posts_of, is_lone}
@@ -70,8 +71,9 @@ sync_taken c e =
       here = with_all_waiting (moved_by c.places c.number w (records_after c.number w c.records)) (here_after w c.here);
       records = left_by c.places c.number w (records_after c.number w c.records);
       family = family_after w c.family;
+      owed = owed_after c.number c.places w c.owed;
       steps = next_count c.steps;
-    } ≡ record c { cursor = c.cursor + 1; places = placed_after c.places w; records = records_after c.number w c.records; family = family_after w c.family; steps = next_count c.steps }) (λ pid at index bytes. refl) (λ pid small read took. refl) (what e)
+    } ≡ record c { cursor = c.cursor + 1; places = placed_after c.places w; records = records_after c.number w c.records; family = family_after w c.family; owed = owed_after c.number c.places w c.owed; steps = next_count c.steps }) (λ pid at index bytes. refl) (λ pid small read took. refl) (what e)
 
 module _ (system : System) (valid : is_system system ≡ true) (log : List Entry) (e : Entry) (of : is_of_sync (what e) ≡ true) (now : IsOpen MayStand system log) (next : IsOpen MayStand system (log ++ e ∷ [])) where
   abbrev later : List Entry

@@ -178,6 +178,7 @@ goes_on_rested c log now f = record {
   marks = f.marks;
   records = f.records;
   family = f.family;
+  owed = f.owed;
   forks = f.forks;
   accounts = record { keeps = (f.accounts).keeps; there = (f.accounts).there; calls = (f.accounts).calls };
   disk = f.disk;
@@ -202,6 +203,7 @@ follows_tried c log f = record {
   marks = f.marks;
   records = f.records;
   family = f.family;
+  owed = f.owed;
   forks = f.forks;
   accounts = record { keeps = (f.accounts).keeps; there = (f.accounts).there; calls = (f.accounts).calls };
   disk = f.disk;
@@ -373,6 +375,7 @@ moved_goes_on c p made was new valid empty there moves log go f = record {
   marks = marks_beside c log p new c.queue f (subst (λ ps. MarkedIfThere CarriesMarks c.system (with_queue c.system log ps) p (unended_process new)) (sym empty) (moved_marked c p was empty there valid log go f made new moves)) (λ q h other held m. m);
   records = f.records;
   family = f.family;
+  owed = f.owed;
   forks = forks_changed c.family p was new c.here there (ran_forks moves.silent was new moves.runs) f.forks;
   accounts = record { keeps = (f.accounts).keeps; there = (f.accounts).there; calls = (f.accounts).calls };
   disk = f.disk;
@@ -579,6 +582,7 @@ module _ (c : ClusterView) (p : Pid) (made : ℕ) (was : Held) (sending : Sendin
     marks = marks_beside c log p (Runs s.now) (post ∷ []) f (sent_marked valid has log go f) (others_marked valid has log go f);
     records = f.records;
     family = f.family;
+    owed = f.owed;
     forks = forks_changed c.family p (Runs s.between) (Runs s.now) c.here runs_there (run_forks s.between s.now) f.forks;
     accounts = accounts_queued c.system log c (posted_view c (with_changed p (Runs s.now) c.here) post) post refl refl empty refl no_page f.accounts;
     disk = f.disk;

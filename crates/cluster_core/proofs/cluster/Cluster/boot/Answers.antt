@@ -33,8 +33,8 @@ returns-clause-follows g c unfailed ahead =
     let failed = c.in_ok-parts.parts.failed in
     let begins : BeginsToServe system server = subst (λ s. BeginsToServe s server) c.deref-2.ensures (c.in_ok-parts.ensures.server unfailed) in
     let sound = c.in_ok-parts.ensures.ahead unfailed ahead in
-    let old : ClusterView = record (boot_view system c.args.number here recs server failed) { system = arc_value c.in_ok-clone.field-0; places = c.in_ok-places.places; family = c.none.result; queue = c.new.result.items } in
-    let same : old ≡ boot_view system c.args.number here recs server failed = λ i. record (boot_view system c.args.number here recs server failed) { system = shared i; places = places i; family = c.none.ensures i; queue = c.new.ensures.items i } in
+    let old : ClusterView = record (boot_view system c.args.number here recs server failed) { system = arc_value c.in_ok-clone.field-0; places = c.in_ok-places.places; family = c.none.result; owed = c.none-2.result; queue = c.new.result.items } in
+    let same : old ≡ boot_view system c.args.number here recs server failed = λ i. record (boot_view system c.args.number here recs server failed) { system = shared i; places = places i; family = c.none.ensures i; owed = c.none-2.ensures i; queue = c.new.ensures.items i } in
     subst (FollowsBuilt system []) (sym same) (boot_follows system c.args.number here recs server failed c.requires.valid booted kept (c.in_ok-parts.ensures.there ∙ c.requires.disk) begins (unfailed, sound))
 
 pub invariant_of-result : goal.invariant_of-result

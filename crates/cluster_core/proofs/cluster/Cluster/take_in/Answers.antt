@@ -16,6 +16,7 @@ use Rattle.cluster_core.specs.Parts.{AllOwn}
 use Rattle.cluster_core.specs.Recovered.{CanWait, left_by, moved_by, with_all_waiting}
 use Rattle.cluster_core.specs.Calls.{Absorbs, absorbed, here_after}
 use Rattle.cluster_core.specs.Families.{CanJoin, family_after}
+use Rattle.cluster_core.specs.Owed.{owed_after, settled}
 use Rattle.cluster_core.specs.Queue.{left_queued}
 use Rattle.cluster_core.specs.Absorbing.{CanBeBorn, CanCome, ComesHere, IsNotedHere}
 use Rattle.cluster_core.proofs.absorbing.Arriving.{comes_here}
@@ -158,11 +159,12 @@ returns-clause-follows g c =
     let recs = c.in_ok-take_over.ensures.records ∙ ap (left_by c.self.inside.places c.self.inside.number w) c.in_ok-note.ensures.ok in
     let here = c.in_ok-take_over.ensures.here ∙ (λ i. with_all_waiting (moved_by c.self.inside.places c.self.inside.number w (c.in_ok-note.ensures.ok i)) (c.in_ok-tell.ensures.ok i)) in
     let server = c.serve.new.server in
+    let owed : c.settle.new.self ≡ owed_after c.self.inside.number c.self.inside.places w c.self.inside.owed = c.settle.ensures ∙ (λ i. settled (c.in_ok-absorb.ensures.ok i) w (c.in_ok-wait.ensures i)) in
     let whole : c.count_step.new.self ≡ with_server server (absorbed old e) =
     c.count_step.ensures
-    ∙ ap (λ (v : ClusterView). record v { cursor = v.cursor + 1; places = c.absorb.new.self; here = c.take_over.new.here.here; records = c.take_over.new.records; family = c.join.new.family; server = server; queue = c.drop_fallen.new.queue.items; steps = next_count v.steps }) c.self.view_is
-    ∙ (λ i. record old { cursor = old.cursor + 1; places = c.in_ok-absorb.ensures.ok i; here = here i; records = recs i; family = c.in_ok-join.ensures.ok i; server = server; queue = c.drop_fallen.ensures i; steps = next_count old.steps })
-    ∙ ap (λ (v : ClusterView). record old { cursor = old.cursor + 1; places = placed_after v.places w; here = with_all_waiting (moved_by v.places v.number w (records_after v.number w v.records)) (here_after w v.here); records = left_by v.places v.number w (records_after v.number w v.records); family = family_after w v.family; server = server; queue = left_queued v.places w v.queue; steps = next_count old.steps }) c.self.view_is in
+    ∙ ap (λ (v : ClusterView). record v { cursor = v.cursor + 1; places = c.absorb.new.self; here = c.take_over.new.here.here; records = c.take_over.new.records; family = c.join.new.family; owed = c.settle.new.self; server = server; queue = c.drop_fallen.new.queue.items; steps = next_count v.steps }) c.self.view_is
+    ∙ (λ i. record old { cursor = old.cursor + 1; places = c.in_ok-absorb.ensures.ok i; here = here i; records = recs i; family = c.in_ok-join.ensures.ok i; owed = owed i; server = server; queue = c.drop_fallen.ensures i; steps = next_count old.steps })
+    ∙ ap (λ (v : ClusterView). record old { cursor = old.cursor + 1; places = placed_after v.places w; here = with_all_waiting (moved_by v.places v.number w (records_after v.number w v.records)) (here_after w v.here); records = left_by v.places v.number w (records_after v.number w v.records); family = family_after w v.family; owed = owed_after v.number v.places w v.owed; server = server; queue = left_queued v.places w v.queue; steps = next_count old.steps }) c.self.view_is in
     let valid : is_system old.system ≡ true = subst (λ (v : ClusterView). is_system v.system ≡ true) c.self.view_is c.self.invariant.valid in
     let own = subst (λ (v : ClusterView). AllOwn v.cursor v.here) c.self.view_is c.self.invariant.residents in
     let order : are_rising (moved_by old.places old.number w (records_after old.number w old.records)) ≡ true =

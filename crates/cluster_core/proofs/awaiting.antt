@@ -1,0 +1,5 @@
+pub mod Pids
+pub mod Alone
+pub mod Waiting
+pub mod OwedNext
+pub mod Joined
