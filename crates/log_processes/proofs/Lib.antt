@@ -1,0 +1,5 @@
+pub mod Tells
+pub mod ReadCounts
+pub mod Sent
+pub mod Exiting
+pub mod Mailing

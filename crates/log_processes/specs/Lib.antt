@@ -1,0 +1,4 @@
+pub mod Telling
+pub mod Sending
+pub mod Exits
+pub mod Letters
