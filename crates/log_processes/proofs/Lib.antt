@@ -3,3 +3,4 @@ pub mod ReadCounts
 pub mod Sent
 pub mod Exiting
 pub mod Mailing
+pub mod Beside

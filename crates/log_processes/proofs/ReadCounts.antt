@@ -12,11 +12,10 @@ use Rattle.log_laws.specs.letters.ReadsFrom.{ReadsFrom}
 abbrev has : ℕ → List Arrived → Bool
 has n letters = list_any (λ (a : Arrived). eqb a.number n) letters
 
-numbers_of : List Arrived → List ℕ
+abbrev numbers_of : List Arrived → List ℕ
 numbers_of letters = map (λ (a : Arrived). a.number) letters
 
 -- among the numbers of those that pass stands one that passes and that some letter has
-unfolding numbers_of
 any_passing : (test : ℕ → Bool) (n : ℕ) (letters : List Arrived) → list_any (λ k. eqb k n) (numbers_of (filter (λ (a : Arrived). test a.number) letters)) ≡ (test n && has n letters)
 any_passing test n [] = by_test (test n)
   where
@@ -53,14 +52,13 @@ each_has (a ∷ rest) =
 
 module _ (saved mail : List Arrived) where
   -- its number is in the mailbox no more
-  gone : ℕ → Bool
+  abbrev gone : ℕ → Bool
   gone n = not (list_any (λ (b : Arrived). eqb b.number n) mail)
 
-  read : List ℕ
+  abbrev read : List ℕ
   read = numbers_of (filter (λ (a : Arrived). gone a.number) saved)
 
   -- of letters that are saved each was read or was not
-  unfolding gone read numbers_of
   parted : (letters : List Arrived) → All (λ (a : Arrived). has a.number saved ≡ true) letters → length (unread read letters) + length (filter (λ (a : Arrived). gone a.number) letters) ≡ length letters
   parted [] all = refl
   parted (a ∷ rest) all =
@@ -80,7 +78,6 @@ map_length [] = refl
 map_length (a ∷ rest) = ap suc (map_length rest)
 
 -- as many letters were read as were saved and do not wait
-unfolding gone read numbers_of
 pub reads_left : (saved mail : List Arrived) → ReadsFrom saved mail → length (numbers_read saved mail) ≡ length saved - length mail
 reads_left saved mail from =
     let all = parted saved mail saved (each_has saved) in

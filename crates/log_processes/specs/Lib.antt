@@ -2,3 +2,4 @@ pub mod Telling
 pub mod Sending
 pub mod Exits
 pub mod Letters
+pub mod Arrivals

@@ -31,8 +31,8 @@ pub record AreLimits (limits : Limits) (system : System) : Type 0 where
 -- The process as it stands after a log, its steps where it started, and how many letters it had not read there and came since.
 pub record KeepsProcess (p : Pid) (s : ProcState) (start saved : ℕ) (system : System) (log : List Entry) : Type 0 where
   pub there : process_after system log p ≡ Some s
-  pub start : start ≡ start_steps system log p
-  pub saved : saved ≡ length (saved_of system log p)
+  pub begins : start ≡ start_steps system log p
+  pub letters : saved ≡ length (saved_of system log p)
 
 -- The front is that of a log, the limits are those of the system, and what is kept of a process is what the log says of it.
 pub record KeepsSender (front : FrontState) (limits : Limits) (p : Pid) (s : ProcState) (kept : Sender) (system : System) (log : List Entry) : Type 0 where

@@ -2,6 +2,7 @@
 //! before it, and how each process stands after it.
 #![tactic(auto)]
 
+pub mod arrivals;
 pub mod exits;
 pub mod letters;
 pub mod sender;
