@@ -3,6 +3,7 @@ use Rattle.std.proofs.Common.{◌≡◌, ℕ, ◌-◌, refl, sym, ◌∙◌, ap,
 use Rattle.std.specs.Prelude.{option_map}
 use Rattle.std.specs.Option.{option_map_or}
 use Rattle.std.proofs.lemmas.Bool.{and_parts}
+use Rattle.std.proofs.lemmas.Option.{same_Some}
 use Rattle.t32_base.specs.declared.process.Pid.{Pid}
 use Rattle.t32_base.specs.declared.process.ClusterNo.{ClusterNo}
 use Rattle.t32_base.specs.declared.process.End.{End}
@@ -46,6 +47,9 @@ use Rattle.log_processes.proofs.Tells.{end_is, is_end}
 not_true : (b : Bool) → not b ≡ true → b ≡ false
 not_true true is = absurd (true≢false (sym is))
 not_true false is = refl
+
+sent_one : (a b : End) → Ended a ≡ Ended b → a ≡ b
+sent_one a b is = cc
 
 module _ (front : FrontState) (limits : Limits) (head : Head) (kept : Sender) (s : ProcState) (told : ToldEnd) where
   -- ---- it may stand next
@@ -143,6 +147,7 @@ module _ (front : FrontState) (limits : Limits) (head : Head) (kept : Sender) (s
       by_parts : Passes → ⊥
       by_parts p =
           let both : Some (Ended end, t) ≡ Some (Ended p.end, p.after) = sym sends ∙ p.sends in
-          let ends : end ≡ p.end = cc in
-          let ts : t ≡ p.after = cc in
+          let pairs : (Ended end, t) ≡ (Ended p.end, p.after) = same_Some (Ended end, t) (Ended p.end, p.after) both in
+          let ends : end ≡ p.end = sent_one end p.end (ap (λ (r : Emission × ProcState). r.0) pairs) in
+          let ts : t ≡ p.after = ap (λ (r : Emission × ProcState). r.1) pairs in
           true≢false (sym p.may ∙ (λ i. exit_may limits kept (sym ts i) told (sym ends i)) ∙ refused)

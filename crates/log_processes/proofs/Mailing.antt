@@ -3,6 +3,7 @@ use Rattle.std.proofs.Common.{◌≡◌, ℕ, ◌-◌, refl, sym, ◌∙◌, ap,
 use Rattle.std.specs.Prelude.{option_map}
 use Rattle.std.specs.Option.{option_map_or}
 use Rattle.std.proofs.lemmas.Bool.{and_parts}
+use Rattle.std.proofs.lemmas.Option.{same_Some}
 use Rattle.t32_base.specs.declared.process.Pid.{Pid}
 use Rattle.t32_base.specs.declared.process.ClusterNo.{ClusterNo}
 use Rattle.t32_base.specs.declared.letter.Letter.{Letter}
@@ -41,6 +42,9 @@ use Rattle.log_processes.specs.Sending.{KeepsSender, Leads, home_may, is_within,
 use Rattle.log_processes.specs.Telling.{is_letter_told}
 use Rattle.log_processes.proofs.Sent.{home_there, limits_then, may_send, sent_then, told_limits}
 use Rattle.log_processes.proofs.Tells.{is_letter, letter_is}
+
+sent_one : (a b : Letter) → Sent a ≡ Sent b → a ≡ b
+sent_one a b is = cc
 
 module _ (front : FrontState) (limits : Limits) (head : Head) (kept : Sender) (s : ProcState) (told : ToldLetter) where
   -- ---- it may stand next
@@ -148,6 +152,7 @@ module _ (front : FrontState) (limits : Limits) (head : Head) (kept : Sender) (s
       by_parts : Passes → ⊥
       by_parts p =
           let both : Some (Sent letter, t) ≡ Some (Sent p.letter, p.after) = sym sends ∙ p.sends in
-          let letters : letter ≡ p.letter = cc in
-          let ts : t ≡ p.after = cc in
+          let pairs : (Sent letter, t) ≡ (Sent p.letter, p.after) = same_Some (Sent letter, t) (Sent p.letter, p.after) both in
+          let letters : letter ≡ p.letter = sent_one letter p.letter (ap (λ (r : Emission × ProcState). r.0) pairs) in
+          let ts : t ≡ p.after = ap (λ (r : Emission × ProcState). r.1) pairs in
           true≢false (sym p.may ∙ (λ i. letter_may limits kept (sym ts i) told (sym letters i)) ∙ refused)

@@ -116,8 +116,8 @@ pub limits_then : (system : System) (log : List Entry) (front : FrontState) (lim
     → KeepsSender front limits p s kept system log → emission_at system log p at ≡ Some (m, t) → keeps_limits system log p t ≡ is_within limits kept t
 limits_then system log front limits p s kept at m t valid legal keeps sends =
     let reads = reads_then system log p at m t valid legal sends in
-    λ i. leb ((t.small).steps - sym (keeps.process).begins i) (sym (keeps.limits).steps i)
-    && leb ((reads ∙ ap (λ n. n - length t.mail) (sym (keeps.process).letters)) i) (sym (keeps.limits).reads i)
+    λ i. leb ((t.small).steps - sym (keeps.process).begins i) (sym (keeps.limited).steps i)
+    && leb ((reads ∙ ap (λ n. n - length t.mail) (sym (keeps.process).letters)) i) (sym (keeps.limited).reads i)
 
 -- and the limits of an entry that tells of it
 pub told_limits : (system : System) (log : List Entry) (p : Pid) (at : ℕ) (m : Emission) (t : ProcState) → emission_at system log p at ≡ Some (m, t)

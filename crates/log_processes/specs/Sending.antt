@@ -37,7 +37,7 @@ pub record KeepsProcess (p : Pid) (s : ProcState) (start saved : ℕ) (system : 
 -- The front is that of a log, the limits are those of the system, and what is kept of a process is what the log says of it.
 pub record KeepsSender (front : FrontState) (limits : Limits) (p : Pid) (s : ProcState) (kept : Sender) (system : System) (log : List Entry) : Type 0 where
   pub before : IsFrontOf system log front
-  pub limits : AreLimits limits system
+  pub limited : AreLimits limits system
   pub process : KeepsProcess p s kept.start kept.saved system log
   pub whole : kept.whole ≡ has_its_pages system log p
   pub parent : kept.parent ≡ has_unsynced_child system log p

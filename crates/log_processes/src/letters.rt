@@ -5,7 +5,7 @@ ghost use Rattle.proc_state.specs.State.{state_of};
 ghost use Rattle.log_processes.specs.Letters.{AnswersLetter, Writes, letter_may};
 ghost use Rattle.log_processes.specs.Sending.{Leads};
 
-use crate::sender::{Head, Limits, Sender, home_may, is_within};
+use crate::sender::{Head, Limits, Sender, home_may, is_within, steps_upto};
 use crate::telling::is_letter_told;
 use bus_msg::entry::{By, Entry, Post, What};
 use counted_steps::counted::send_by;
@@ -35,7 +35,7 @@ pub fn next_letter(
     let Some(home) = home_may(front, head, kept) else {
         return Ok(None);
     };
-    let steps = head.at.saturating_sub(process.small.steps);
+    let steps = steps_upto(process, head.at);
     let Some(letter) = letter_by(alloc, steps, process)? else {
         return Ok(None);
     };

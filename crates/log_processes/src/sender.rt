@@ -1,5 +1,5 @@
 //! What is kept of a process that may send, and of the line by which it would.
-ghost use Rattle.std.specs.Prelude.{◌≡◌};
+ghost use Rattle.std.specs.Prelude.{◌≡◌, ◌-◌};
 ghost use Rattle.proc_state.specs.State.{state_of};
 ghost use Rattle.log_processes.specs.Sending.{home_may, is_within};
 
@@ -43,6 +43,13 @@ pub(crate) fn home_may(front: &Front, head: Head, kept: Sender) -> Option<Cluste
     } else {
         None
     }
+}
+
+// How many steps lead the process to this count.
+pub(crate) fn steps_upto(process: &Process, at: u64) -> u64
+    ensures { result ≡ at - (state_of process.now).small.steps }
+{
+    at.saturating_sub(process.small.steps)
 }
 
 // Whether the process is within its limits.
