@@ -1,13 +1,11 @@
 -- What an entry leaves of a process by which it is not born, does not fork, is not cut and does not end.
-use Rattle.std.proofs.Common.{◌≡◌, ℕ, suc, ◌+◌, refl, sym, ◌∙◌, ap, subst, arith, List, [], ◌∷◌, ◌++◌, length, length-append, append-nil, Bool, true, false, cond, not, ◌&&◌, ◌||◌, eqb-true, eq-eqb, Option, Some, None, is_some, true≢false}
+use Rattle.std.proofs.Common.{◌≡◌, ℕ, suc, ◌+◌, refl, sym, ◌∙◌, ap, List, [], ◌∷◌, ◌++◌, length, length-append, append-nil, Bool, true, false, cond, not, ◌||◌, eq-eqb, Option, Some, None, is_some, true≢false}
 use Rattle.std.specs.Prelude.{◌≢◌, option_map}
 use Rattle.std.specs.Option.{option_map_or}
 use Rattle.std.proofs.lemmas.Bool.{and_parts}
 use Rattle.std.proofs.lemmas.Option.{same_Some}
 use Rattle.t32_base.specs.declared.process.Pid.{Pid}
 use Rattle.t32_base.specs.declared.letter.Letter.{Letter}
-use Rattle.t32_base.specs.declared.letter.BackRec.{BackRec}
-use Rattle.t32_base.specs.Small.{SmallState}
 use Rattle.sys_text.specs.declared.system.System.{System}
 use Rattle.sys_text.specs.Valid.{is_system}
 use Rattle.proc_state.specs.State.{ProcState, has_ended}
@@ -15,14 +13,14 @@ use Rattle.sys_calls.specs.declared.steps.Emission.{Emission}
 use Rattle.sys_calls.specs.declared.steps.Emission.TheVariants.{Mail as Sent, Exit as Ended}
 use Rattle.sys_calls.proofs.RunLemma.{all_delivered}
 use Rattle.bus_msg.specs.declared.entry.What.{What}
-use Rattle.bus_msg.specs.declared.entry.What.TheVariants.{Mail, Birth, Exit, Page, Sync, Fetch, PageIs, Crash, Return, Rebackup, Done, Stop}
+use Rattle.bus_msg.specs.declared.entry.What.TheVariants.{Mail, Birth, Exit, Sync, Rebackup, Done}
 use Rattle.bus_msg.specs.declared.entry.Entry.{Entry}
 use Rattle.bus_msg.specs.Places.{same_pid}
 use Rattle.bus_msg.specs.PlacedAfter.{what}
 use Rattle.cert_sched.specs.Parts.{after_last}
 use Rattle.cert_sched.specs.Schedule.{items_of, process_after, run_upto, steps_in}
 use Rattle.cert_sched.specs.Deeds.{is_birth_of, is_cut, letter_for, letters_to, numbered, saved_letters, start_of, starts}
-use Rattle.cert_sched.specs.Steps.{after_items, emission_at, saved_of, silent_upto, start_steps}
+use Rattle.cert_sched.specs.Steps.{after_items, saved_of, silent_upto, start_steps}
 use Rattle.cert_sched.specs.Kinds.{KindHolds, after_take}
 use Rattle.cert_sched.specs.Legal.{IsLegalBy, Stands}
 use Rattle.cert_sched.specs.Built.{MayStand}
@@ -38,8 +36,7 @@ use Rattle.cert_sched.proofs.RollLaws.{all_roll}
 use Rattle.cert_sched.proofs.StepLaws.{SentTo, is_sent, process_after-beside, process_after-others}
 use Rattle.cert_sched.proofs.ThereLaws.{unended_there}
 use Rattle.log_processes.specs.declared.sender.Sender.{Sender}
-use Rattle.log_processes.specs.Arrivals.{KeepsOn, StandsBefore, is_writer, leaves, stepped}
-use Rattle.log_processes.specs.Sending.{KeepsProcess}
+use Rattle.log_processes.specs.Arrivals.{KeepsOn, leaves, stepped}
 
 not_true : (b : Bool) → not b ≡ true → b ≡ false
 not_true true is = absurd (true≢false (sym is))

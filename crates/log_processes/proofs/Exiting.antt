@@ -1,10 +1,8 @@
 -- When an exit may stand next.
-use Rattle.std.proofs.Common.{◌≡◌, ℕ, ◌-◌, refl, sym, ◌∙◌, ap, subst, List, [], ◌∷◌, ◌++◌, Bool, true, false, cond, not, ◌&&◌, Option, Some, None, is_some, true≢false}
+use Rattle.std.proofs.Common.{◌≡◌, ◌-◌, refl, sym, ◌∙◌, ap, subst, List, Bool, true, false, not, ◌&&◌, Some, None, is_some, true≢false}
 use Rattle.std.specs.Prelude.{option_map}
-use Rattle.std.specs.Option.{option_map_or}
 use Rattle.std.proofs.lemmas.Bool.{and_parts}
 use Rattle.std.proofs.lemmas.Option.{same_Some}
-use Rattle.t32_base.specs.declared.process.Pid.{Pid}
 use Rattle.t32_base.specs.declared.process.ClusterNo.{ClusterNo}
 use Rattle.t32_base.specs.declared.process.End.{End}
 use Rattle.sys_text.specs.declared.system.System.{System}
@@ -15,20 +13,17 @@ use Rattle.sys_calls.specs.declared.steps.Emission.TheVariants.{Exit as Ended}
 use Rattle.sys_calls.specs.Next.{last_emission}
 use Rattle.bus_msg.specs.declared.entry.What.{What}
 use Rattle.bus_msg.specs.declared.entry.What.TheVariants.{Exit, Rebackup}
-use Rattle.bus_msg.specs.declared.entry.By.{By}
 use Rattle.bus_msg.specs.declared.entry.By.TheVariants.{Cluster}
 use Rattle.bus_msg.specs.declared.entry.Entry.{Entry}
 use Rattle.bus_msg.specs.Places.{Places}
 use Rattle.bus_msg.specs.PlacedAfter.{what}
 use Rattle.cert_sched.specs.Schedule.{placement}
 use Rattle.cert_sched.specs.Steps.{emission_at, process_of}
-use Rattle.cert_sched.specs.Rules.{awaits_pages, has_its_pages, holds_of, is_by_home, is_by_right, keeps_limits}
-use Rattle.cert_sched.specs.Family.{has_unsynced_child}
+use Rattle.cert_sched.specs.Rules.{awaits_pages, has_its_pages, holds_of, is_by_home, is_by_right}
 use Rattle.cert_sched.specs.Kinds.{ChildrenSynced, IsSent, KindHolds}
-use Rattle.cert_sched.specs.Legal.{IsLegalBy, Stands}
-use Rattle.cert_sched.specs.Built.{KeepsLimits, KeepsWaits, MayStand}
+use Rattle.cert_sched.specs.Legal.{IsLegalBy}
+use Rattle.cert_sched.specs.Built.{KeepsLimits, MayStand}
 use Rattle.cert_sched.proofs.StepLaws.{is_sent, sent_applies}
-use Rattle.entry_lines.specs.declared.told.ToldBy.{ToldBy}
 use Rattle.entry_lines.specs.declared.told.ToldEnd.{ToldEnd}
 use Rattle.entry_lines.specs.declared.told.ToldWhat.TheVariants.{Exit as ToldExit}
 use Rattle.entry_lines.specs.declared.told.Told.{Told}

@@ -1,5 +1,5 @@
 -- When a letter may stand next.
-use Rattle.std.proofs.Common.{◌≡◌, ℕ, ◌-◌, refl, sym, ◌∙◌, ap, subst, List, [], ◌∷◌, ◌++◌, Bool, true, false, cond, not, ◌&&◌, Option, Some, None, is_some, true≢false}
+use Rattle.std.proofs.Common.{◌≡◌, ◌-◌, refl, sym, ◌∙◌, ap, subst, List, true, false, ◌&&◌, Some, None, is_some, true≢false}
 use Rattle.std.specs.Prelude.{option_map}
 use Rattle.std.specs.Option.{option_map_or}
 use Rattle.std.proofs.lemmas.Bool.{and_parts}
@@ -15,7 +15,6 @@ use Rattle.sys_calls.specs.declared.steps.Emission.TheVariants.{Mail as Sent}
 use Rattle.sys_calls.specs.Next.{last_emission}
 use Rattle.bus_msg.specs.declared.entry.What.{What}
 use Rattle.bus_msg.specs.declared.entry.What.TheVariants.{Mail, Rebackup}
-use Rattle.bus_msg.specs.declared.entry.By.{By}
 use Rattle.bus_msg.specs.declared.entry.By.TheVariants.{Cluster}
 use Rattle.bus_msg.specs.declared.entry.Entry.{Entry}
 use Rattle.bus_msg.specs.Places.{Places}
@@ -24,10 +23,9 @@ use Rattle.cert_sched.specs.Schedule.{placement}
 use Rattle.cert_sched.specs.Steps.{emission_at, process_of}
 use Rattle.cert_sched.specs.Rules.{awaits_pages, has_its_pages, holds_of, is_by_home, is_by_right, is_within_limits, keeps_limits}
 use Rattle.cert_sched.specs.Kinds.{IsSent, KindHolds}
-use Rattle.cert_sched.specs.Legal.{IsLegalBy, Stands}
-use Rattle.cert_sched.specs.Built.{KeepsLimits, KeepsWaits, MayStand}
+use Rattle.cert_sched.specs.Legal.{IsLegalBy}
+use Rattle.cert_sched.specs.Built.{KeepsLimits, MayStand}
 use Rattle.cert_sched.proofs.StepLaws.{is_sent, sent_applies, sent_is_own}
-use Rattle.entry_lines.specs.declared.told.ToldBy.{ToldBy}
 use Rattle.entry_lines.specs.declared.told.ToldLetter.{ToldLetter}
 use Rattle.entry_lines.specs.declared.told.ToldWhat.TheVariants.{Mail as ToldMail}
 use Rattle.entry_lines.specs.declared.told.Told.{Told}

@@ -1,5 +1,5 @@
 -- A process of a log, what it sends by a later step, and its limits there.
-use Rattle.std.proofs.Common.{◌≡◌, ℕ, ◌+◌, ◌-◌, refl, sym, ◌∙◌, ap, subst, arith, List, length, Bool, true, false, cond, ◌&&◌, leb, Option, Some, None, is_some, true≢false}
+use Rattle.std.proofs.Common.{◌≡◌, ℕ, ◌+◌, ◌-◌, refl, sym, ◌∙◌, ap, arith, List, length, Bool, true, false, cond, ◌&&◌, leb, Option, Some, None, is_some, true≢false}
 use Rattle.std.specs.Prelude.{option_and_then, option_map}
 use Rattle.std.specs.Option.{option_map_or}
 use Rattle.std.proofs.lemmas.Bool.{and_parts}
@@ -16,10 +16,10 @@ use Rattle.bus_msg.specs.declared.entry.By.{By}
 use Rattle.bus_msg.specs.declared.entry.By.TheVariants.{Cluster, Bus}
 use Rattle.bus_msg.specs.declared.entry.Entry.{Entry}
 use Rattle.bus_msg.specs.Places.{Places, lives_in}
-use Rattle.cert_sched.specs.Schedule.{done, done_after, placement, plain_after, process_after}
-use Rattle.cert_sched.specs.Steps.{emission_at, numbers_read, reads_since, saved_of, silent_upto, start_steps}
+use Rattle.cert_sched.specs.Schedule.{done, done_after, plain_after, process_after}
+use Rattle.cert_sched.specs.Steps.{emission_at, numbers_read, reads_since, saved_of, silent_upto}
 use Rattle.cert_sched.specs.Rules.{home_at, is_by, is_by_home, keeps_limits}
-use Rattle.cert_sched.specs.Legal.{IsLegalBy, Stands}
+use Rattle.cert_sched.specs.Legal.{IsLegalBy}
 use Rattle.cert_sched.specs.Built.{MayStand}
 use Rattle.cert_sched.proofs.MailLaws.{sender_goes_on, silently_ends}
 use Rattle.cert_sched.proofs.StepLaws.{done_kernel, sent_from}
@@ -35,7 +35,7 @@ use Rattle.log_audit.specs.Front.{FrontState, is_next}
 use Rattle.log_processes.specs.declared.sender.Head.{Head}
 use Rattle.log_processes.specs.declared.sender.Limits.{Limits}
 use Rattle.log_processes.specs.declared.sender.Sender.{Sender}
-use Rattle.log_processes.specs.Sending.{AreLimits, KeepsProcess, KeepsSender, home_may, is_within}
+use Rattle.log_processes.specs.Sending.{KeepsSender, home_may, is_within}
 use Rattle.log_processes.proofs.ReadCounts.{reads_left}
 
 -- ---- who sends

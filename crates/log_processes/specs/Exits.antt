@@ -1,10 +1,9 @@
 -- Which lines of exits may stand next.
-use Rattle.std.specs.Prelude.{ℕ, ◌≡◌, ◌-◌, ◌&&◌, Bool, not, Option, Some, None}
+use Rattle.std.specs.Prelude.{ℕ, ◌≡◌, ◌&&◌, Bool, not, Option, Some, None}
 use Rattle.t32_base.specs.declared.process.End.{End}
 use Rattle.proc_state.specs.State.{ProcState}
 use Rattle.sys_calls.specs.declared.steps.Emission.TheVariants.{Exit as Ended}
 use Rattle.sys_calls.specs.Next.{last_emission}
-use Rattle.bus_msg.specs.declared.entry.What.TheVariants.{Exit}
 use Rattle.bus_msg.specs.declared.entry.Entry.{Entry}
 use Rattle.entry_lines.specs.declared.told.ToldEnd.{ToldEnd}
 use Rattle.entry_lines.specs.declared.told.ToldWhat.TheVariants.{Exit as ToldExit}

@@ -51,11 +51,7 @@ pub fn next_letter(
 }
 
 // The letter that the process sends by the last of so many steps, if it does.
-fn letter_by(
-    alloc: Global,
-    steps: u64,
-    process: &mut Process,
-) -> Result<Option<Letter>, NoMemory>
+fn letter_by(alloc: Global, steps: u64, process: &mut Process) -> Result<Option<Letter>, NoMemory>
     ensures { IfOk result (λ letter. Writes steps (state_of process.old) letter (state_of process.new)) }
 {
     match send_by(alloc, process, steps)? {
