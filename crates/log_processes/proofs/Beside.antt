@@ -31,12 +31,13 @@ use Rattle.cert_sched.proofs.CameLaws.{received-all, same_of}
 use Rattle.cert_sched.proofs.EndedLaws.{letter_told, standing_runs}
 use Rattle.cert_sched.proofs.LogLaws.{process_after-quiet}
 use Rattle.cert_sched.proofs.MailLaws.{process_after-receiver, process_after-sender, received}
-use Rattle.cert_sched.proofs.RecordLaws.{saved_letters-other, start_of-snoc}
+use Rattle.cert_sched.proofs.RecordLaws.{saved_letters-other, saved_letters-start, start_of-snoc}
 use Rattle.cert_sched.proofs.RollLaws.{all_roll}
 use Rattle.cert_sched.proofs.StepLaws.{SentTo, is_sent, process_after-beside, process_after-others}
 use Rattle.cert_sched.proofs.ThereLaws.{unended_there}
 use Rattle.log_processes.specs.declared.sender.Sender.{Sender}
 use Rattle.log_processes.specs.Arrivals.{KeepsOn, leaves, stepped}
+use Rattle.log_processes.specs.Sending.{KeepsProcess}
 
 not_true : (b : Bool) → not b ≡ true → b ≡ false
 not_true true is = absurd (true≢false (sym is))
@@ -141,31 +142,48 @@ module _ (system : System) (log : List Entry) (e : Entry) (p : Pid) (valid : is_
       by_process None there some = absurd (true≢false (sym some))
       by_process (Some now) there some = let r = (all_roll MayStand by_standing system log valid legal).rolls p now there (runs now there) in record { start = r.start; is = r.started }
 
-  module _ (goes : leaves p (what e) ≡ true) where
+  module _ (still : starts p e ≡ false) where
     same_start : start_of system more p ≡ start_of system log p
-    same_start = start_of-snoc system log e p ∙ ap (λ c. cond c (process_after system more p) (start_of system log p)) (quiet p (what e) goes)
+    same_start = start_of-snoc system log e p ∙ ap (λ c. cond c (process_after system more p) (start_of system log p)) still
 
-    start_stays : start_steps system more p ≡ start_steps system log p
+    pub start_stays : start_steps system more p ≡ start_steps system log p
     start_stays = ap (λ (o : Option ProcState). option_map_or (λ (s : ProcState). (s.small).steps) o 0) same_start
 
     count_numbered : (n : ℕ) (letters : List Letter) → length (numbered n letters) ≡ length letters
     count_numbered n [] = refl
     count_numbered n (l ∷ letters) = ap suc (count_numbered (n + 1) letters)
 
-    more_saved : length (saved_of system more p) ≡ length (saved_of system log p) + length (letter_for p (what e))
+    pub more_saved : length (saved_of system more p) ≡ length (saved_of system log p) + length (letter_for p (what e))
     more_saved =
         let s = started in
         ap (λ (o : Option ProcState). length (option_map_or (saved_letters more p) o [])) (same_start ∙ s.is)
-        ∙ ap length (saved_letters-other log e p s.start (quiet p (what e) goes))
+        ∙ ap length (saved_letters-other log e p s.start still)
         ∙ length-append (saved_letters log p s.start) (numbered ((s.start).next + length (letters_to p (after_last (starts p) log))) (letter_for p (what e)))
         ∙ ap (λ n. length (saved_letters log p s.start) + n) (count_numbered ((s.start).next + length (letters_to p (after_last (starts p) log))) (letter_for p (what e)))
         ∙ ap (λ (o : Option ProcState). length (option_map_or (saved_letters log p) o []) + length (letter_for p (what e))) (sym s.is)
 
+    -- where it does not start again, the letters that come to it are saved, and its start is the same
+    pub goes_on : (t : ProcState) (start saved : ℕ) → process_after system more p ≡ Some t → start ≡ start_steps system log p → saved ≡ length (saved_of system log p)
+        → KeepsProcess p t start (saved + length (letter_for p (what e))) system more
+    goes_on t start saved there begins letters =
+        record { there = there; begins = begins ∙ sym start_stays; letters = ap (λ n. n + length (letter_for p (what e))) letters ∙ sym more_saved }
+
 pub keeps_on : (e : Entry) (p : Pid) (s : ProcState) (old : Sender) (t : ProcState) (new : Sender) → t ≡ all_delivered s (letter_for p (what e)) → new.start ≡ old.start → new.saved ≡ old.saved + length (letter_for p (what e))
     → KeepsOn e p s old t new
 keeps_on e p s old t new at start saved system log valid legal may unended goes before =
+    let there = arrives system log e p valid legal may unended (what e) refl goes (may.stands).kind s before.there ∙ ap Some (sym at) in
+    let k = goes_on system log e p valid legal may unended (quiet p (what e) goes) t old.start old.saved there before.begins before.letters in
+    record { there = k.there; begins = start ∙ k.begins; letters = saved ∙ k.letters }
+
+-- ---- where it starts again
+
+-- it starts as it stands then, with the letters that wait
+pub begins_again : (system : System) (log : List Entry) (e : Entry) (p : Pid) (t : ProcState) → starts p e ≡ true → process_after system (log ++ e ∷ []) p ≡ Some t
+    → KeepsProcess p t (t.small).steps (length t.mail) system (log ++ e ∷ [])
+begins_again system log e p t begins there =
+    let now : start_of system (log ++ e ∷ []) p ≡ Some t = start_of-snoc system log e p ∙ ap (λ c. cond c (process_after system (log ++ e ∷ []) p) (start_of system log p)) begins ∙ there in
     record {
-      there = arrives system log e p valid legal may unended (what e) refl goes (may.stands).kind s before.there ∙ ap Some (sym at);
-      begins = start ∙ before.begins ∙ sym (start_stays system log e p valid legal may unended goes);
-      letters = saved ∙ ap (λ n. n + length (letter_for p (what e))) before.letters ∙ sym (more_saved system log e p valid legal may unended goes);
+      there = there;
+      begins = ap (λ (o : Option ProcState). option_map_or (λ (s : ProcState). (s.small).steps) o 0) (sym now);
+      letters = ap length (sym (saved_letters-start log e p t begins)) ∙ ap (λ (o : Option ProcState). length (option_map_or (saved_letters (log ++ e ∷ []) p) o [])) (sym now);
     }

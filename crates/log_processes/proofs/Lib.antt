@@ -4,3 +4,5 @@ pub mod Sent
 pub mod Exiting
 pub mod Mailing
 pub mod Beside
+pub mod Booted
+pub mod Children

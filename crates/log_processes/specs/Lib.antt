@@ -3,3 +3,5 @@ pub mod Sending
 pub mod Exits
 pub mod Letters
 pub mod Arrivals
+pub mod Starting
+pub mod Families

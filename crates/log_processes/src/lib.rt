@@ -4,6 +4,8 @@
 
 pub mod arrivals;
 pub mod exits;
+pub mod families;
 pub mod letters;
 pub mod sender;
+pub mod starting;
 pub mod telling;

@@ -1,5 +1,5 @@
 //! What is kept of a process that may send, and of the line by which it would.
-ghost use Rattle.std.specs.Prelude.{◌≡◌, ◌-◌};
+ghost use Rattle.std.specs.Prelude.{◌≡◌, ◌-◌, length};
 ghost use Rattle.proc_state.specs.State.{state_of};
 ghost use Rattle.log_processes.specs.Sending.{home_may, is_within};
 
@@ -49,14 +49,28 @@ pub(crate) fn home_may(front: &Front, head: Head, kept: Sender) -> Option<Cluste
 pub(crate) fn steps_upto(process: &Process, at: u64) -> u64
     ensures { result ≡ at - (state_of process.now).small.steps }
 {
-    at.saturating_sub(process.small.steps)
+    at.saturating_sub(steps_made(process))
+}
+
+// How many steps the process has made.
+pub(crate) fn steps_made(process: &Process) -> u64
+    ensures { result ≡ (state_of process.now).small.steps }
+{
+    process.small.steps
+}
+
+// How many letters wait to be read.
+pub(crate) fn letters_waiting(process: &Process) -> u64
+    ensures { result ≡ length (state_of process.now).mail }
+{
+    process.mail.len() as u64
 }
 
 // Whether the process is within its limits.
 pub(crate) fn is_within(limits: Limits, kept: Sender, process: &Process) -> bool
     ensures { result ≡ is_within limits kept (state_of process.now) }
 {
-    let steps = process.small.steps.saturating_sub(kept.start);
-    let reads = kept.saved.saturating_sub(process.mail.len() as u64);
+    let steps = steps_made(process).saturating_sub(kept.start);
+    let reads = kept.saved.saturating_sub(letters_waiting(process));
     steps <= u64::from(limits.steps) && reads <= u64::from(limits.reads)
 }
