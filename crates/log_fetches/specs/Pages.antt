@@ -1,0 +1,6 @@
+-- Sets of pages of a process: numbers below 256, a bit for each, in words of 64.
+use Rattle.std.specs.Prelude.{ℕ, ◌/◌, ◌%◌, ◌==◌, Bool, List, slice_index}
+use Rattle.std.specs.Int.{bit_at}
+
+abbrev pub has_page : List ℕ → ℕ → Bool
+has_page pages i = bit_at (slice_index pages (i / 64)) (i % 64) == 1
