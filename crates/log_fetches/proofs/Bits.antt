@@ -41,11 +41,11 @@ module _ (pages : List ℕ) (n : ℕ) (four : length pages ≡ 4) (within : n < 
       by_word false is =
           ap (λ w. eqb (bit_at w (i % 64)) 1) (get_or-set_other pages (n / 64) (i / 64) with_bit 0 (λ same. true≢false (sym (eq-eqb (i / 64) (n / 64) same) ∙ is)))
 
-  pub put_has : (i : ℕ) → has_page (set pages (n / 64) with_bit) i ≡ ((eqb i n && nat_lt i 256) || has_page pages i)
-  put_has i = by_test (eqb i n) refl
+  pub put_has : (i : ℕ) → has_page (set pages (n / 64) with_bit) i ≡ ((eqb n i && nat_lt i 256) || has_page pages i)
+  put_has i = by_test (eqb n i) refl
     where
-      by_test : (b : Bool) → eqb i n ≡ b → has_page (set pages (n / 64) with_bit) i ≡ ((b && nat_lt i 256) || has_page pages i)
+      by_test : (b : Bool) → eqb n i ≡ b → has_page (set pages (n / 64) with_bit) i ≡ ((b && nat_lt i 256) || has_page pages i)
       by_test true is =
-          let same : i ≡ n = eqb-true i n is in
+          let same : i ≡ n = sym (eqb-true n i is) in
           ap (has_page (set pages (n / 64) with_bit)) same ∙ there ∙ sym (ap (λ b. b || has_page pages i) (is_below i 256 (omega (arith, same, within))))
-      by_test false is = elsewhere i (λ same. true≢false (sym (eq-eqb i n same) ∙ is))
+      by_test false is = elsewhere i (λ same. true≢false (sym (eq-eqb n i (sym same)) ∙ is))

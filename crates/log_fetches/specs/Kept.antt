@@ -30,6 +30,10 @@ kept_in kept p = unwrap_or (lookup (is_at (nat_cmp p.0)) kept) nothing
 
 -- ---- one process
 
+-- its record has a state from now on
+abbrev pub with_state : Kept → Kept
+with_state k = record { stated = true; moved = k.moved; asked = k.asked; come = k.come }
+
 -- a loss moved it
 abbrev pub begun_again : Kept → Kept
 begun_again k = record { stated = k.stated; moved = k.stated; asked = no_pages; come = no_pages }
@@ -67,7 +71,7 @@ pub record Asks (old new : List (ℕ × Kept)) (p : Pid) (index : ℕ) : Type 0 
   pub only : ChangesOnly old new p now
   pub stated : now.stated ≡ (kept_in old p).stated
   pub moved : now.moved ≡ (kept_in old p).moved
-  pub asked : (i : ℕ) → has_page now.asked i ≡ ((i == index && nat_lt i 256) || has_page (kept_in old p).asked i)
+  pub asked : (i : ℕ) → has_page now.asked i ≡ ((index == i && nat_lt i 256) || has_page (kept_in old p).asked i)
   pub come : now.come ≡ (kept_in old p).come
 
 -- a page of the process has come
@@ -77,16 +81,9 @@ pub record Comes (old new : List (ℕ × Kept)) (p : Pid) (index : ℕ) : Type 0
   pub stated : now.stated ≡ (kept_in old p).stated
   pub moved : now.moved ≡ (kept_in old p).moved
   pub asked : now.asked ≡ (kept_in old p).asked
-  pub come : (i : ℕ) → has_page now.come i ≡ ((i == index && nat_lt i 256) || has_page (kept_in old p).come i)
+  pub come : (i : ℕ) → has_page now.come i ≡ ((index == i && nat_lt i 256) || has_page (kept_in old p).come i)
 
--- the process is among these, and a loss of k moves it
-abbrev pub is_moved_among : List Placed → ClusterNo → Pid → Bool
-is_moved_among placed k p = list_any (λ (q : Placed). same_pid q.pid p && is_moved_by k q) placed
-
--- those of these begin again that a loss of k moves
-abbrev pub MovesAmong : List Placed → ClusterNo → List (ℕ × Kept) → List (ℕ × Kept) → Type 0
-MovesAmong placed k old new = (p : Pid) → kept_in new p ≡ (if is_moved_among placed k p then begun_again (kept_in old p) else kept_in old p)
-
--- the records of these have a state
-abbrev pub StatesAmong : List Placed → List (ℕ × Kept) → List (ℕ × Kept) → Type 0
-StatesAmong placed old new = (p : Pid) → kept_in new p ≡ (if list_any (λ (q : Placed). same_pid q.pid p) placed then record (kept_in old p) { stated = true } else kept_in old p)
+-- those of these that pass a test are changed so
+abbrev pub ChangesAmong : (Placed → Bool) → (Kept → Kept) → List Placed → List (ℕ × Kept) → List (ℕ × Kept) → Type 0
+ChangesAmong test change placed old new =
+    (p : Pid) → kept_in new p ≡ (if list_any (λ (q : Placed). same_pid q.pid p && test q) placed then change (kept_in old p) else kept_in old p)

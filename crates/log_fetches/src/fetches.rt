@@ -7,7 +7,7 @@ ghost use Rattle.cert_sched.specs.Moved.{any_since_moved, is_fetch, moved_with_s
 ghost use Rattle.cert_sched.specs.Rules.{has_its_pages};
 ghost use Rattle.cert_sched.specs.Steps.{page_count};
 ghost use Rattle.log_fetches.specs.Fetches.{IsFetchesOf, KeepsFetches};
-ghost use Rattle.log_fetches.specs.Kept.{StatesAmong};
+ghost use Rattle.log_fetches.specs.Kept.{ChangesAmong, with_state};
 
 use crate::kept::{ByPid, kept_of, note, state};
 use crate::pages::{has_first, has_page};
@@ -83,7 +83,7 @@ impl Fetches {
 
 // The record of each of these processes has a state.
 fn state_each(kept: &mut ByPid, placed: &Placement) -> Result<(), NoMemory>
-    ensures { OnOk result (StatesAmong placed.now.placed kept.old.entries kept.new.entries) }
+    ensures { OnOk result (ChangesAmong (λ _. true) with_state placed.now.placed kept.old.entries kept.new.entries) }
 {
     for index in 0..placed.len() {
         if let Some(root) = placed.at(index) {

@@ -1,8 +1,8 @@
 //! What is kept of each process of a log, and what an entry makes of it.
-ghost use Rattle.std.specs.Prelude.{◌≡◌, OnOk, [], ◌∷◌, true};
+ghost use Rattle.std.specs.Prelude.{◌≡◌, OnOk, [], ◌∷◌};
 ghost use Rattle.t32_base.specs.declared.process.Pid.{Pid};
 ghost use Rattle.bus_msg.specs.Places.{is_moved_by};
-ghost use Rattle.log_fetches.specs.Kept.{Asks, ChangesOnly, Comes, MovesAmong, Notes, begun_again, kept_in, stated_first};
+ghost use Rattle.log_fetches.specs.Kept.{Asks, ChangesAmong, ChangesOnly, Comes, Notes, begun_again, kept_in, stated_first, with_state};
 
 use crate::pages::{NO_PAGES, Pages, put_page};
 use bus_msg::entry::What;
@@ -42,7 +42,7 @@ pub fn kept_of(kept: &ByPid, pid: Pid) -> Kept
 
 /// The record of a process has a state from now on. After want of memory nothing is said.
 pub fn state(kept: &mut ByPid, pid: Pid) -> Result<(), NoMemory>
-    ensures { OnOk result (ChangesOnly kept.old.entries kept.new.entries pid (record (kept_in kept.old.entries pid) { stated = true })) }
+    ensures { OnOk result (ChangesOnly kept.old.entries kept.new.entries pid (with_state (kept_in kept.old.entries pid))) }
 {
     let stated = Kept {
         stated: true,
@@ -115,7 +115,7 @@ fn come(kept: &mut ByPid, pid: Pid, index: u16) -> Result<(), NoMemory>
 
 // Each process that the loss of the cluster `k` moves begins again. Takes no memory.
 fn lose(kept: &mut ByPid, before: &Placement, k: ClusterNo)
-    ensures { MovesAmong before.now.placed k kept.old.entries kept.new.entries }
+    ensures { ChangesAmong (is_moved_by k) begun_again before.now.placed kept.old.entries kept.new.entries }
 {
     for index in 0..before.len() {
         if let Some(placed) = before.at(index) {
@@ -126,7 +126,7 @@ fn lose(kept: &mut ByPid, before: &Placement, k: ClusterNo)
 
 // So does one process, if the loss moves it.
 fn lose_if_moved(kept: &mut ByPid, placed: &Placed, k: ClusterNo)
-    ensures { MovesAmong (placed.now ∷ []) k kept.old.entries kept.new.entries }
+    ensures { ChangesAmong (is_moved_by k) begun_again (placed.now ∷ []) kept.old.entries kept.new.entries }
 {
     if is_moved_by(k, placed) {
         begin_again(kept, placed.pid);

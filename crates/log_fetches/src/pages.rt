@@ -22,7 +22,7 @@ pub fn has_page(pages: &Pages, index: u64) -> bool
 
 /// Puts the page into the set, if its number is below 256. Takes no memory.
 pub fn put_page(pages: &mut Pages, index: u16)
-    ensures { (i : ℕ) → has_page pages.new i ≡ ((i == index && nat_lt i 256) || has_page pages.old i) }
+    ensures { (i : ℕ) → has_page pages.new i ≡ ((index == i && nat_lt i 256) || has_page pages.old i) }
 {
     if index < 256 {
         pages[usize::from(index / 64)] |= 1 << (index % 64);

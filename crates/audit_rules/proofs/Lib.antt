@@ -1,0 +1,3 @@
+mod Prefixes
+mod Printed
+mod Found
