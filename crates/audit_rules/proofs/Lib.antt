@@ -1,3 +1,4 @@
-mod Prefixes
+mod Fronts
 mod Printed
 mod Found
+mod Worked

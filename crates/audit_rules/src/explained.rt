@@ -16,7 +16,10 @@ ghost use Rattle.log_section.specs.Printed.{KernelFits, RunFits};
 ghost use Rattle.cert_sched.specs.Built.{MayStand};
 ghost use Rattle.audit_rules.specs.Explained.{ExplainedBy, has_small_number};
 
-/// A law and no code: what is printed of a run is explained. The run is what its system and its script allow, and its schedule leads to the kernel; the numbers of the script, and of what was withheld, are below 2^64.
+use log_section::printed_sections_are_form;
+
+/// A law and no code: what is printed of a run is explained, where the run is what its system and its script allow and
+/// its schedule leads to the kernel. The numbers of the script, and of what was withheld, are below 2^64.
 pub fn printed_runs_are_explained()
     ensures { (enough : System → List Entry → List ℕ → List ℕ → ClusterNo → Bool) (system : System) (script : List ScriptWord) (run : Run) (kernel : Kernel) → IsGoodBy MayStand enough system script run → plain_run system run.items ≡ Some kernel → list_all has_small_number script ≡ true → run.withheld < 2 ^ 64 → ExplainedBy MayStand system (report_of kernel run ++ log_text_of run.log) }
 {}
@@ -25,4 +28,6 @@ pub fn printed_runs_are_explained()
 /// explains it, where each number that is printed is below 2^64.
 pub fn explained_sections_are_form()
     ensures { (system : System) (section : List ℕ) (is : ExplainedBy MayStand system section) → KernelFits is.kernel → RunFits is.run → IsForm section (map told_of is.log) }
-{}
+{
+    printed_sections_are_form()
+}
