@@ -2,4 +2,6 @@
 #![tactic(auto)]
 
 #[cfg(test)]
+mod fetched;
+#[cfg(test)]
 mod lines;
