@@ -1,5 +1,5 @@
 -- What may be found against a printed section. What stands first is looked for first, and each leaves no room for the next.
-use Rattle.std.specs.Prelude.{ℕ, ◌≡◌, List, map, take, slice_get, Some, None}
+use Rattle.std.specs.Prelude.{ℕ, ◌≡◌, List, map, take, slice_get, Option, Some, None}
 use Rattle.sys_text.specs.declared.system.System.{System}
 use Rattle.bus_msg.specs.declared.entry.Entry.{Entry}
 use Rattle.cert_sched.specs.Legal.{IsLegalBy}
@@ -49,3 +49,8 @@ module _ (May : System → List Entry → Entry → Type 0) (system : System) wh
   AuditCause section (Refused index) = (lines : List Told) × IsForm section lines × IsRefusedAt lines index
   AuditCause section Unended = (lines : List Told) × IsForm section lines × IsOpen lines
   AuditCause section Report = (lines : List Told) × IsForm section lines × IsMisreported section lines
+
+  -- what an audit answers: that the section is explained, or what is found against it
+  abbrev pub Audits : List ℕ → Option Finding → Type 0
+  Audits section None = ExplainedBy May system section
+  Audits section (Some found) = AuditCause section found
