@@ -1,5 +1,5 @@
 -- A page that is put into a set is there, and every other is as it was.
-use Rattle.std.proofs.Common.{◌≡◌, ◌≢◌, ℕ, ◌+◌, ◌*◌, ◌/◌, ◌%◌, ◌^◌, ◌<◌, refl, sym, ◌∙◌, ap, subst, arith, List, length, Bool, true, false, ◌&&◌, ◌||◌, eqb, eqb-true, eq-eqb, get_or, set, get_or-set_same, get_or-set_other, w64, true≢false}
+use Rattle.std.proofs.Common.{◌≡◌, ◌≢◌, ℕ, ◌*◌, ◌/◌, ◌%◌, ◌^◌, ◌<◌, refl, sym, ◌∙◌, ap, arith, List, length, Bool, true, false, ◌&&◌, ◌||◌, eqb, eqb-true, eq-eqb, get_or, set, get_or-set_same, get_or-set_other, w64, true≢false}
 use Rattle.std.specs.Prelude.{nat_lt, bit_or}
 use Rattle.std.specs.Int.{bit_at}
 use Rattle.std.proofs.lemmas.Bool.Decides.{nat_tests}

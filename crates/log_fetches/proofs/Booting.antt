@@ -7,15 +7,14 @@ use Rattle.sys_text.specs.declared.system.Root.{Root}
 use Rattle.sys_text.specs.Boot.{roots_of}
 use Rattle.bus_msg.specs.declared.placed.Placed.{Placed}
 use Rattle.bus_msg.specs.Places.{same_pid}
-use Rattle.cert_sched.specs.Moved.{any_since_moved, moved_with_state}
-use Rattle.cert_sched.specs.Record.{is_root}
+use Rattle.cert_sched.specs.Moved.{any_since_moved, is_fetch, is_page_is, moved_with_state}
 use Rattle.cert_sched.specs.Schedule.{placed_root, places_at_boot}
 use Rattle.cert_sched.specs.Told.{told}
 use Rattle.bus_msg.specs.declared.entry.What.{What}
 use Rattle.log_fetches.specs.declared.kept.Kept.{Kept}
 use Rattle.log_fetches.specs.Pages.{has_page}
-use Rattle.log_fetches.specs.Kept.{ChangesAmong, kept_in, nothing, with_state}
-use Rattle.log_fetches.specs.Fetches.{IsFetchesOf, IsKeptOf}
+use Rattle.log_fetches.specs.Kept.{ChangesAmong, nothing, with_state}
+use Rattle.log_fetches.specs.Fetches.{IsFetchesOf}
 use Rattle.log_fetches.proofs.Notes.{none_there}
 
 among_roots : (p : Pid) (roots : List (Pid × Root)) → list_any (λ (q : Placed). same_pid q.pid p && true) (map placed_root roots) ≡ list_any (λ (r : Pid × Root). same_pid r.0 p) roots
@@ -38,8 +37,8 @@ pub fetches_at_boot : (system : System) (new : List (ℕ × Kept)) → ChangesAm
 fetches_at_boot system new among p = record {
   stated = ap (λ (k : Kept). k.stated) (among p) ∙ by_root (list_any (λ (q : Placed). same_pid q.pid p && true) (places_at_boot system).placed) ∙ ap (λ b. b || false) (among_roots p (roots_of system));
   moved = ap (λ (k : Kept). k.moved) (among p) ∙ still_moved (list_any (λ (q : Placed). same_pid q.pid p && true) (places_at_boot system).placed) ∙ sym (unmoved system p);
-  asked = λ i. ap (λ (k : Kept). has_page k.asked i) (among p) ∙ unasked i (list_any (λ (q : Placed). same_pid q.pid p && true) (places_at_boot system).placed) ∙ sym (unseen system p _);
-  come = λ i low. ap (λ (k : Kept). has_page k.come i) (among p) ∙ uncome i (list_any (λ (q : Placed). same_pid q.pid p && true) (places_at_boot system).placed) ∙ sym (unseen system p _);
+  asked = λ i. ap (λ (k : Kept). has_page k.asked i) (among p) ∙ unasked i (list_any (λ (q : Placed). same_pid q.pid p && true) (places_at_boot system).placed) ∙ sym (unseen system p (is_fetch p i));
+  come = λ i low. ap (λ (k : Kept). has_page k.come i) (among p) ∙ uncome i (list_any (λ (q : Placed). same_pid q.pid p && true) (places_at_boot system).placed) ∙ sym (unseen system p (is_page_is p i));
 }
   where
     by_root : (b : Bool) → (cond b (with_state nothing) nothing).stated ≡ (b || false)

@@ -1,5 +1,5 @@
 -- What is kept is that of the log with one entry more.
-use Rattle.std.proofs.Common.{◌≡◌, ℕ, ◌<◌, ◌≤◌, refl, sym, ◌∙◌, ap, subst, arith, List, [], ◌∷◌, ◌++◌, Bool, true, false, cond, ◌&&◌, ◌||◌, eqb, eqb-true, Option, Some, None, slice_get, true≢false}
+use Rattle.std.proofs.Common.{◌≡◌, ℕ, ◌<◌, ◌≤◌, refl, sym, ◌∙◌, ap, subst, arith, List, Bool, true, false, cond, ◌&&◌, ◌||◌, eqb, eqb-true, Option, Some, None, slice_get, true≢false}
 use Rattle.std.specs.Prelude.{nat_lt, option_map, unwrap_or}
 use Rattle.std.proofs.lemmas.Bool.{and_parts}
 use Rattle.std.proofs.lemmas.Bool.Decides.{nat_tests}
@@ -21,9 +21,8 @@ use Rattle.bus_msg.specs.PlacedAfter.{what}
 use Rattle.cert_sched.specs.Deeds.{is_cut}
 use Rattle.cert_sched.specs.Kinds.{FetchHolds, KindHolds}
 use Rattle.cert_sched.specs.Legal.{Stands}
-use Rattle.cert_sched.specs.Moved.{any_since_moved, is_fetch, is_page_is, moved_with_state}
+use Rattle.cert_sched.specs.Moved.{any_since_moved, is_fetch, is_page_is}
 use Rattle.cert_sched.specs.Record.{has_state}
-use Rattle.cert_sched.specs.Schedule.{placement}
 use Rattle.cert_sched.specs.Steps.{page_count}
 use Rattle.cert_sched.proofs.RecordLaws.{has_state-snoc}
 use Rattle.log_laws.specs.pages.Next.{moves_next}
@@ -31,16 +30,15 @@ use Rattle.log_laws.proofs.pages.OneEntry.{any_since-snoc, moved_with_state-snoc
 use Rattle.log_laws.proofs.pages.PagesStay.{EachPages, page_count-most}
 use Rattle.log_fetches.specs.declared.kept.Kept.{Kept}
 use Rattle.log_fetches.specs.Pages.{has_page}
-use Rattle.log_fetches.specs.Kept.{IsKeptAfter, Notes, kept_in, moves_at}
-use Rattle.log_fetches.specs.Fetches.{IsFetchesOf, IsKeptOf, KeepsFetches}
+use Rattle.log_fetches.specs.Kept.{Notes, kept_in, moves_at}
+use Rattle.log_fetches.specs.Fetches.{KeepsFetches}
 
 -- ---- a page that is asked for has a number below 256
 
-HasFew : ProcState → Type 0
+abbrev HasFew : ProcState → Type 0
 HasFew s = (s.small).pages ≤ 256
 
 root_few : (system : System) → is_system system ≡ true → (p : Pid) (r : Root) → HasFew (root_process system p r)
-unfolding HasFew
 root_few system valid p r = by_image (slice_get system.images r.image) refl
   where
     by_image : (o : Option Image) → slice_get system.images r.image ≡ o → (unwrap_or o no_image).pages ≤ 256
@@ -51,7 +49,6 @@ few_at_boot : (system : System) → is_system system ≡ true → (p : Pid) (s :
 few_at_boot system valid = boot-each (λ p s. HasFew s) system (root_few system valid) (λ p s peer far has. has)
 
 each_few : (system : System) → is_system system ≡ true → EachPages (λ n. n ≤ 256) (boot system)
-unfolding HasFew
 each_few system valid p n is = by_process (process_at (boot system) p) refl is
   where
     by_process : (o : Option ProcState) → process_at (boot system) p ≡ o → option_map (λ (s : SmallState). s.pages) (option_map (λ (s : ProcState). s.small) o) ≡ Some n → n ≤ 256
