@@ -1,5 +1,5 @@
 -- There is one finding against a section and no other, and none against one that is explained.
-use Rattle.std.proofs.Common.{◌≡◌, ℕ, ◌<◌, refl, sym, ◌∙◌, ap, subst, arith, List, map, take, Option, Some, None}
+use Rattle.std.proofs.Common.{◌≡◌, ℕ, ◌<◌, refl, sym, ◌∙◌, ap, subst, List, map, Some, None}
 use Rattle.std.proofs.lemmas.Option.{same_Some}
 use Rattle.sys_text.specs.declared.system.System.{System}
 use Rattle.bus_msg.specs.declared.entry.Entry.{Entry}
@@ -9,9 +9,9 @@ use Rattle.log_section.specs.Form.{IsForm, form_of}
 use Rattle.audit_text.specs.declared.finding.Finding.{Finding}
 use Rattle.audit_text.specs.declared.finding.Finding.TheVariants.{Form, Entry as Refused, Unended, Report}
 use Rattle.audit_rules.specs.Explained.{ExplainedBy}
-use Rattle.audit_rules.specs.Findings.{AuditCause, HasLines, IsMisreported, IsOpen, IsRefusedAt}
+use Rattle.audit_rules.specs.Findings.{AuditCause, HasLines, IsRefusedAt}
 use Rattle.audit_rules.proofs.Fronts.{refused, refused_whole}
-use Rattle.std.proofs.Common.{◌⊎◌, inl, inr}
+use Rattle.std.proofs.Common.{inl, inr}
 use Rattle.std.proofs.lemmas.Bool.{cases_order}
 
 module _ (May : System → List Entry → Entry → Type 0) (system : System) (section : List ℕ) where
@@ -23,7 +23,7 @@ module _ (May : System → List Entry → Entry → Type 0) (system : System) (s
 
   -- of two refused entries of one log the first is refused already
   not_later : (lines : List Told) (i j : ℕ) → IsRefusedAt May system lines i → IsRefusedAt May system lines j → i < j → ⊥
-  not_later lines i j first later earlier = refused May system lines i first later.log j (later.before).legal (later.before).lines earlier
+  not_later lines i j first later earlier = refused May system lines i first later.log j (later.before).legal (later.before).said earlier
 
   same_index : (lines : List Told) (i j : ℕ) → IsRefusedAt May system lines i → IsRefusedAt May system lines j → i ≡ j
   same_index lines i j a b = elim (cases_order i j) [ inl same ↦ same | inr (inl earlier) ↦ absurd (not_later lines i j a b earlier) | inr (inr later) ↦ absurd (not_later lines j i b a later) ]
@@ -49,6 +49,6 @@ module _ (May : System → List Entry → Entry → Type 0) (system : System) (s
   -- against what is explained, where its lines are those of its log
   pub none_found : (is : ExplainedBy May system section) → IsForm section (map told_of is.log) → (found : Finding) → AuditCause May system section found → ⊥
   none_found is form Form a = unformed (map told_of is.log) a form
-  none_found is form (Refused i) a = refused_whole May system a.0 i a.2 is.log (record { legal = is.legal; lines = same_lines a.0 (map told_of is.log) a.1 form })
-  none_found is form Unended a = (a.2).none is.log (record { legal = is.legal; lines = same_lines a.0 (map told_of is.log) a.1 form }) ((is.run).ended, is.ended)
+  none_found is form (Refused i) a = refused_whole May system a.0 i a.2 is.log (record { legal = is.legal; said = same_lines a.0 (map told_of is.log) a.1 form })
+  none_found is form Unended a = (a.2).none is.log (record { legal = is.legal; said = same_lines a.0 (map told_of is.log) a.1 form }) ((is.run).ended, is.ended)
   none_found is form Report a = (a.2).none is

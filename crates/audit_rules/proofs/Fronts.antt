@@ -1,5 +1,5 @@
 -- The front of a legal log is legal, and the entry behind it may stand there.
-use Rattle.std.proofs.Common.{◌≡◌, ℕ, zero, suc, ◌<◌, refl, sym, ◌∙◌, ap, subst, arith, List, [], ◌∷◌, ◌++◌, append_assoc, append-nil, length, map, take, Option, Some, None, slice_get}
+use Rattle.std.proofs.Common.{◌≡◌, ℕ, zero, suc, ◌<◌, refl, sym, ◌∙◌, ap, subst, arith, List, [], ◌∷◌, ◌++◌, append_assoc, append-nil, length, map, take, Some, slice_get}
 use Rattle.std.proofs.lemmas.Option.{same_Some, slice_get_within}
 use Rattle.sys_text.specs.declared.system.System.{System}
 use Rattle.bus_msg.specs.declared.entry.Entry.{Entry}
@@ -44,7 +44,7 @@ module _ (May : System → List Entry → Entry → Type 0) (system : System) wh
   refused lines index r log n legal same below =
       let h = entry_there lines log n index r.line same below r.there in
       let front = front_legal [] log index h.entry legal h.there in
-      r.none (take index log) h.entry (record { legal = front.0; lines = h.before }) h.said front.1
+      r.none (take index log) h.entry (record { legal = front.0; said = h.before }) h.said front.1
 
 take_all : (lines : List Told) → take (length lines) lines ≡ lines
 take_all [] = refl
@@ -52,4 +52,4 @@ take_all (l ∷ lines) = ap (λ ls. l ∷ ls) (take_all lines)
 
 -- nor does one have all lines
 pub refused_whole : (May : System → List Entry → Entry → Type 0) (system : System) (lines : List Told) (index : ℕ) → IsRefusedAt May system lines index → (log : List Entry) → HasLines May system lines log → ⊥
-refused_whole May system lines index r log has = refused May system lines index r log (length lines) has.legal (has.lines ∙ sym (take_all lines)) (slice_get_within lines index r.line r.there)
+refused_whole May system lines index r log has = refused May system lines index r log (length lines) has.legal (has.said ∙ sym (take_all lines)) (slice_get_within lines index r.line r.there)

@@ -1,8 +1,9 @@
 -- What is printed of a run is explained.
-use Rattle.std.proofs.Common.{◌≡◌, ℕ, zero, suc, ◌+◌, ◌<◌, ◌^◌, refl, sym, ◌∙◌, ap, subst, arith, List, [], ◌∷◌, ◌++◌, Bool, true, false, cond, ◌&&◌, ◌||◌, not, eqb, eqb-true, Some, None, count_by, true≢false}
+use Rattle.std.proofs.Common.{◌≡◌, ℕ, ◌+◌, ◌<◌, ◌^◌, refl, sym, ◌∙◌, ap, subst, arith, List, [], ◌∷◌, ◌++◌, Bool, true, false, cond, ◌&&◌, eqb, eqb-true, Some, count_by, true≢false}
 use Rattle.std.specs.Prelude.{nat_lt}
-use Rattle.std.specs.List.{list_all, list_any}
+use Rattle.std.specs.List.{list_all}
 use Rattle.std.proofs.lemmas.Bool.{and_parts}
+use Rattle.std.proofs.lemmas.List.Sums.{sum_by-cons}
 use Rattle.std.proofs.lemmas.Bool.Decides.{nat_tests}
 use Rattle.t32_base.specs.declared.process.ClusterNo.{ClusterNo}
 use Rattle.sys_text.specs.declared.system.System.{System}
@@ -17,7 +18,7 @@ use Rattle.bus_msg.specs.PlacedAfter.{placed_after, what}
 use Rattle.cert_sched.specs.declared.script.ScriptWord.{ScriptWord}
 use Rattle.cert_sched.specs.declared.script.ScriptWord.TheVariants.{CrashAt, CrashStep, DiskAt, ReturnAt}
 use Rattle.cert_sched.specs.Losses.{has_disk_left, has_step_left, heard, is_disk_word, is_scripted_loss, is_step_word, least_calls, least_steps, may_be_lost_at, is_step_crash, is_disk_crash}
-use Rattle.cert_sched.specs.Schedule.{places_at_boot, plain_after}
+use Rattle.cert_sched.specs.Schedule.{places_at_boot}
 use Rattle.cert_sched.specs.Told.{Told, told, told_from}
 use Rattle.cert_sched.proofs.LogLaws.{plain_run-schedule_of}
 use Rattle.report_text.specs.declared.run.Run.{Run}
@@ -35,14 +36,14 @@ is_below i n is = grind (arith, nat_tests)
 
 some_counted : (test : ScriptWord → Bool) (small : Bool) (script : List ScriptWord) → ((w : ScriptWord) → has_small_number w ≡ true → test w ≡ true → small ≡ true) → list_all has_small_number script ≡ true → 0 < count_by test script → small ≡ true
 some_counted test small [] each all some = absurd (omega (arith, some))
-some_counted test small (w ∷ script) each all some = by_test (test w) refl some
+some_counted test small (w ∷ script) each all some = by_test (test w) refl (subst (λ (n : ℕ). 0 < n) (sum_by-cons (λ (v : ScriptWord). cond (test v) 1 0) w script) some) (some_counted test small script each parts.1)
   where
     parts : (has_small_number w ≡ true) × (list_all has_small_number script ≡ true)
     parts = and_parts (has_small_number w) (list_all has_small_number script) all
 
-    by_test : (b : Bool) → test w ≡ b → 0 < cond b (1 + count_by test script) (count_by test script) → small ≡ true
-    by_test true is some = each w parts.0 is
-    by_test false is some = some_counted test small script each parts.1 some
+    by_test : (b : Bool) → test w ≡ b → 0 < cond b 1 0 + count_by test script → (0 < count_by test script → small ≡ true) → small ≡ true
+    by_test true is some more = each w parts.0 is
+    by_test false is some more = more (omega (arith, some))
 
 step_small : (k : ClusterNo) (n : ℕ) (w : ScriptWord) → has_small_number w ≡ true → is_step_word k n w ≡ true → is_small n ≡ true
 step_small k n (CrashStep j step) small is =

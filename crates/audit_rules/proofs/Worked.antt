@@ -1,17 +1,17 @@
 -- Worked sections of one system, by computation: one is explained, and against others there are findings.
-use Rattle.std.proofs.Common.{◌≡◌, ℕ, refl, sym, ◌∙◌, ap, subst, List, [], ◌∷◌, ◌++◌, codes, map, Bool, true, false, Option, Some, None, true≢false}
+use Rattle.std.proofs.Common.{◌≡◌, ℕ, refl, sym, ◌∙◌, ap, subst, List, [], ◌∷◌, ◌++◌, codes, map, true, false, Option, Some, None, true≢false}
 use Rattle.std.specs.Prelude.{option_map, unwrap_or}
+use Rattle.std.specs.Fmt.{digits}
+use Rattle.hex.proofs.OnLiterals.{hex_on_literals}
 use Rattle.t32_base.specs.declared.process.Pid.{Pid}
-use Rattle.t32_base.specs.declared.process.ClusterNo.{ClusterNo}
 use Rattle.t32_base.specs.declared.process.End.TheVariants.{Exit as Exited}
-use Rattle.t32_base.specs.declared.letter.Letter.{Letter}
 use Rattle.t32_base.specs.declared.letter.Body.TheVariants.{Said}
 use Rattle.t32_base.specs.declared.letter.To.TheVariants.{Tty}
 use Rattle.sys_calls.specs.declared.steps.Emission.{Emission}
 use Rattle.sys_calls.specs.declared.steps.Emission.TheVariants.{Mail as Sent}
 use Rattle.sys_calls.specs.Next.{silently}
 use Rattle.plain_kernel.specs.declared.item.Item.TheVariants.{Run as Runs}
-use Rattle.plain_kernel.specs.Kernel.{Kernel, boot}
+use Rattle.plain_kernel.specs.Kernel.{boot}
 use Rattle.plain_kernel.specs.Apply.{one_step, steps}
 use Rattle.bus_msg.specs.declared.entry.What.{What}
 use Rattle.bus_msg.specs.declared.entry.What.TheVariants.{Mail, Exit, Crash, Rebackup, Done}
@@ -34,17 +34,17 @@ use Rattle.report_text.specs.declared.run.Run.{Run}
 use Rattle.report_text.specs.declared.run.Ended.{Ended}
 use Rattle.report_text.specs.declared.run.Ended.TheVariants.{Finished, Lost}
 use Rattle.report_text.specs.Good.{EndsAs}
-use Rattle.report_text.specs.RunReport.{report_of, log_text_of}
+use Rattle.report_text.specs.RunReport.{report_of}
 use Rattle.entry_lines.specs.declared.told.ToldBy.TheVariants.{Cluster as ByCluster}
 use Rattle.entry_lines.specs.declared.told.ToldLetter.TheVariants.{Shown}
 use Rattle.entry_lines.specs.declared.told.ToldEnd.TheVariants.{Exit as ToldExited}
 use Rattle.entry_lines.specs.declared.told.ToldWhat.TheVariants.{Mail as ToldMail, Exit as ToldExit}
 use Rattle.entry_lines.specs.declared.told.Told.{Told}
 use Rattle.entry_lines.specs.Told.{told_of, told_what}
-use Rattle.log_section.specs.Form.{IsForm, form_of}
+use Rattle.log_section.specs.Form.{IsForm}
 use Rattle.audit_text.specs.declared.finding.Finding.TheVariants.{Form, Entry as Refused, Unended}
 use Rattle.audit_rules.specs.Explained.{ExplainedBy}
-use Rattle.audit_rules.specs.Findings.{AuditCause, HasEnded, HasLines, IsOpen, IsRefusedAt}
+use Rattle.audit_rules.specs.Findings.{AuditCause}
 
 -- ---- one process says hi and exits
 
@@ -96,7 +96,7 @@ abbrev hi_run : Run
 hi_run = record { log = hi_0 ∷ hi_1 ∷ hi_2 ∷ []; items = Runs pid 6 ∷ Runs pid 4 ∷ []; ended = Finished; steps = []; disk_calls = []; withheld = 0 }
 
 hi_explained : ExplainedBy MayStand hi_system hi_section
-unfolding boot one_step steps silently plain_after schedule_of placement told is_over silent_upto emission_at before_fork_at backup_record account_after
+unfolding digits hex_on_literals boot one_step steps silently plain_after schedule_of placement told is_over silent_upto emission_at before_fork_at backup_record account_after
 hi_explained = record {
   log = hi_0 ∷ hi_1 ∷ hi_2 ∷ [];
   run = hi_run;
@@ -135,6 +135,7 @@ abbrev early_lines : List Told
 early_lines = early_line ∷ told_of hi_1 ∷ told_of hi_2 ∷ []
 
 early_form : IsForm early_section early_lines
+unfolding digits hex_on_literals
 early_form = refl
 
 none_sent : option_map (λ (r : Emission × _). r.0) (emission_at hi_system [] pid 5) ≡ None
@@ -164,10 +165,10 @@ early_found = (
   early_form,
   record {
     log = [];
-    before = record { legal = none_legal; lines = refl };
+    before = record { legal = none_legal; said = refl };
     line = early_line;
     there = refl;
-    none = λ log e has said may. early_refused log e has.lines said may;
+    none = λ log e has said may. early_refused log e has.said said may;
   },
 )
 
@@ -180,6 +181,7 @@ abbrev open_lines : List Told
 open_lines = told_of hi_0 ∷ told_of hi_1 ∷ []
 
 open_form : IsForm open_section open_lines
+unfolding digits hex_on_literals
 open_form = refl
 
 exit_line : (w : What) → told_what w ≡ ToldExit 16 10 (ToldExited 0) → (is_done w ≡ false) × (cluster_lost w ≡ None)
@@ -202,4 +204,4 @@ goes_on (e ∷ f ∷ []) lines ended is = by_end ended is
     by_end (Lost k at) is = let lost : None ≡ Some k = sym (exit_line (what f) line).1 ∙ is.0 in cc
 
 open_found : AuditCause MayStand hi_system open_section Unended
-open_found = (open_lines, open_form, record { log = hi_0 ∷ hi_1 ∷ []; all = record { legal = two_legal; lines = refl }; none = λ log has ended. goes_on log has.lines ended.0 ended.1 })
+open_found = (open_lines, open_form, record { log = hi_0 ∷ hi_1 ∷ []; all = record { legal = two_legal; said = refl }; none = λ log has ended. goes_on log has.said ended.0 ended.1 })

@@ -16,7 +16,7 @@ module _ (May : System → List Entry → Entry → Type 0) (system : System) wh
   -- the log is legal, by the rule, and its entries have these lines
   pub record HasLines (lines : List Told) (log : List Entry) : Type 0 where
     pub legal : IsLegalBy May system log
-    pub lines : map told_of log ≡ lines
+    pub said : map told_of log ≡ lines
 
   -- done stands last, or a loss that was not covered
   abbrev pub HasEnded : List Entry → Type 0

@@ -99,13 +99,7 @@ const PAGES: [[bool; 7]; 5] = [
 fn pages_are_asked_for_and_come(rt: HostRuntime) -> Result<(), Fail> {
     let alloc = rt.alloc();
     let (mut fetches, places) = start(alloc)?;
-    let entries = [
-        loss(0),
-        fetch(64),
-        fetch(0),
-        page(alloc, 0)?,
-        loss(0),
-    ];
+    let entries = [loss(0), fetch(64), fetch(0), page(alloc, 0)?, loss(0)];
     let mut rows = [[false; 7]; 5];
     for (entry, row) in entries.iter().zip(rows.iter_mut()) {
         fetches.take(&places, entry)?;
