@@ -21,6 +21,9 @@ module _ (May : System → List Entry → Entry → Type 0) (system : System) (s
   same_lines : (these those : List Told) → IsForm section these → IsForm section those → those ≡ these
   same_lines these those form other = same_Some those these (sym other ∙ form)
 
+  as_said : {these those : List Told} (log : List Entry) → those ≡ these → HasLines May system those log → HasLines May system these log
+  as_said log same has = subst (λ (lines : List Told). HasLines May system lines log) same has
+
   -- of two refused entries of one log the first is refused already
   not_later : (lines : List Told) (i j : ℕ) → IsRefusedAt May system lines i → IsRefusedAt May system lines j → i < j → ⊥
   not_later lines i j first later earlier = refused May system lines i first later.log j (later.before).legal (later.before).said earlier
@@ -35,15 +38,15 @@ module _ (May : System → List Entry → Entry → Type 0) (system : System) (s
   one_finding Form Report a b = absurd (unformed b.0 a b.1)
   one_finding (Refused i) Form a b = absurd (unformed a.0 b a.1)
   one_finding (Refused i) (Refused j) a b = ap Refused (same_index a.0 i j a.2 (subst (λ (lines : List Told). IsRefusedAt May system lines j) (same_lines a.0 b.0 a.1 b.1) b.2))
-  one_finding (Refused i) Unended a b = absurd (refused_whole May system a.0 i a.2 (b.2).log (subst (λ (lines : List Told). HasLines May system lines (b.2).log) (same_lines a.0 b.0 a.1 b.1) (b.2).all))
-  one_finding (Refused i) Report a b = absurd (refused_whole May system a.0 i a.2 (b.2).log (subst (λ (lines : List Told). HasLines May system lines (b.2).log) (same_lines a.0 b.0 a.1 b.1) (b.2).all))
+  one_finding (Refused i) Unended a b = absurd (refused_whole May system a.0 i a.2 (b.2).log (as_said (b.2).log (same_lines a.0 b.0 a.1 b.1) (b.2).all))
+  one_finding (Refused i) Report a b = absurd (refused_whole May system a.0 i a.2 (b.2).log (as_said (b.2).log (same_lines a.0 b.0 a.1 b.1) (b.2).all))
   one_finding Unended Form a b = absurd (unformed a.0 b a.1)
-  one_finding Unended (Refused j) a b = absurd (refused_whole May system b.0 j b.2 (a.2).log (subst (λ (lines : List Told). HasLines May system lines (a.2).log) (same_lines b.0 a.0 b.1 a.1) (a.2).all))
+  one_finding Unended (Refused j) a b = absurd (refused_whole May system b.0 j b.2 (a.2).log (as_said (a.2).log (same_lines b.0 a.0 b.1 a.1) (a.2).all))
   one_finding Unended Unended a b = refl
-  one_finding Unended Report a b = absurd ((a.2).none (b.2).log (subst (λ (lines : List Told). HasLines May system lines (b.2).log) (same_lines a.0 b.0 a.1 b.1) (b.2).all) (b.2).ended)
+  one_finding Unended Report a b = absurd ((a.2).none (b.2).log (as_said (b.2).log (same_lines a.0 b.0 a.1 b.1) (b.2).all) (b.2).ended)
   one_finding Report Form a b = absurd (unformed a.0 b a.1)
-  one_finding Report (Refused j) a b = absurd (refused_whole May system b.0 j b.2 (a.2).log (subst (λ (lines : List Told). HasLines May system lines (a.2).log) (same_lines b.0 a.0 b.1 a.1) (a.2).all))
-  one_finding Report Unended a b = absurd ((b.2).none (a.2).log (subst (λ (lines : List Told). HasLines May system lines (a.2).log) (same_lines b.0 a.0 b.1 a.1) (a.2).all) (a.2).ended)
+  one_finding Report (Refused j) a b = absurd (refused_whole May system b.0 j b.2 (a.2).log (as_said (a.2).log (same_lines b.0 a.0 b.1 a.1) (a.2).all))
+  one_finding Report Unended a b = absurd ((b.2).none (a.2).log (as_said (a.2).log (same_lines b.0 a.0 b.1 a.1) (a.2).all) (a.2).ended)
   one_finding Report Report a b = refl
 
   -- against what is explained, where its lines are those of its log

@@ -30,7 +30,8 @@ entry_there (l ∷ lines) (e ∷ log) (suc n) (suc index) line same below at =
     record { entry = h.entry; there = h.there; said = h.said; before = λ i. first i ∷ h.before i }
 
 module _ (May : System → List Entry → Entry → Type 0) (system : System) where
-  front_legal : (before rest : List Entry) (index : ℕ) (e : Entry) → IsLegalFrom May system before rest → slice_get rest index ≡ Some e → IsLegalFrom May system before (take index rest) × May system (before ++ take index rest) e
+  front_legal : (before rest : List Entry) (index : ℕ) (e : Entry)
+      → IsLegalFrom May system before rest → slice_get rest index ≡ Some e → IsLegalFrom May system before (take index rest) × May system (before ++ take index rest) e
   front_legal before [] zero e legal at = cc
   front_legal before [] (suc index) e legal at = cc
   front_legal before (f ∷ rest) zero e legal at = (tt, subst (λ (log : List Entry). May system log e) (sym (append-nil before)) (subst (May system before) (same_Some f e at) legal.0))
@@ -52,4 +53,5 @@ take_all (l ∷ lines) = ap (λ ls. l ∷ ls) (take_all lines)
 
 -- nor does one have all lines
 pub refused_whole : (May : System → List Entry → Entry → Type 0) (system : System) (lines : List Told) (index : ℕ) → IsRefusedAt May system lines index → (log : List Entry) → HasLines May system lines log → ⊥
-refused_whole May system lines index r log has = refused May system lines index r log (length lines) has.legal (has.said ∙ sym (take_all lines)) (slice_get_within lines index r.line r.there)
+refused_whole May system lines index r log has =
+    refused May system lines index r log (length lines) has.legal (has.said ∙ sym (take_all lines)) (slice_get_within lines index r.line r.there)

@@ -34,9 +34,11 @@ is_below i n is = grind (arith, nat_tests)
 
 -- ---- the number of a word that is in a script is small
 
-some_counted : (test : ScriptWord → Bool) (small : Bool) (script : List ScriptWord) → ((w : ScriptWord) → has_small_number w ≡ true → test w ≡ true → small ≡ true) → list_all has_small_number script ≡ true → 0 < count_by test script → small ≡ true
+some_counted : (test : ScriptWord → Bool) (small : Bool) (script : List ScriptWord)
+    → ((w : ScriptWord) → has_small_number w ≡ true → test w ≡ true → small ≡ true) → list_all has_small_number script ≡ true → 0 < count_by test script → small ≡ true
 some_counted test small [] each all some = absurd (omega (arith, some))
-some_counted test small (w ∷ script) each all some = by_test (test w) refl (subst (λ (n : ℕ). 0 < n) (sum_by-cons (λ (v : ScriptWord). cond (test v) 1 0) w script) some) (some_counted test small script each parts.1)
+some_counted test small (w ∷ script) each all some =
+    by_test (test w) refl (subst (λ (n : ℕ). 0 < n) (sum_by-cons (λ (v : ScriptWord). cond (test v) 1 0) w script) some) (some_counted test small script each parts.1)
   where
     parts : (has_small_number w ≡ true) × (list_all has_small_number script ≡ true)
     parts = and_parts (has_small_number w) (list_all has_small_number script) all
@@ -90,8 +92,9 @@ module _ (system : System) (script : List ScriptWord) (small : list_all has_smal
 
 -- ---- the whole
 
-pub printed_explained : (May : System → List Entry → Entry → Type 0) (enough : System → List Entry → List ℕ → List ℕ → ClusterNo → Bool) (system : System) (script : List ScriptWord) (run : Run) (kernel : Kernel)
-    → IsGoodBy May enough system script run → plain_run system run.items ≡ Some kernel → list_all has_small_number script ≡ true → run.withheld < 2 ^ 64 → ExplainedBy May system (report_of kernel run ++ log_text_of run.log)
+pub printed_explained : (May : System → List Entry → Entry → Type 0) (enough : System → List Entry → List ℕ → List ℕ → ClusterNo → Bool) (system : System) (script : List ScriptWord)
+    (run : Run) (kernel : Kernel) → IsGoodBy May enough system script run → plain_run system run.items ≡ Some kernel
+    → list_all has_small_number script ≡ true → run.withheld < 2 ^ 64 → ExplainedBy May system (report_of kernel run ++ log_text_of run.log)
 printed_explained May enough system script run kernel good runs small few = record {
   log = run.log;
   run = run;

@@ -73,7 +73,8 @@ follows_1 = record { stands = record { placed = (refl, refl, refl); by_right = r
 
 follows_2 : MayStand hi_system (hi_0 ∷ hi_1 ∷ []) hi_2
 unfolding boot one_step steps silently plain_after schedule_of placement told is_over silent_upto emission_at before_fork_at backup_record account_after
-follows_2 = record { stands = record { placed = (refl, refl, refl); by_right = refl; applies = refl; kind = record { named = refl; silent = refl; still = refl } }; built = refl; limits = refl; new_page = refl; pages = refl }
+follows_2 = record { stands = record { placed = (refl, refl, refl); by_right = refl; applies = refl; kind = record { named = refl; silent = refl; still = refl } };
+  built = refl; limits = refl; new_page = refl; pages = refl }
 
 none_legal : IsLegalBy MayStand hi_system []
 unfolding IsLegalBy
@@ -90,7 +91,8 @@ hi_legal = (follows_0, (follows_1, (follows_2, tt)))
 -- ---- its section is explained
 
 abbrev hi_section : List ℕ
-hi_section = codes "tty 0 3\nhi\n\npid 16 exit 0\ncrash none\nbus 3 syncs 0 withheld 0\nschedule 2\nrun 16 6\nrun 16 4\nlog 3\n0 0 mail 16 at 6 out 0 tty 0 68690a\n1 0 exit 16 at 10 exit 0\n2 bus done\n"
+hi_section =
+    codes "tty 0 3\nhi\n\npid 16 exit 0\ncrash none\nbus 3 syncs 0 withheld 0\nschedule 2\nrun 16 6\nrun 16 4\nlog 3\n0 0 mail 16 at 6 out 0 tty 0 68690a\n1 0 exit 16 at 10 exit 0\n2 bus done\n"
 
 abbrev hi_run : Run
 hi_run = record { log = hi_0 ∷ hi_1 ∷ hi_2 ∷ []; items = Runs pid 6 ∷ Runs pid 4 ∷ []; ended = Finished; steps = []; disk_calls = []; withheld = 0 }
@@ -126,7 +128,8 @@ none_found = refl
 -- ---- the letter comes a step too early: its entry may not stand
 
 abbrev early_section : List ℕ
-early_section = codes "tty 0 3\nhi\n\npid 16 exit 0\ncrash none\nbus 3 syncs 0 withheld 0\nschedule 2\nrun 16 6\nrun 16 4\nlog 3\n0 0 mail 16 at 5 out 0 tty 0 68690a\n1 0 exit 16 at 10 exit 0\n2 bus done\n"
+early_section =
+    codes "tty 0 3\nhi\n\npid 16 exit 0\ncrash none\nbus 3 syncs 0 withheld 0\nschedule 2\nrun 16 6\nrun 16 4\nlog 3\n0 0 mail 16 at 5 out 0 tty 0 68690a\n1 0 exit 16 at 10 exit 0\n2 bus done\n"
 
 abbrev early_line : Told
 early_line = record { place = 0; by = ByCluster 0; what = ToldMail 16 5 (Shown 0 0 (104 ∷ 105 ∷ 10 ∷ [])) }

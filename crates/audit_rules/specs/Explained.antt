@@ -41,9 +41,9 @@ has_small_number (ReturnAt k place) = true
 
 -- ---- the whole
 
--- A log explains a section. The log is legal, by a rule of entries, and has ended. A run of this log has its schedule and its count of what was
--- withheld, and ended as it did; the section is the report of this run, where the kernel stands that the schedule leads to, and then the log. The
--- steps and disk calls in the log, and the count, are below 2^64.
+-- A log explains a section. The log is legal, by a rule of entries, and has ended. A run of this log has its schedule and its count of
+-- what was withheld, and ended as it did; the section is the report of this run, where the kernel stands that the schedule leads to, and
+-- then the log. The steps and disk calls at which clusters are lost, and the count, are below 2^64.
 pub record ExplainedBy (May : System → List Entry → Entry → Type 0) (system : System) (section : List ℕ) : Type 0 where
   pub log : List Entry
   pub run : Run

@@ -11,7 +11,8 @@ use Rattle.log_fetches.specs.declared.kept.Kept.{Kept}
 use Rattle.log_fetches.specs.Kept.{ChangesAmong, ChangesOnly, kept_in}
 
 -- where one process is changed by a function, each is changed that is this one
-pub changed : (change : Kept → Kept) (old new : List (ℕ × Kept)) (q : Pid) → ChangesOnly old new q (change (kept_in old q)) → (p : Pid) → kept_in new p ≡ cond (same_pid q p) (change (kept_in old p)) (kept_in old p)
+pub changed : (change : Kept → Kept) (old new : List (ℕ × Kept)) (q : Pid)
+    → ChangesOnly old new q (change (kept_in old q)) → (p : Pid) → kept_in new p ≡ cond (same_pid q p) (change (kept_in old p)) (kept_in old p)
 changed change old new q only p = by_test (same_pid q p) refl
   where
     by_test : (b : Bool) → same_pid q p ≡ b → kept_in new p ≡ cond b (change (kept_in old p)) (kept_in old p)
@@ -54,7 +55,8 @@ module _ (test : Placed → Bool) (change : Kept → Kept) (twice : (x : Kept) �
       always false b is = refl
 
   -- the process at a place, behind those in front of it
-  pub among_next : (placed : List Placed) (i : ℕ) (q : Placed) (x y z : List (ℕ × Kept)) → i < length placed → Some q ≡ slice_get placed i → ChangesAmong test change (take i placed) x y → ChangesAmong test change (q ∷ []) y z
+  pub among_next : (placed : List Placed) (i : ℕ) (q : Placed) (x y z : List (ℕ × Kept))
+      → i < length placed → Some q ≡ slice_get placed i → ChangesAmong test change (take i placed) x y → ChangesAmong test change (q ∷ []) y z
       → ChangesAmong test change (take (i + 1) placed) x z
   among_next placed i q x y z within at before one =
       let same : q ≡ get_or placed i q = same_Some q (get_or placed i q) (at ∙ slice_get-get_or placed i q within) in

@@ -35,12 +35,15 @@ unseen system p test = refl
 
 pub fetches_at_boot : (system : System) (new : List (ℕ × Kept)) → ChangesAmong (λ _. true) with_state (places_at_boot system).placed [] new → IsFetchesOf system [] new
 fetches_at_boot system new among p = record {
-  stated = ap (λ (k : Kept). k.stated) (among p) ∙ by_root (list_any (λ (q : Placed). same_pid q.pid p && true) (places_at_boot system).placed) ∙ ap (λ b. b || false) (among_roots p (roots_of system));
-  moved = ap (λ (k : Kept). k.moved) (among p) ∙ still_moved (list_any (λ (q : Placed). same_pid q.pid p && true) (places_at_boot system).placed) ∙ sym (unmoved system p);
-  asked = λ i. ap (λ (k : Kept). has_page k.asked i) (among p) ∙ unasked i (list_any (λ (q : Placed). same_pid q.pid p && true) (places_at_boot system).placed) ∙ sym (unseen system p (is_fetch p i));
-  come = λ i low. ap (λ (k : Kept). has_page k.come i) (among p) ∙ uncome i (list_any (λ (q : Placed). same_pid q.pid p && true) (places_at_boot system).placed) ∙ sym (unseen system p (is_page_is p i));
+  stated = ap (λ (k : Kept). k.stated) (among p) ∙ by_root (is_placed p) ∙ ap (λ b. b || false) (among_roots p (roots_of system));
+  moved = ap (λ (k : Kept). k.moved) (among p) ∙ still_moved (is_placed p) ∙ sym (unmoved system p);
+  asked = λ i. ap (λ (k : Kept). has_page k.asked i) (among p) ∙ unasked i (is_placed p) ∙ sym (unseen system p (is_fetch p i));
+  come = λ i low. ap (λ (k : Kept). has_page k.come i) (among p) ∙ uncome i (is_placed p) ∙ sym (unseen system p (is_page_is p i));
 }
   where
+    is_placed : Pid → Bool
+    is_placed p = list_any (λ (q : Placed). same_pid q.pid p && true) (places_at_boot system).placed
+
     by_root : (b : Bool) → (cond b (with_state nothing) nothing).stated ≡ (b || false)
     by_root true = refl
     by_root false = refl

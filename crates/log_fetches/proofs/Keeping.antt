@@ -101,10 +101,12 @@ fetches_after places old new e notes system log valid here stands is p =
       moved = n.moved ∙ (λ j. cond (moves j) (k.stated j) (k.moved j)) ∙ sym (moved_with_state-snoc system log e p);
       asked = λ i.
           n.asked i ∙ ap (λ b. cond b false ((is_fetch p i (what e) && nat_lt i 256) || has_page (kept_in old p).asked i)) moves
-          ∙ seen (moves_next system log e p) (is_fetch p i (what e)) (nat_lt i 256) (has_page (kept_in old p).asked i) (any_since_moved system log p (is_fetch p i)) (fetch_low system log e p i valid stands) (k.asked i)
+          ∙ seen (moves_next system log e p) (is_fetch p i (what e)) (nat_lt i 256) (has_page (kept_in old p).asked i) (any_since_moved system log p (is_fetch p i))
+          (fetch_low system log e p i valid stands) (k.asked i)
           ∙ sym (any_since-snoc system log e p (is_fetch p i));
       come = λ i low.
           n.come i ∙ ap (λ b. cond b false ((is_page_is p i (what e) && nat_lt i 256) || has_page (kept_in old p).come i)) moves
-          ∙ seen (moves_next system log e p) (is_page_is p i (what e)) (nat_lt i 256) (has_page (kept_in old p).come i) (any_since_moved system log p (is_page_is p i)) (λ _. is_below i 256 low) (k.come i low)
+          ∙ seen (moves_next system log e p) (is_page_is p i (what e)) (nat_lt i 256) (has_page (kept_in old p).come i) (any_since_moved system log p (is_page_is p i))
+          (λ _. is_below i 256 low) (k.come i low)
           ∙ sym (any_since-snoc system log e p (is_page_is p i));
     }

@@ -33,7 +33,8 @@ pub none_there : (i : ℕ) → has_page no_pages i ≡ false
 none_there i = ap (λ w. eqb (bit_at w (i % 64)) 1) (zeros (i / 64)) ∙ ap (λ b. eqb b 1) (bit_at-zero (i % 64))
 
 -- an entry that cuts and moves nothing, asks for no page, and brings none
-pub notes_none : (places : Places) (w : What) (kept : List (ℕ × Kept)) → cluster_lost w ≡ None → ((p : Pid) → is_cut p w ≡ false) → ((p : Pid) (i : ℕ) → is_fetch p i w ≡ false) → ((p : Pid) (i : ℕ) → is_page_is p i w ≡ false)
+pub notes_none : (places : Places) (w : What) (kept : List (ℕ × Kept))
+    → cluster_lost w ≡ None → ((p : Pid) → is_cut p w ≡ false) → ((p : Pid) (i : ℕ) → is_fetch p i w ≡ false) → ((p : Pid) (i : ℕ) → is_page_is p i w ≡ false)
     → Notes places w kept kept
 notes_none places w kept unlost uncut unasked uncome p =
     let k : Kept = kept_in kept p in
@@ -46,7 +47,8 @@ notes_none places w kept unlost uncut unasked uncome p =
     }
 
 -- a synchronisation
-pub notes_sync : (places : Places) (pid : Pid) (small : SmallState) (read : List ℕ) (took : Option ℕ) (old new : List (ℕ × Kept)) → ChangesOnly old new pid (with_state (kept_in old pid)) → Notes places (Sync pid small read took) old new
+pub notes_sync : (places : Places) (pid : Pid) (small : SmallState) (read : List ℕ) (took : Option ℕ) (old new : List (ℕ × Kept))
+    → ChangesOnly old new pid (with_state (kept_in old pid)) → Notes places (Sync pid small read took) old new
 notes_sync places pid small read took old new only p = record {
   stated = ap (λ (k : Kept). k.stated) is ∙ now_stated (same_pid pid p);
   moved = ap (λ (k : Kept). k.moved) is ∙ still_moved (same_pid pid p);
@@ -74,7 +76,8 @@ notes_sync places pid small read took old new only p = record {
     still_come i false = refl
 
 -- a new backup
-pub notes_rebackup : (places : Places) (to : ClusterNo) (fresh : Bool) (recs : List BackRec) (old new : List (ℕ × Kept)) → ((p : Pid) → kept_in new p ≡ stated_first fresh recs p (kept_in old p)) → Notes places (Rebackup to fresh recs) old new
+pub notes_rebackup : (places : Places) (to : ClusterNo) (fresh : Bool) (recs : List BackRec) (old new : List (ℕ × Kept))
+    → ((p : Pid) → kept_in new p ≡ stated_first fresh recs p (kept_in old p)) → Notes places (Rebackup to fresh recs) old new
 notes_rebackup places to fresh recs old new is p = record {
   stated = ap (λ (k : Kept). k.stated) (is p);
   moved = ap (λ (k : Kept). k.moved) (is p);
@@ -87,8 +90,10 @@ first_is : (recs : List BackRec) (r : BackRec) → Some r ≡ slice_get recs 0 �
 first_is [] r at p = cc
 first_is (f ∷ recs) r at p = ap (λ (q : BackRec). same_pid q.pid p) (same_Some f r (sym at))
 
-pub stated_one : (recs : List BackRec) (r : BackRec) (old new : List (ℕ × Kept)) → Some r ≡ slice_get recs 0 → ChangesOnly old new r.pid (with_state (kept_in old r.pid)) → (p : Pid) → kept_in new p ≡ stated_first true recs p (kept_in old p)
-stated_one recs r old new at only p = changed with_state old new r.pid only p ∙ by_test (same_pid r.pid p) ∙ ap (λ b. stated_by b (kept_in old p)) (sym (first_is recs r at p))
+pub stated_one : (recs : List BackRec) (r : BackRec) (old new : List (ℕ × Kept))
+    → Some r ≡ slice_get recs 0 → ChangesOnly old new r.pid (with_state (kept_in old r.pid)) → (p : Pid) → kept_in new p ≡ stated_first true recs p (kept_in old p)
+stated_one recs r old new at only p =
+    changed with_state old new r.pid only p ∙ by_test (same_pid r.pid p) ∙ ap (λ b. stated_by b (kept_in old p)) (sym (first_is recs r at p))
   where
     stated_by : Bool → Kept → Kept
     stated_by b k = record { stated = b || k.stated; moved = k.moved; asked = k.asked; come = k.come }

@@ -13,8 +13,8 @@ use Rattle.log_fetches.specs.declared.kept.Kept.{Kept}
 use Rattle.log_fetches.specs.Pages.{has_page}
 use Rattle.log_fetches.specs.Kept.{kept_in}
 
--- What is kept of a process is what a log says: whether its record has a state, and whether the last loss that moved it found one; and which pages
--- were asked for since, and which of the first 256 have come.
+-- What is kept of a process is what a log says: whether its record has a state, and whether the last loss that moved it found one; and
+-- which pages were asked for since, and which of the first 256 have come.
 pub record IsKeptOf (system : System) (log : List Entry) (p : Pid) (k : Kept) : Type 0 where
   pub stated : k.stated ≡ has_state system log p
   pub moved : k.moved ≡ moved_with_state system log p
@@ -27,4 +27,5 @@ IsFetchesOf system log kept = (p : Pid) → IsKeptOf system log p (kept_in kept 
 
 -- what is kept is that of a log with this placement, and then of the log with an entry that stands next in it
 abbrev pub KeepsFetches : Places → List (ℕ × Kept) → List (ℕ × Kept) → Entry → Type 0
-KeepsFetches places old new e = (system : System) (log : List Entry) → is_system system ≡ true → placement system log ≡ places → Stands system log e → IsFetchesOf system log old → IsFetchesOf system (log ++ e ∷ []) new
+KeepsFetches places old new e = (system : System) (log : List Entry) → is_system system ≡ true → placement system log ≡ places →
+    Stands system log e → IsFetchesOf system log old → IsFetchesOf system (log ++ e ∷ []) new

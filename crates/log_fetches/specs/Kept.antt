@@ -1,5 +1,5 @@
 -- What is kept of each process of a log, entry by entry.
-use Rattle.std.specs.Prelude.{ℕ, ◌≡◌, ◌==◌, nat_lt, Bool, true, false, ◌&&◌, ◌||◌, if◌then◌else◌, List, [], ◌∷◌}
+use Rattle.std.specs.Prelude.{ℕ, ◌≡◌, ◌==◌, Bool, true, false, ◌&&◌, ◌||◌, if◌then◌else◌, List, [], ◌∷◌}
 use Rattle.std.specs.BTreeMap.{is_at}
 use Rattle.std.specs.List.{list_any}
 use Rattle.std.specs.Map.{lookup}
@@ -14,7 +14,7 @@ use Rattle.cert_sched.specs.Deeds.{is_cut, is_first}
 use Rattle.cert_sched.specs.Moved.{is_fetch, is_page_is}
 use Rattle.cert_sched.specs.Told.{cluster_lost, is_moved}
 use Rattle.log_fetches.specs.declared.kept.Kept.{Kept}
-use Rattle.log_fetches.specs.Pages.{has_page}
+use Rattle.log_fetches.specs.Pages.{has_page, is_page_no}
 
 abbrev pub no_pages : List ℕ
 no_pages = 0 ∷ 0 ∷ 0 ∷ 0 ∷ []
@@ -45,13 +45,13 @@ stated_first fresh recs p k = record { stated = (fresh && is_first p recs) || k.
 abbrev pub moves_at : Places → What → Pid → Bool
 moves_at places w p = option_map_or (is_moved p places) (cluster_lost w) false
 
--- What an entry makes of what is kept of a process. A cut gives its record a state, and a loss that moves it finds a state in that or none. Such a
--- loss leaves no page that was asked for or came; otherwise the entry adds the page that it asks for, or that it brings.
+-- What an entry makes of what is kept of a process. A cut gives its record a state, and a loss that moves it finds a state in that or
+-- none. Such a loss leaves no page that was asked for or came; otherwise the entry adds the page that it asks for, or that it brings.
 pub record IsKeptAfter (places : Places) (w : What) (p : Pid) (old new : Kept) : Type 0 where
   pub stated : new.stated ≡ (is_cut p w || old.stated)
   pub moved : new.moved ≡ (if moves_at places w p then old.stated else old.moved)
-  pub asked : (i : ℕ) → has_page new.asked i ≡ (if moves_at places w p then false else (is_fetch p i w && nat_lt i 256) || has_page old.asked i)
-  pub come : (i : ℕ) → has_page new.come i ≡ (if moves_at places w p then false else (is_page_is p i w && nat_lt i 256) || has_page old.come i)
+  pub asked : (i : ℕ) → has_page new.asked i ≡ (if moves_at places w p then false else (is_fetch p i w && is_page_no i) || has_page old.asked i)
+  pub come : (i : ℕ) → has_page new.come i ≡ (if moves_at places w p then false else (is_page_is p i w && is_page_no i) || has_page old.come i)
 
 -- ---- all of them
 
@@ -70,7 +70,7 @@ pub record Asks (old new : List (ℕ × Kept)) (p : Pid) (index : ℕ) : Type 0 
   pub only : ChangesOnly old new p now
   pub stated : now.stated ≡ (kept_in old p).stated
   pub moved : now.moved ≡ (kept_in old p).moved
-  pub asked : (i : ℕ) → has_page now.asked i ≡ ((index == i && nat_lt i 256) || has_page (kept_in old p).asked i)
+  pub asked : (i : ℕ) → has_page now.asked i ≡ ((index == i && is_page_no i) || has_page (kept_in old p).asked i)
   pub come : now.come ≡ (kept_in old p).come
 
 -- a page of the process has come
@@ -80,9 +80,9 @@ pub record Comes (old new : List (ℕ × Kept)) (p : Pid) (index : ℕ) : Type 0
   pub stated : now.stated ≡ (kept_in old p).stated
   pub moved : now.moved ≡ (kept_in old p).moved
   pub asked : now.asked ≡ (kept_in old p).asked
-  pub come : (i : ℕ) → has_page now.come i ≡ ((index == i && nat_lt i 256) || has_page (kept_in old p).come i)
+  pub come : (i : ℕ) → has_page now.come i ≡ ((index == i && is_page_no i) || has_page (kept_in old p).come i)
 
 -- those of these that pass a test are changed so
 abbrev pub ChangesAmong : (Placed → Bool) → (Kept → Kept) → List Placed → List (ℕ × Kept) → List (ℕ × Kept) → Type 0
-ChangesAmong test change placed old new =
-    (p : Pid) → kept_in new p ≡ (if list_any (λ (q : Placed). same_pid q.pid p && test q) placed then change (kept_in old p) else kept_in old p)
+ChangesAmong test change placed old new = (p : Pid) →
+    kept_in new p ≡ (if list_any (λ (q : Placed). same_pid q.pid p && test q) placed then change (kept_in old p) else kept_in old p)

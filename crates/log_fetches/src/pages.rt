@@ -1,7 +1,7 @@
 //! Sets of pages of a process, by their numbers.
-ghost use Rattle.std.specs.Prelude.{◌≡◌, ◌≤◌, ◌||◌, ◌&&◌, ◌==◌, ℕ, nat_lt};
+ghost use Rattle.std.specs.Prelude.{◌≡◌, ◌≤◌, ◌||◌, ◌&&◌, ◌==◌, ℕ};
 ghost use Rattle.std.specs.List.{list_all, range_with_len};
-ghost use Rattle.log_fetches.specs.Pages.{has_page};
+ghost use Rattle.log_fetches.specs.Pages.{has_page, is_page_no};
 
 /// Numbers below 256, a bit for each: a process has no page with a higher one.
 pub type Pages = [u64; 4];
@@ -22,7 +22,7 @@ pub fn has_page(pages: &Pages, index: u64) -> bool
 
 /// Puts the page into the set, if its number is below 256. Takes no memory.
 pub fn put_page(pages: &mut Pages, index: u16)
-    ensures { (i : ℕ) → has_page pages.new i ≡ ((index == i && nat_lt i 256) || has_page pages.old i) }
+    ensures { (i : ℕ) → has_page pages.new i ≡ ((index == i && is_page_no i) || has_page pages.old i) }
 {
     if index < 256 {
         pages[usize::from(index / 64)] |= 1 << (index % 64);

@@ -17,7 +17,8 @@ loop-index-preserved c =
     let within : i < length placed = omega (arith, c.loop-index-test.true, c.len-index-end.ensures.number) in
     elim c.match-at.branch [
       | in-Some+in_ok-state w ↦ (subst (λ (m : BTreeMap ℕ Kept). ChangesAmong test with_state (take (i + 1) placed) c.args.kept.now.entries m.entries) (sym w.kept-is)
-          (among_next test with_state (λ x. refl) placed i w.in-Some.root c.args.kept.now.entries c.loop-index.kept.entries w.state.new.kept.entries within (sym w.in-Some.is ∙ c.at.ensures) c.loop-index.invariant
+          (among_next test with_state (λ x. refl) placed i w.in-Some.root c.args.kept.now.entries c.loop-index.kept.entries w.state.new.kept.entries
+          within (sym w.in-Some.is ∙ c.at.ensures) c.loop-index.invariant
           (among_one test with_state (λ x. refl) w.in-Some.root c.loop-index.kept.entries w.state.new.kept.entries refl w.in_ok-state.ensures)))
       | in_default w ↦ absurd (none_beyond placed i within (sym w.in_default.is ∙ c.at.ensures))
     ]

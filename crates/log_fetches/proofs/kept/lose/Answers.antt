@@ -18,6 +18,7 @@ loop-index-preserved c =
     let within : i < length placed = omega (arith, c.loop-index-test.true, c.len-index-end.ensures.number) in
     elim c.match-at.branch [
       | in-Some w ↦ (subst (λ (m : BTreeMap ℕ Kept). ChangesAmong test begun_again (take (i + 1) placed) c.args.kept.now.entries m.entries) (sym w.kept-is)
-          (among_next test begun_again (λ x. refl) placed i w.in-Some.placed c.args.kept.now.entries c.loop-index.kept.entries w.lose_if_moved.new.kept.entries within (sym w.in-Some.is ∙ c.at.ensures) c.loop-index.invariant w.lose_if_moved.ensures))
+          (among_next test begun_again (λ x. refl) placed i w.in-Some.placed c.args.kept.now.entries c.loop-index.kept.entries w.lose_if_moved.new.kept.entries
+          within (sym w.in-Some.is ∙ c.at.ensures) c.loop-index.invariant w.lose_if_moved.ensures))
       | in_default w ↦ absurd (none_beyond placed i within (sym w.in_default.is ∙ c.at.ensures))
     ]
