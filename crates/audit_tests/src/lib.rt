@@ -2,6 +2,8 @@
 #![tactic(auto)]
 
 #[cfg(test)]
+mod fetched;
+#[cfg(test)]
 mod lines;
 #[cfg(test)]
 mod sent;

@@ -277,12 +277,12 @@ settled_alike : (system : System) (k : ClusterNo) (known places : Places) (owed 
 settled_alike system k known places owed knows = ap (λ t. filter t owed) (λ i n. next_alike system k known places knows (pid_of n) i)
 
 -- so the same ones wait after an entry
-pub owed_alike : (system : System) (k : ClusterNo) (known places : Places) (w : What) (owed : List ℕ) → is_built w ≡ true → is_rebackup w ≡ false → KnowsPlaces system k known places
+pub owed_alike : (system : System) (k : ClusterNo) (known places : Places) (w : What) (owed : List ℕ) → is_rebackup w ≡ false → KnowsPlaces system k known places
     → owed_after k known w owed ≡ owed_after k places w owed
-owed_alike system k known places (Crash lost cause) owed built other knows =
-    settled_alike system k (placed_after known (Crash lost cause)) (placed_after places (Crash lost cause)) (with_pids owed (pids_waiting lost k known.placed)) (known_after system k known places (Crash lost cause) refl refl knows)
+owed_alike system k known places (Crash lost cause) owed other knows =
+    settled_alike system k (placed_after known (Crash lost cause)) (placed_after places (Crash lost cause)) (with_pids owed (pids_waiting lost k known.placed)) (known_after system k known places (Crash lost cause) refl knows)
     ∙ ap (λ ks. to_back (placed_after places (Crash lost cause)) (with_pids owed ks)) (waiting_alike system k lost known.placed places.placed knows.placed)
-owed_alike system k known places (Exit pid at end) owed built other knows =
-    settled_alike system k (placed_after known (Exit pid at end)) (placed_after places (Exit pid at end)) owed (known_after system k known places (Exit pid at end) refl refl knows)
-owed_alike system k known places (Rebackup to fresh recs) owed built other knows = absurd (true≢false other)
-owed_alike system k known places _ owed built other knows = refl
+owed_alike system k known places (Exit pid at end) owed other knows =
+    settled_alike system k (placed_after known (Exit pid at end)) (placed_after places (Exit pid at end)) owed (known_after system k known places (Exit pid at end) refl knows)
+owed_alike system k known places (Rebackup to fresh recs) owed other knows = absurd (true≢false other)
+owed_alike system k known places _ owed other knows = refl

@@ -186,7 +186,7 @@ module _ (c : ClusterView) (log : List Entry) (e : Entry) (server : Option Pager
   queue_is = sym (queues_alike c.system k c.places places (what e) c.queue (f.log).places)
 
   owed_are : taken.owed ≡ heard.owed
-  owed_are = sym (owed_alike c.system k c.places places (what e) c.owed may.built unrenewed (f.log).places)
+  owed_are = sym (owed_alike c.system k c.places places (what e) c.owed unrenewed (f.log).places)
 
   as_heard : taken ≡ alike heard taken.cursor taken.places taken.family taken.steps
   as_heard = λ i. record heard { cursor = taken.cursor; places = taken.places; here = here_is i; records = recs_are i; family = taken.family; owed = owed_are i; queue = queue_is i; steps = taken.steps }

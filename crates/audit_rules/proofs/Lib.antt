@@ -1,0 +1,4 @@
+mod Fronts
+mod Printed
+mod Found
+mod Worked

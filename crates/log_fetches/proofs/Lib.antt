@@ -1,0 +1,6 @@
+mod Bits
+mod Among
+mod Notes
+mod Keeping
+mod Booting
+mod Coming

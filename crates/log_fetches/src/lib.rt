@@ -1,0 +1,6 @@
+//! Which pages each process of a log asked for, and which have come, since a loss moved it.
+#![tactic(auto)]
+
+pub mod fetches;
+mod kept;
+mod pages;
