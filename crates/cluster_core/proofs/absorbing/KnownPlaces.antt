@@ -248,15 +248,12 @@ waiting_alike : (system : System) (k lost : ClusterNo) (known qs : List Placed) 
 waiting_alike system k lost [] [] knows = refl
 waiting_alike system k lost [] (q ∷ qs) knows = absurd knows
 waiting_alike system k lost (p ∷ known) [] knows = absurd knows
-waiting_alike system k lost (p ∷ known) (q ∷ qs) knows = waiting_more lost k p known ∙ by_head knows.0 ∙ sym (waiting_more lost k q qs)
+waiting_alike system k lost (p ∷ known) (q ∷ qs) knows = waiting_more lost k p known ∙ by_head (waiting_alike system k lost known qs knows.1) knows.0 ∙ sym (waiting_more lost k q qs)
   where
-    rest : pids_waiting lost k known ≡ pids_waiting lost k qs
-    rest = waiting_alike system k lost known qs knows.1
-
-    by_head : KnowsPlaced system k p q
+    by_head : pids_waiting lost k known ≡ pids_waiting lost k qs → KnowsPlaced system k p q
         → cond (begins_wait lost k p) ((p.pid).0 ∷ pids_waiting lost k known) (pids_waiting lost k known) ≡ cond (begins_wait lost k q) ((q.pid).0 ∷ pids_waiting lost k qs) (pids_waiting lost k qs)
-    by_head (inl is) = λ i. cond (begins_wait lost k (is i)) (((is i).pid).0 ∷ rest i) (rest i)
-    by_head (inr m) = λ i. cond (begins_wait lost k (m.1 i)) (((m.1 i).pid).0 ∷ rest i) (rest i)
+    by_head rest (inl is) = λ i. cond (begins_wait lost k (is i)) (((is i).pid).0 ∷ rest i) (rest i)
+    by_head rest (inr m) = λ i. cond (begins_wait lost k (m.1 i)) (((m.1 i).pid).0 ∷ rest i) (rest i)
 
 -- a process gets the same new backup
 next_alike : (system : System) (k : ClusterNo) (known places : Places) → KnowsPlaces system k known places → (p : Pid) → is_some (next_backup_at known p) ≡ is_some (next_backup_at places p)
@@ -280,7 +277,8 @@ settled_alike system k known places owed knows = ap (λ t. filter t owed) (λ i 
 pub owed_alike : (system : System) (k : ClusterNo) (known places : Places) (w : What) (owed : List ℕ) → is_rebackup w ≡ false → KnowsPlaces system k known places
     → owed_after k known w owed ≡ owed_after k places w owed
 owed_alike system k known places (Crash lost cause) owed other knows =
-    settled_alike system k (placed_after known (Crash lost cause)) (placed_after places (Crash lost cause)) (with_pids owed (pids_waiting lost k known.placed)) (known_after system k known places (Crash lost cause) refl knows)
+    settled_alike system k (placed_after known (Crash lost cause)) (placed_after places (Crash lost cause)) (with_pids owed (pids_waiting lost k known.placed))
+    (known_after system k known places (Crash lost cause) refl knows)
     ∙ ap (λ ks. to_back (placed_after places (Crash lost cause)) (with_pids owed ks)) (waiting_alike system k lost known.placed places.placed knows.placed)
 owed_alike system k known places (Exit pid at end) owed other knows =
     settled_alike system k (placed_after known (Exit pid at end)) (placed_after places (Exit pid at end)) owed (known_after system k known places (Exit pid at end) refl knows)

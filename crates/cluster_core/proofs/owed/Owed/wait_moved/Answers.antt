@@ -1,4 +1,4 @@
-use Rattle.std.proofs.Common.{◌≡◌, ◌+◌, ◌<◌, ◌∙◌, sym, length, arith}
+use Rattle.std.proofs.Common.{◌<◌, ◌∙◌, sym, length, arith}
 use Rattle.cluster_core.proofs.awaiting.Pids.{none_beyond, waiting_next}
 use Rattle.cluster_core.proofs.owed.Owed.wait_moved.Goals as goal
 use Rattle.cluster_core.proofs.owed.Owed.wait_moved.Goals.{in-Some+in_ok-wait_if_moved, in_default}
