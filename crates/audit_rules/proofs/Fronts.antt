@@ -52,6 +52,7 @@ take_all [] = refl
 take_all (l ∷ lines) = ap (λ ls. l ∷ ls) (take_all lines)
 
 -- nor does one have all lines
-pub refused_whole : (May : System → List Entry → Entry → Type 0) (system : System) (lines : List Told) (index : ℕ) → IsRefusedAt May system lines index → (log : List Entry) → HasLines May system lines log → ⊥
+pub refused_whole : (May : System → List Entry → Entry → Type 0) (system : System) (lines : List Told) (index : ℕ)
+    → IsRefusedAt May system lines index → (log : List Entry) → HasLines May system lines log → ⊥
 refused_whole May system lines index r log has =
     refused May system lines index r log (length lines) has.legal (has.said ∙ sym (take_all lines)) (slice_get_within lines index r.line r.there)

@@ -73,8 +73,13 @@ follows_1 = record { stands = record { placed = (refl, refl, refl); by_right = r
 
 follows_2 : MayStand hi_system (hi_0 ∷ hi_1 ∷ []) hi_2
 unfolding boot one_step steps silently plain_after schedule_of placement told is_over silent_upto emission_at before_fork_at backup_record account_after
-follows_2 = record { stands = record { placed = (refl, refl, refl); by_right = refl; applies = refl; kind = record { named = refl; silent = refl; still = refl } };
-  built = refl; limits = refl; new_page = refl; pages = refl }
+follows_2 = record {
+  stands = record { placed = (refl, refl, refl); by_right = refl; applies = refl; kind = record { named = refl; silent = refl; still = refl } };
+  built = refl;
+  limits = refl;
+  new_page = refl;
+  pages = refl;
+}
 
 none_legal : IsLegalBy MayStand hi_system []
 unfolding IsLegalBy

@@ -21,13 +21,17 @@ use log_section::printed_sections_are_form;
 /// A law and no code: what is printed of a run is explained, where the run is what its system and its script allow and
 /// its schedule leads to the kernel. The numbers of the script, and of what was withheld, are below 2^64.
 pub fn printed_runs_are_explained()
-    ensures { (enough : System → List Entry → List ℕ → List ℕ → ClusterNo → Bool) (system : System) (script : List ScriptWord) (run : Run) (kernel : Kernel) → IsGoodBy MayStand enough system script run → plain_run system run.items ≡ Some kernel → list_all has_small_number script ≡ true → run.withheld < 2 ^ 64 → ExplainedBy MayStand system (report_of kernel run ++ log_text_of run.log) }
+    ensures { (enough : System → List Entry → List ℕ → List ℕ → ClusterNo → Bool) (system : System) (script : List ScriptWord) (run : Run)
+        (kernel : Kernel) → IsGoodBy MayStand enough system script run → plain_run system run.items ≡ Some kernel →
+        list_all has_small_number script ≡ true → run.withheld < 2 ^ 64 →
+        ExplainedBy MayStand system (report_of kernel run ++ log_text_of run.log) }
 {}
 
 /// A law and no code: a section that is explained is of the form, and the lines of its log are those of the log that
 /// explains it, where each number that is printed is below 2^64.
 pub fn explained_sections_are_form()
-    ensures { (system : System) (section : List ℕ) (is : ExplainedBy MayStand system section) → KernelFits is.kernel → RunFits is.run → IsForm section (map told_of is.log) }
+    ensures { (system : System) (section : List ℕ) (is : ExplainedBy MayStand system section) → KernelFits is.kernel → RunFits is.run →
+        IsForm section (map told_of is.log) }
 {
     printed_sections_are_form()
 }

@@ -11,9 +11,11 @@ use crate::explained::explained_sections_are_form;
 
 /// A law and no code: there is one finding against a section and no other,
 pub fn findings_differ()
-    ensures one { (system : System) (section : List ℕ) (found other : Finding) → AuditCause MayStand system section found → AuditCause MayStand system section other → found ≡ other }
+    ensures one { (system : System) (section : List ℕ) (found other : Finding) → AuditCause MayStand system section found →
+        AuditCause MayStand system section other → found ≡ other }
     // and none against one that is explained, where each number that is printed is below 2^64.
-    ensures none { (system : System) (section : List ℕ) (is : ExplainedBy MayStand system section) → KernelFits is.kernel → RunFits is.run → (found : Finding) → AuditCause MayStand system section found → ⊥ }
+    ensures none { (system : System) (section : List ℕ) (is : ExplainedBy MayStand system section) → KernelFits is.kernel → RunFits is.run →
+        (found : Finding) → AuditCause MayStand system section found → ⊥ }
 {
     explained_sections_are_form()
 }

@@ -98,7 +98,7 @@ stated_one recs r old new at only p =
     stated_by : Bool → Kept → Kept
     stated_by b k = record { stated = b || k.stated; moved = k.moved; asked = k.asked; come = k.come }
 
-    by_test : (b : Bool) → cond b (with_state (kept_in old p)) (kept_in old p) ≡ record { stated = b || (kept_in old p).stated; moved = (kept_in old p).moved; asked = (kept_in old p).asked; come = (kept_in old p).come }
+    by_test : (b : Bool) → cond b (with_state (kept_in old p)) (kept_in old p) ≡ stated_by b (kept_in old p)
     by_test true = refl
     by_test false = refl
 

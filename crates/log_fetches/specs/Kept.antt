@@ -50,8 +50,10 @@ moves_at places w p = option_map_or (is_moved p places) (cluster_lost w) false
 pub record IsKeptAfter (places : Places) (w : What) (p : Pid) (old new : Kept) : Type 0 where
   pub stated : new.stated ≡ (is_cut p w || old.stated)
   pub moved : new.moved ≡ (if moves_at places w p then old.stated else old.moved)
-  pub asked : (i : ℕ) → has_page new.asked i ≡ (if moves_at places w p then false else (is_fetch p i w && is_page_no i) || has_page old.asked i)
-  pub come : (i : ℕ) → has_page new.come i ≡ (if moves_at places w p then false else (is_page_is p i w && is_page_no i) || has_page old.come i)
+  pub asked : (i : ℕ) →
+      has_page new.asked i ≡ (if moves_at places w p then false else (is_fetch p i w && is_page_no i) || has_page old.asked i)
+  pub come : (i : ℕ) →
+      has_page new.come i ≡ (if moves_at places w p then false else (is_page_is p i w && is_page_no i) || has_page old.come i)
 
 -- ---- all of them
 

@@ -65,16 +65,18 @@ impl Fetches {
 
     /// Whether a page of a process was asked for since the last loss that moved it. Takes no memory.
     pub fn asked(&self, pid: Pid, index: u64) -> bool
-        ensures { (system : System) (log : List Entry) → IsFetchesOf system log self.now → result ≡ any_since_moved system log pid (is_fetch pid index) }
+        ensures { (system : System) (log : List Entry) → IsFetchesOf system log self.now →
+            result ≡ any_since_moved system log pid (is_fetch pid index) }
     {
         has_page(&kept_of(&self.kept, pid).asked, index)
     }
 
-    /// Whether a process, of so many pages, has got each of them since the last loss that moved it, or that found no
-    /// state in its record. Takes no memory.
+    /// Whether a process, of so many pages, has got each of them since the last loss that moved it. One whose record had
+    /// no state then, or that no loss moved, has them all. Takes no memory.
     pub fn all_come(&self, pid: Pid, pages: u16) -> bool
         requires { pages ≤ 256 }
-        ensures { (system : System) (log : List Entry) → IsFetchesOf system log self.now → page_count system log pid ≡ pages → result ≡ has_its_pages system log pid }
+        ensures { (system : System) (log : List Entry) → IsFetchesOf system log self.now → page_count system log pid ≡ pages →
+            result ≡ has_its_pages system log pid }
     {
         let kept = kept_of(&self.kept, pid);
         !kept.moved || has_first(&kept.come, pages)
