@@ -1,6 +1,4 @@
 pub mod Telling
-pub mod Standing
-pub mod Told
 pub mod Unmoved
 pub mod AfterSent
 pub mod Spared

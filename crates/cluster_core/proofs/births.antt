@@ -1,4 +1,3 @@
-pub mod ChildFirst
 pub mod BirthStayed
 pub mod BirthHomes
 pub mod FamilyNext

@@ -1,12 +1,7 @@
-pub mod ForkStanding
-pub mod KeepsForking
 pub mod ForksAgain
 pub mod ForksBorn
 pub mod ForksPaged
-pub mod Forked
 pub mod CanFork
-pub mod KeptForks
-pub mod ForkedHere
 pub mod BegunChild
 pub mod ForkedFamily
 pub mod ForkedOn

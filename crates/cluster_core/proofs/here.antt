@@ -1,10 +1,4 @@
-pub mod Quanta
 pub mod Here
-pub mod Slots
-pub mod Kept
-pub mod Free
-pub mod Acting
-pub mod Choosing
 pub mod Beside
 pub mod Owning
 pub mod Within

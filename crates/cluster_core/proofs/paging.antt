@@ -1,5 +1,3 @@
-pub mod Asking
-pub mod Coming
 pub mod HasPages
 pub mod PagePosts
 pub mod Waiting

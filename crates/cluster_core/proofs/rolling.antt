@@ -1,6 +1,3 @@
-pub mod RollingParts
-pub mod RollingQuantum
-pub mod RollingSlots
 pub mod Catching
 pub mod RollsAgain
 pub mod GoingHeld

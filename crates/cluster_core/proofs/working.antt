@@ -1,5 +1,4 @@
 pub mod WorkedOn
-pub mod RestTold
 pub mod KeptLimits
 pub mod Working
 pub mod Resting

@@ -11,9 +11,9 @@ use Rattle.bus_msg.specs.declared.entry.Entry.{Entry}
 use Rattle.bus_msg.specs.PlacedAfter.{what}
 use Rattle.cert_sched.specs.Deeds.{is_end_of}
 use Rattle.backup_records.specs.Records.{records_after}
-use Rattle.cluster_core.specs.Bearing.{CanBear}
-use Rattle.cluster_core.specs.Resident.{CanComeTo}
-use Rattle.cluster_core.specs.View.{Held, held_of}
+use Rattle.residents.specs.Bearing.{CanBear}
+use Rattle.residents.specs.Resident.{CanComeTo}
+use Rattle.residents.specs.Held.{Held, held_of}
 
 -- the cluster is one of those that an entry goes to
 abbrev pub goes_to : Dests → ClusterNo → Bool

@@ -8,13 +8,12 @@ use Rattle.t32_base.specs.declared.letter.BackRec.{BackRec}
 use Rattle.sys_text.specs.declared.system.System.{System}
 use Rattle.proc_state.specs.declared.process.Process.{Process}
 use Rattle.proc_state.specs.State.{ProcState}
-use Rattle.plain_kernel.specs.Maps.{AreFresh, at_key, linked_processes, pid_of}
-use Rattle.plain_kernel.specs.Maps.{processes_of as states_of}
+use Rattle.plain_kernel.specs.Maps.{AreFresh, at_key, linked_processes, pid_of, processes_of as states_of}
 use Rattle.bus_msg.specs.declared.placed.Placed.{Placed}
 use Rattle.bus_msg.specs.Places.{Places, is_cluster, unended_at}
 use Rattle.backup_records.specs.Records.{record_in}
 use Rattle.log_laws.specs.records.Kept.{record_at_boot}
-use Rattle.cluster_core.specs.View.{Held, Runs}
+use Rattle.residents.specs.Held.{Held, Runs}
 
 -- a pid of a root belongs to the cluster where that is at home: its number modulo 16 is the cluster's
 abbrev pub belongs_to : ClusterNo → ℕ → Bool

@@ -1,9 +1,8 @@
 -- What the calls on a cluster ask and promise. What a call asks holds of some log; what it promises, of every log that the cluster follows.
-use Rattle.std.specs.Prelude.{ℕ, ◌+◌, ◌≡◌, ◌≢◌, ◌⊎◌, ◌&&◌, Bool, true, false, not, if◌then◌else◌, List, [], ◌∷◌, ◌++◌, map, filter, Some, None, is_none, ⊤}
+use Rattle.std.specs.Prelude.{ℕ, ◌+◌, ◌≡◌, ◌≢◌, ◌⊎◌, ◌&&◌, Bool, true, false, not, List, [], ◌∷◌, ◌++◌, filter, Some, None, is_none, ⊤}
 use Rattle.std.specs.List.{list_all}
 use Rattle.t32_base.specs.declared.process.Pid.{Pid}
 use Rattle.t32_base.specs.declared.process.ClusterNo.{ClusterNo}
-use Rattle.t32_base.specs.declared.letter.Letter.{Letter}
 use Rattle.sys_text.specs.declared.system.System.{System}
 use Rattle.proc_state.specs.declared.process.Process.{Process}
 use Rattle.proc_state.specs.State.{state_of}
@@ -15,7 +14,6 @@ use Rattle.bus_msg.specs.declared.entry.Post.{Post}
 use Rattle.bus_msg.specs.Places.{same_pid, servers_in}
 use Rattle.bus_msg.specs.PlacedAfter.{what, placed_after}
 use Rattle.cert_sched.specs.Built.{MayStand}
-use Rattle.cert_sched.specs.Deeds.{is_end_of}
 use Rattle.cert_sched.specs.Losses.{is_by_cluster, is_crash_of, is_page_entry}
 use Rattle.cert_sched.specs.Moved.{waiting_fetches}
 use Rattle.cert_sched.specs.Parts.{first_of}
@@ -28,22 +26,27 @@ use Rattle.birth_notice.specs.Family.{first_unsynced}
 use Rattle.sync_point.specs.Batch.{batch, synced}
 use Rattle.quanta.specs.declared.limits.Limits.{Limits}
 use Rattle.quanta.specs.Limited.{is_due}
-use Rattle.cluster_core.specs.View.{ClusterView, Held, Runs, Rolls, Waits, arrived_held, held_at, held_of, page_held, steps_of_held, limits_of, next_count, counted_once, failed_at, with_server}
+use Rattle.cluster_core.specs.View.{ClusterView, held_at, limits_of, next_count, counted_once, failed_at, with_server}
+use Rattle.residents.specs.Held.{Held, Runs, Rolls, Waits, held_of}
 use Rattle.cluster_core.specs.declared.hurt.Hurt.{Hurt}
 use Rattle.cluster_core.specs.declared.hurt.Hurt.TheVariants.{Disk, NoMemory}
-use Rattle.cluster_core.specs.declared.quantum.Forking.{Forking}
-use Rattle.cluster_core.specs.ChildrenFirst.{child_before}
-use Rattle.cluster_core.specs.Quantum.{ComesToFork, EndsChildless, Moves, Sends, post_told}
+use Rattle.residents.specs.declared.quantum.Forking.{Forking}
+use Rattle.residents.specs.ChildrenFirst.{child_before}
+use Rattle.residents.specs.Quantum.{ComesToFork, EndsChildless, Moves, Sends, post_told}
 use Rattle.cluster_core.specs.Queue.{left_queued}
 use Rattle.cluster_core.specs.Serving.{FailsNext}
-use Rattle.cluster_core.specs.Changed.{with_changed}
-use Rattle.cluster_core.specs.ForkingAgain.{RollsAgain}
+use Rattle.residents.specs.Changed.{with_changed}
+use Rattle.residents.specs.ForkingAgain.{RollsAgain}
 use Rattle.cluster_core.specs.Recovered.{left_by, moved_by, with_all_waiting}
-use Rattle.cluster_core.specs.Bearing.{birth_post, with_born}
+use Rattle.cluster_core.specs.Bearing.{birth_post}
+use Rattle.residents.specs.Bearing.{with_born}
 use Rattle.cluster_core.specs.Families.{family_after}
 use Rattle.cluster_core.specs.Owed.{owed_after}
-use Rattle.cluster_core.specs.Work.{AnswersNext, AsksNext, any_lacks, child_of, fetch_post, owes_answer}
+use Rattle.cluster_core.specs.Work.{AnswersNext, child_of, fetch_post, owes_answer}
+use Rattle.residents.specs.Asking.{AsksNext, any_lacks}
 use Rattle.cluster_core.specs.Follows.{FollowsBuilt, IsOpen, StandsBetween}
+use Rattle.residents.specs.Arriving.{with_letter, with_page_come}
+use Rattle.residents.specs.Told.{rests_in}
 
 -- ---- the start
 
@@ -87,14 +90,6 @@ Absorbs e old new =
     (log : List Entry) → IsOpen MayStand old.system log → IsOpen MayStand old.system (log ++ e ∷ []) → IsReady log e old →
     FollowsBuilt old.system (log ++ e ∷ []) new
 
--- a letter to an end of a process that is here arrives
-abbrev pub with_letter : Letter → List (Pid × Held) → List (Pid × Held)
-with_letter letter here = map (λ (e : Pid × Held). if is_end_of e.0 letter.to then (e.0, arrived_held e.1 letter) else e) here
-
--- a page comes to a process that is here
-abbrev pub with_page_come : Pid → ℕ → List ℕ → List (Pid × Held) → List (Pid × Held)
-with_page_come p i bytes here = map (λ (e : Pid × Held). if same_pid e.0 p then (e.0, page_held i bytes e.1) else e) here
-
 -- what an entry that was taken in makes of the processes here: a letter arrives, a process that ended is here no more, a page comes, and a parent has forked
 abbrev pub here_after : What → List (Pid × Held) → List (Pid × Held)
 here_after (Mail at letter) here = with_letter letter here
@@ -134,9 +129,6 @@ are_at_rest limits here = list_all (λ (e : Pid × Held). is_at_rest limits e.1)
 -- nothing here can move
 abbrev pub is_resting : ClusterView → Bool
 is_resting c = are_at_rest (limits_of c.system) c.here
-
-abbrev pub rests_in : List (Pid × Held) → List (Pid × ℕ)
-rests_in here = map (λ (e : Pid × Held). (e.0, steps_of_held e.1)) here
 
 -- each process here with its steps
 abbrev pub rests_of : ClusterView → List (Pid × ℕ)

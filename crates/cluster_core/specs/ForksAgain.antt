@@ -3,7 +3,8 @@ use Rattle.std.specs.Prelude.{◌≡◌, ◌&&◌, Bool, true, false, List, Some
 use Rattle.std.specs.List.{list_any}
 use Rattle.t32_base.specs.declared.process.Pid.{Pid}
 use Rattle.bus_msg.specs.Places.{same_pid}
-use Rattle.cluster_core.specs.View.{ClusterView, Held, Runs, Rolls, Waits, held_of, is_waiting}
+use Rattle.cluster_core.specs.View.{ClusterView}
+use Rattle.residents.specs.Held.{Held, Runs, Rolls, Waits, held_of, is_waiting}
 
 -- A process has still to make the fork again that bears a child: one that runs has made each, one that rolls forward has those to make that are left, and one that waits has not begun.
 abbrev pub has_to_bear : Pid → Held → Bool

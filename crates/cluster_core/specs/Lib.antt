@@ -1,10 +1,5 @@
 pub mod View
-pub mod Quantum
-pub mod Resident
 pub mod Recovered
-pub mod Changed
-pub mod ChildrenFirst
-pub mod Residents
 pub mod Serving
 pub mod Work
 pub mod Parts
@@ -15,13 +10,10 @@ pub mod Bearing
 pub mod Families
 pub mod Owed
 pub mod Joined
-pub mod ForkingAgain
 pub mod ForksAgain
 pub mod Follows
 pub mod Calls
 pub mod Booting
-pub mod Slots
 pub mod Absorbing
-pub mod Told
 pub mod Hearing
 pub mod Returned

@@ -12,7 +12,8 @@ use Rattle.cert_sched.specs.Built.{is_unlost}
 use Rattle.cert_sched.specs.Losses.{is_from}
 use Rattle.page_waits.specs.Waiting.{WaitingState, is_whole}
 use Rattle.quanta.specs.declared.limits.Limits.{Limits}
-use Rattle.cluster_core.specs.View.{Held, Runs, Rolls, Waits, limits_of}
+use Rattle.residents.specs.Held.{Held, Runs, Rolls, Waits}
+use Rattle.cluster_core.specs.View.{limits_of}
 
 -- a process that stands under its own pid, to which no more letters came than the cluster took entries in
 pub record IsOwn (cursor : ℕ) (pid : Pid) (p : Process) : Type 0 where

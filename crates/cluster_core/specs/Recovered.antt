@@ -11,8 +11,8 @@ use Rattle.crash_notice.specs.Splitting.{moves_here, stays}
 use Rattle.backup_records.specs.Records.{record_in}
 use Rattle.page_waits.specs.Waiting.{page_count}
 use Rattle.replay_laws.specs.pages.Waits.{first_wait}
-use Rattle.cluster_core.specs.View.{Held, Waits}
-use Rattle.cluster_core.specs.Residents.{with_more}
+use Rattle.residents.specs.Held.{Held, Waits}
+use Rattle.residents.specs.Changed.{with_more}
 
 -- the records that leave at an entry, by the places before it: at a loss, those of the processes that it moves here
 abbrev pub moved_by : Places → ClusterNo → What → List BackRec → List BackRec

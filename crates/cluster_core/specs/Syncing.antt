@@ -8,7 +8,8 @@ use Rattle.bus_msg.specs.declared.entry.Entry.{Entry}
 use Rattle.bus_msg.specs.declared.entry.What.TheVariants.{Sync}
 use Rattle.cert_sched.specs.Built.{KeepsLimits}
 use Rattle.checkpoint_laws.specs.batches.Underway.{BatchMay, posts_left}
-use Rattle.cluster_core.specs.View.{ClusterView, Runs, held_at}
+use Rattle.cluster_core.specs.View.{ClusterView, held_at}
+use Rattle.residents.specs.Held.{Runs}
 
 -- All that is queued is the rest of a batch that is under way in the log: these pages of the process, and its state with these letters read and the signal that it took, if it took one. The process runs here as it is after that, without
 -- a mark and with no letter read since, and its synchronisation keeps the limits.

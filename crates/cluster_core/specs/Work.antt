@@ -1,6 +1,5 @@
 -- What a work of a cluster makes of its parts: of what is here, of what it keeps as a page server, and of the queue.
-use Rattle.std.specs.Prelude.{ℕ, ◌+◌, ◌*◌, ◌≡◌, ◌⊎◌, Bool, true, false, not, ◌&&◌, ◌||◌, nat_lt, List, [], ◌∷◌, Option, Some, is_some, is_none, option_and_then, Ok}
-use Rattle.std.specs.List.{list_any, list_all}
+use Rattle.std.specs.Prelude.{ℕ, ◌+◌, ◌*◌, ◌≡◌, ◌⊎◌, Bool, true, false, ◌&&◌, List, [], ◌∷◌, Option, Some, is_some, option_and_then, Ok}
 use Rattle.std.specs.Option.{option_map_or}
 use Rattle.t32_base.specs.declared.process.Pid.{Pid}
 use Rattle.t32_base.specs.declared.process.ClusterNo.{ClusterNo}
@@ -13,14 +12,14 @@ use Rattle.page_server.specs.Account.{PagerState, account, page_in}
 use Rattle.page_server.specs.Disk.{Passed}
 use Rattle.page_accounts.specs.Answering.{earliest}
 use Rattle.page_accounts.specs.Keeps.{SamePages}
-use Rattle.cluster_core.specs.declared.quantum.Sending.{Sending}
-use Rattle.cluster_core.specs.declared.quantum.Forking.{Forking}
-use Rattle.cluster_core.specs.declared.quantum.Quantum.TheVariants.{Moved as QuantumMoved, Sent, Synced, Stuck, Forks}
+use Rattle.residents.specs.declared.quantum.Sending.{Sending}
+use Rattle.residents.specs.declared.quantum.Forking.{Forking}
+use Rattle.residents.specs.declared.quantum.Quantum.TheVariants.{Moved as QuantumMoved, Sent, Synced, Stuck, Forks}
 use Rattle.cluster_core.specs.declared.worked.Worked.{Worked}
 use Rattle.cluster_core.specs.declared.worked.Worked.TheVariants.{Moved, Queued, Waits as IsWaiting, Rests}
-use Rattle.cluster_core.specs.Quantum.{post_told}
-use Rattle.cluster_core.specs.Residents.{ResidentsView, TurnIs, with_changed}
-use Rattle.cluster_core.specs.View.{Held, asked_held, held_of, is_waiting, page_lacked}
+use Rattle.residents.specs.Quantum.{post_told}
+use Rattle.residents.specs.Residents.{ResidentsView, TurnIs}
+use Rattle.residents.specs.Asking.{any_lacks, AsksNext, any_waits}
 
 -- ---- the answer that a page server owes
 
@@ -49,22 +48,6 @@ pub record AnswersNext (k : ClusterNo) (old new : Option PagerState) (post : Pos
 
 -- ---- the pages that a process lacks
 
--- a process here lacks a page that was not asked for
-abbrev pub any_lacks : List (Pid × Held) → Bool
-any_lacks here = list_any (λ (e : Pid × Held). is_some (page_lacked e.1)) here
-
--- no process below the pid does
-abbrev pub is_lowest_lacking : Pid → List (Pid × Held) → Bool
-is_lowest_lacking p here = list_all (λ (e : Pid × Held). not (nat_lt (e.0).0 p.0) || is_none (page_lacked e.1)) here
-
--- the lowest page of the lowest process is asked for
-pub record AsksNext (old new : List (Pid × Held)) (pid : Pid) (index : ℕ) : Type 0 where
-  pub was : Held
-  pub there : held_of old pid ≡ Some was
-  pub lacks : page_lacked was ≡ Some index
-  pub lowest : is_lowest_lacking pid old ≡ true
-  pub new_is : new ≡ with_changed pid (asked_held was) old
-
 abbrev pub fetch_post : ClusterNo → Pid → ℕ → Post
 fetch_post k pid index = record { by = Cluster k; what = Fetch pid index }
 
@@ -79,12 +62,6 @@ child_of k places = record { 0 = next_pid k places }
 
 abbrev pub birth_told : ClusterNo → Places → Forking → Post
 birth_told k places forking = record { by = Cluster k; what = Birth forking.pid forking.at (child_of k places) forking.end }
-
--- ---- who waits
-
--- a process here waits for its pages
-abbrev pub any_waits : List (Pid × Held) → Bool
-any_waits here = list_any (λ (e : Pid × Held). is_waiting e.1) here
 
 -- ---- the work
 

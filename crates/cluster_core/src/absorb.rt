@@ -4,9 +4,9 @@ ghost use Rattle.bus_msg.specs.PlacedAfter.{what};
 ghost use Rattle.backup_records.specs.Records.{CanNote, records_after};
 ghost use Rattle.cluster_core.specs.Absorbing.{CanBeBorn, CanCome, ComesHere, IsNotedHere, goes_to};
 ghost use Rattle.cluster_core.specs.Calls.{here_after};
-ghost use Rattle.cluster_core.specs.Residents.{HasRoom};
+ghost use Rattle.residents.specs.Residents.{HasRoom};
 
-use crate::residents::Residents;
+use residents::residents::Residents;
 use backup_records::records::Records;
 use bus_msg::entry::{Dests, Entry, What};
 use std::alloc::Global;

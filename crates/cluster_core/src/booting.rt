@@ -14,8 +14,8 @@ ghost use Rattle.cluster_core.specs.Serving.{BeginsToServe, IsAheadThere, IsFail
 ghost use Rattle.cluster_core.specs.View.{failing_in, limits_of};
 ghost use Rattle.page_accounts.specs.Booting.{IsAhead};
 
-use crate::resident::Resident;
-use crate::residents::Residents;
+use residents::resident::Resident;
+use residents::residents::Residents;
 use crate::serving::serve_roots;
 use backup_queue::record::Record;
 use backup_records::records::Records;

@@ -17,7 +17,7 @@ use crate::falling::drop_fallen;
 use crate::families::join;
 use crate::hurt::Hurt;
 use crate::owed::Owed;
-use crate::residents::Residents;
+use residents::residents::Residents;
 use crate::serving::serve;
 use crate::taking_over::take_over;
 use crate::work::work_on;

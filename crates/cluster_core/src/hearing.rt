@@ -1,9 +1,9 @@
 //! What entries that do not go to a cluster are to it.
-ghost use Rattle.std.specs.Prelude.{◌≡◌, [], ◌∷◌, ◌++◌, List, false, true};
+ghost use Rattle.std.specs.Prelude.{◌≡◌, [], ◌∷◌, ◌++◌, List, false, true, Option, Some, option_map};
 ghost use Rattle.sys_text.specs.Valid.{is_system};
 ghost use Rattle.bus_msg.specs.declared.entry.Entry.{Entry};
 ghost use Rattle.cert_sched.specs.Built.{MayStand};
-ghost use Rattle.cert_sched.specs.Losses.{is_by_cluster};
+ghost use Rattle.cert_sched.specs.Losses.{is_by_cluster, is_crash_of};
 ghost use Rattle.cluster_core.specs.Absorbing.{goes_to};
 ghost use Rattle.cluster_core.specs.Follows.{IsOpen};
 ghost use Rattle.t32_base.specs.declared.process.ClusterNo.{ClusterNo as AClusterNo};
@@ -11,14 +11,11 @@ ghost use Rattle.t32_base.specs.declared.letter.BackRec.{BackRec};
 ghost use Rattle.sys_text.specs.declared.system.System.{System};
 ghost use Rattle.bus_msg.specs.declared.entry.What.{What};
 ghost use Rattle.bus_msg.specs.Places.{Places};
-ghost use Rattle.bus_msg.specs.PlacedAfter.{placed_after};
-ghost use Rattle.std.specs.Prelude.{Option, Some, option_map};
+ghost use Rattle.bus_msg.specs.PlacedAfter.{placed_after, what};
 ghost use Rattle.cert_sched.specs.Appended.{entry_of};
 ghost use Rattle.t32_base.specs.declared.process.Pid.{Pid as APid};
 ghost use Rattle.birth_notice.specs.Family.{first_unsynced};
 ghost use Rattle.log_laws.specs.births.Unsynced.{unsynced_births};
-ghost use Rattle.bus_msg.specs.PlacedAfter.{what};
-ghost use Rattle.cert_sched.specs.Losses.{is_crash_of};
 ghost use Rattle.cert_sched.specs.Schedule.{placement};
 ghost use Rattle.page_server.specs.Account.{PagerState};
 ghost use Rattle.backup_records.specs.Records.{are_rising, records_after};
@@ -26,7 +23,8 @@ ghost use Rattle.cluster_core.specs.Queue.{is_rebackup};
 ghost use Rattle.cluster_core.specs.Hearing.{FollowsHeard, KnowsPlaces, after_sent_heard, with_heard};
 ghost use Rattle.cluster_core.specs.Recovered.{left_by, moved_by};
 ghost use Rattle.cluster_core.specs.Serving.{Serves};
-ghost use Rattle.cluster_core.specs.View.{ClusterView, Held, head_of, held_at, with_server};
+ghost use Rattle.cluster_core.specs.View.{ClusterView, head_of, held_at, with_server};
+ghost use Rattle.residents.specs.Held.{Held};
 
 /// A law and no code: a cluster that follows a log follows it with an entry more that neither goes to it nor comes from it,
 /// and does nothing for that.

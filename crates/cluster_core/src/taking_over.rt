@@ -7,8 +7,8 @@ ghost use Rattle.page_waits.specs.Waiting.{page_count};
 ghost use Rattle.replay_laws.specs.pages.Waits.{first_wait};
 ghost use Rattle.cluster_core.specs.Recovered.{CanWait, left_by, moved_by, with_all_waiting};
 
-use crate::resident::Resident;
-use crate::residents::Residents;
+use residents::resident::Resident;
+use residents::residents::Residents;
 use backup_queue::record::Record;
 use backup_records::records::Records;
 use bus_msg::entry::{Entry, What};

@@ -1,14 +1,15 @@
 //! The work of a cluster.
 ghost use Rattle.std.specs.Prelude.{◌≡◌, ◌<◌, ◌^◌, [], IfErr, IfOk, OnErr, OnOk, if◌then◌else◌};
 ghost use Rattle.std.specs.VecDeque.{deque_len, deque_capacity};
-ghost use Rattle.cluster_core.specs.ForkingAgain.{CanForkAgain};
-ghost use Rattle.cluster_core.specs.Quantum.{post_told};
+ghost use Rattle.residents.specs.ForkingAgain.{CanForkAgain};
+ghost use Rattle.residents.specs.Quantum.{post_told};
 ghost use Rattle.cluster_core.specs.Serving.{CanAnswer, HurtsServer};
-ghost use Rattle.cluster_core.specs.Work.{RunsNext, WorksOn, any_waits, birth_told, fetch_post, next_pid};
+ghost use Rattle.cluster_core.specs.Work.{RunsNext, WorksOn, birth_told, fetch_post, next_pid};
+ghost use Rattle.residents.specs.Asking.{any_waits};
 
 use crate::hurt::Hurt;
-use crate::quantum::{Forking, Quantum, Sending};
-use crate::residents::Residents;
+use residents::quantum::{Forking, Quantum, Sending};
+use residents::residents::Residents;
 use crate::serving::answer_next;
 use crate::worked::Worked;
 use birth_notice::family::Family;

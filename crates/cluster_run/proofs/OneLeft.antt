@@ -5,10 +5,9 @@ use Rattle.bus_msg.specs.PlacedAfter.{what}
 use Rattle.cert_sched.specs.Losses.{is_by_cluster, was_lost_in}
 use Rattle.cluster_core.specs.View.{ClusterView, disk_calls}
 use Rattle.cluster_core.specs.Follows.{FollowsBuilt}
-use Rattle.bus_order.specs.Script.{is_unpassed}
+use Rattle.bus_order.specs.Script.{is_unpassed, is_uncalled}
 use Rattle.bus_order.specs.View.{BusView}
 use Rattle.script_laws.specs.Off.{IsItsLoss}
-use Rattle.bus_order.specs.Script.{is_uncalled}
 use Rattle.cluster_run.specs.Gone.{LeftAs, StoodAs}
 use Rattle.cluster_run.specs.Lived.{EndsBy, cause_in, end_of_life}
 use Rattle.cluster_run.proofs.CutOff.{cut_not}

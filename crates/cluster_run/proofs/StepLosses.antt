@@ -1,6 +1,6 @@
 -- A cluster is lost before a kernel step, or was lost at a place that it had not taken in: it stops, and stays as it is.
 use Rattle.std.proofs.Common.{◌≡◌, ℕ, ◌+◌, ◌-◌, ◌≤◌, ◌<◌, ◌≢◌, ◌⊎◌, append-nil, refl, sym, ◌∙◌, ap, subst, arith, List, [], ◌∷◌, ◌++◌, length, take, drop, length-append, Bool, true, false, cond, not, ◌||◌, Option, Some, None, slice_get, true≢false, inl, inr, eq-eqb}
-use Rattle.std.specs.Prelude.{nat_lt, option_and_then}
+use Rattle.std.specs.Prelude.{nat_lt, option_and_then, Result, Ok, Err}
 use Rattle.std.specs.List.{list_all, list_any, position_or_len}
 use Rattle.std.specs.Option.{option_map_or}
 use Rattle.std.proofs.lemmas.Bool.{lt-ltb}
@@ -32,7 +32,6 @@ use Rattle.bus_order.specs.Log.{author, author_of}
 use Rattle.bus_order.specs.Script.{has_unused, is_unpassed, is_word_for, off_at}
 use Rattle.bus_order.specs.View.{BusView, KeepsScript, Loses, MayBeLost, with_loss}
 use Rattle.bus_order.specs.declared.refused.Refused.{Refused}
-use Rattle.std.specs.Prelude.{Result, Ok, Err}
 use Rattle.bus_order.specs.declared.refused.Refused.TheVariants.{Over, Off, Behind, NoMemory}
 use Rattle.bus_order.proofs.OverLaws.{over_long}
 use Rattle.script_laws.specs.Off.{IsItsLoss, has_returned_in}

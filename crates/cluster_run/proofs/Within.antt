@@ -44,13 +44,14 @@ use Rattle.cert_sched.proofs.KernelSums.{one_of_sum}
 use Rattle.cert_sched.proofs.ReplayLaws.{fork_after}
 use Rattle.cert_sched.proofs.RisingLaws.{NoTwo}
 use Rattle.cert_sched.proofs.StepLaws.{sent_from, silent_from}
-use Rattle.cluster_core.specs.View.{ClusterView, Held, Runs, Rolls, Waits, after_sent, head_of, has_moved, held_load, held_of, load, process_load}
+use Rattle.cluster_core.specs.View.{ClusterView, after_sent, head_of, has_moved, held_load, load, process_load}
+use Rattle.residents.specs.Held.{Held, Runs, Rolls, Waits, held_of}
 use Rattle.cluster_core.specs.Holds.{IsHeldAs}
 use Rattle.cluster_core.specs.Calls.{FollowsSome}
 use Rattle.cluster_core.specs.Follows.{FollowsBuilt, IsOpen}
 use Rattle.cluster_core.specs.Queue.{Nothing, One, IsQueueLegal, is_move_of, state_by, AreTogether, IsQueued, Queued, is_lone, move_of, posts_of}
-use Rattle.cluster_core.proofs.here.Here.{same_itself, pid_same}
-use Rattle.cluster_core.specs.Residents.{pids_in}
+use Rattle.residents.proofs.Changing.{same_itself, pid_same}
+use Rattle.residents.specs.Residents.{pids_in}
 use Rattle.cluster_core.proofs.working.Lightening.{held_apart}
 use Rattle.sys_calls.proofs.Counting.{last_sent}
 use Rattle.sys_calls.proofs.ForkLaws.{forks_can}

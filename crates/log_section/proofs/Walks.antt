@@ -9,20 +9,11 @@ use Rattle.log_section.specs.Form.{ended_line, first_told, told_lines}
 
 -- ---- the signs of a shape
 
-pub sign_more : (sign : ℕ) (signs : List ℕ) (left next : Left) (total : Option Left) → past_sign sign left ≡ Some next → past (sign ∷ signs) left ≡ total → past signs next ≡ total
-sign_more sign signs left next total e h = ap (option_and_then (past signs)) (sym e) ∙ h
-
-pub sign_bad : (sign : ℕ) (signs : List ℕ) (left : Left) (total : Option Left) → past_sign sign left ≡ None → past (sign ∷ signs) left ≡ total → total ≡ None
-sign_bad sign signs left total e h = sym h ∙ ap (option_and_then (past signs)) e
-
 -- ---- parts
 
 pub count_more : (part : List ℕ → Option (List ℕ)) (left less : ℕ) (text rest : List ℕ) (total : Option (List ℕ)) → left ≡ suc less → part text ≡ Some rest → behind_count part left text ≡ total
     → behind_count part less rest ≡ total
 count_more part left less text rest total more e h = ap (option_and_then (behind_count part less)) (sym e) ∙ ap (λ (n : ℕ). behind_count part n text) (sym more) ∙ h
-
-pub count_bad : (part : List ℕ → Option (List ℕ)) (left less : ℕ) (text : List ℕ) (total : Option (List ℕ)) → left ≡ suc less → part text ≡ None → behind_count part left text ≡ total → total ≡ None
-count_bad part left less text total more e h = sym h ∙ ap (λ (n : ℕ). behind_count part n text) more ∙ ap (option_and_then (behind_count part less)) e
 
 pub most_more : (part : List ℕ → Option (List ℕ)) (left less : ℕ) (text rest total : List ℕ) → left ≡ suc less → part text ≡ Some rest → behind_most part left text ≡ total
     → behind_most part less rest ≡ total

@@ -25,7 +25,8 @@ use Rattle.backup_records.specs.Records.{are_rising, record_in, records_after}
 use Rattle.log_laws.specs.births.Unsynced.{unsynced_births}
 use Rattle.cluster_core.specs.Families.{CanJoin}
 use Rattle.cluster_core.proofs.births.FamilyNext.{can_join}
-use Rattle.cluster_core.specs.View.{ClusterView, Held, Runs, with_server, Waits, held_at, held_of}
+use Rattle.cluster_core.specs.View.{ClusterView, with_server, held_at}
+use Rattle.residents.specs.Held.{Held, Runs, Waits, held_of}
 use Rattle.cluster_core.specs.Parts.{AllOwn}
 use Rattle.cluster_core.specs.Recovered.{moved_by, CanWait, with_all_waiting}
 use Rattle.cluster_core.specs.Follows.{FollowsBuilt, IsOpen, StandsBetween}
@@ -47,10 +48,8 @@ use Rattle.cluster_core.proofs.absorbing.Following.{Left, apart, follows_foreign
 use Rattle.cluster_core.proofs.here.Beside.{FollowsBeside, all_of, beside_of, built_of}
 use Rattle.cluster_core.proofs.absorbing.AfterSent.{sent_is}
 use Rattle.cluster_core.proofs.absorbing.Fallen.{IsComing, NoneFalls, batch_left, empty_falls_none, fallen_comes, left_falls_none, own_left}
-use Rattle.cluster_core.proofs.absorbing.Renewed.{follows_renewed, renewal_taken}
-use Rattle.cluster_core.proofs.absorbing.Returned.{follows_returned, return_taken}
-use Rattle.cluster_core.proofs.absorbing.Returned.{home_same as home_same_returned}
-use Rattle.cluster_core.proofs.absorbing.Renewed.{home_same as home_same_renewed}
+use Rattle.cluster_core.proofs.absorbing.Renewed.{follows_renewed, renewal_taken, home_same as home_same_renewed}
+use Rattle.cluster_core.proofs.absorbing.Returned.{follows_returned, return_taken, home_same as home_same_returned}
 use Rattle.cluster_core.proofs.paging.WithoutAnswer.{without_answer}
 use Rattle.cluster_core.specs.Bearing.{BearsChild}
 use Rattle.cluster_core.proofs.births.BirthQueued.{birth_is, without_birth}
@@ -60,14 +59,14 @@ use Rattle.cluster_core.proofs.syncs.Batching.{all_but, batch_head, unqueued, wi
 use Rattle.cluster_core.proofs.syncs.Stayed.{RunsStill, stays_with_batch, still_itself, still_paged, still_told}
 use Rattle.cluster_core.proofs.syncs.OwnBatch.{follows_own_batch}
 use Rattle.cluster_core.specs.Absorbing.{CanCome}
-use Rattle.cluster_core.specs.Resident.{CanComeTo}
+use Rattle.residents.specs.Resident.{CanComeTo}
 use Rattle.cluster_core.specs.Holds.{IsHeldAs}
 use Rattle.cert_sched.specs.Simulation.{IsUnended}
 use Rattle.cluster_core.proofs.paging.Waiting.{may_come_to}
 use Rattle.bus_msg.specs.declared.entry.What.TheVariants.{PageIs}
 use Rattle.cert_sched.specs.Parts.{rising}
 use Rattle.cert_sched.specs.Rests.{home_pids}
-use Rattle.cluster_core.specs.Residents.{pids_in}
+use Rattle.residents.specs.Residents.{pids_in}
 use Rattle.cluster_core.proofs.losses.OwningWaits.{loss_of, one_of, other_lost, own_no_loss}
 use Rattle.cluster_core.proofs.here.Here.{arrival_at, is_among, was_here}
 use Rattle.cert_sched.specs.Deeds.{letter_for}

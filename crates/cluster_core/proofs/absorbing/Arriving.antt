@@ -26,15 +26,17 @@ use Rattle.cert_sched.specs.Schedule.{placement}
 use Rattle.cert_sched.proofs.LogLaws.{IsLegal-last}
 use Rattle.cluster_core.specs.Absorbing.{ComesHere, goes_to, is_letter_for}
 use Rattle.cluster_core.specs.Calls.{IsReady, ReadyFor, here_after}
-use Rattle.cluster_core.specs.Residents.{pids_in}
-use Rattle.cluster_core.specs.View.{ClusterView, Held, arrived_held, held_of}
+use Rattle.residents.specs.Residents.{pids_in}
+use Rattle.cluster_core.specs.View.{ClusterView}
+use Rattle.residents.specs.Held.{Held, arrived_held, held_of}
 use Rattle.cluster_core.specs.Queue.{IsQueued}
 use Rattle.cluster_core.specs.Syncing.{Synchronises}
 use Rattle.cluster_core.specs.Bearing.{BearsChild}
 use Rattle.cluster_core.proofs.births.BirthQueued.{birth_is}
 use Rattle.cluster_core.proofs.syncs.Batching.{batch_head}
 use Rattle.cluster_core.proofs.absorbing.Following.{Next, left_of, next_of}
-use Rattle.cluster_core.proofs.here.Here.{is_among, pid_same, same_itself}
+use Rattle.cluster_core.proofs.here.Here.{is_among}
+use Rattle.residents.proofs.Changing.{pid_same, same_itself}
 use Rattle.cluster_core.proofs.losses.Homes.{HomeHere, differ_built, home_here, home_lives}
 use Rattle.cluster_core.proofs.absorbing.ByKind.{OneOf, by_kind, by_page, by_sync, kind_is}
 

@@ -42,7 +42,7 @@ use Rattle.cert_sched.specs.Rests.{home_pids}
 use Rattle.cert_sched.proofs.ExitLaws.{unended_exit}
 use Rattle.cert_sched.proofs.LogLaws.{placement-snoc, IsLegal-last}
 use Rattle.cert_sched.proofs.UnlostLaws.{telling_unlost}
-use Rattle.log_laws.proofs.records.Standing.{built_stands as each_stands}
+use Rattle.log_laws.proofs.records.Standing.{built_stands as each_stands, legal_stands}
 use Rattle.checkpoint_laws.proofs.batches.ChildrenStay.{children_stay}
 use Rattle.cert_sched.proofs.RisingLaws.{rising-same}
 use Rattle.cert_sched.proofs.StepLaws.{Tells, sent_applies}
@@ -50,13 +50,13 @@ use Rattle.cert_sched.proofs.MailLaws.{with_arrival}
 use Rattle.backup_records.specs.Records.{records_after}
 use Rattle.log_laws.specs.records.Kept.{KeepsRecords, changes_in_place}
 use Rattle.log_laws.proofs.records.KeptLaws.{records_kept}
-use Rattle.log_laws.proofs.records.Standing.{legal_stands}
 use Rattle.roll_forward.specs.Deeds.{Sends}
 use Rattle.cluster_core.specs.Families.{family_after}
 use Rattle.cluster_core.specs.Owed.{HoldsOwed, owed_after}
 use Rattle.cluster_core.proofs.awaiting.OwedNext.{owed_next, told_spares}
-use Rattle.cluster_core.specs.View.{ClusterView, Held, Runs, Rolls, Waits, arrived_held, held_at, head_of, after_head, after_sent, next_count, with_server, held_of, IsHeldWithin, limits_of}
-use Rattle.cluster_core.specs.Residents.{pids_in}
+use Rattle.cluster_core.specs.View.{ClusterView, held_at, head_of, after_head, after_sent, next_count, with_server, limits_of}
+use Rattle.residents.specs.Held.{Held, Runs, Rolls, Waits, arrived_held, held_of, IsHeldWithin}
+use Rattle.residents.specs.Residents.{pids_in}
 use Rattle.cluster_core.specs.Parts.{AllOwn}
 use Rattle.cluster_core.specs.Queue.{AreTogether, IsQueued, Queued, Nothing, One, posts_of, is_lone, IsQueueLegal, tells_steps, is_move_of, move_of, taken_by, state_by, state_now, with_queue}
 use Rattle.cluster_core.specs.Holds.{CarriesMarks, HoldsMarks, IsHeldAs, HoldsPages, MarkedIfThere, process_in, is_fetch_queued, unended_process, HoldsLimits}
@@ -67,7 +67,8 @@ use Rattle.cluster_core.proofs.births.FamilyNext.{family_next}
 use Rattle.cluster_core.specs.ForksAgain.{HoldsForks}
 use Rattle.cluster_core.proofs.forks.ForksAgain.{forks_told}
 use Rattle.cluster_core.proofs.here.Beside.{FollowsBeside, HoldsMarksOf, HeldOf, any_of, one_of_them}
-use Rattle.cluster_core.proofs.here.Here.{WasHere, arrival_at, arrival_in, arrival_letters, arrival_small, arrival_state, is_among, pid_same, rolls_after, runs_after, was_here, arrival_within}
+use Rattle.cluster_core.proofs.here.Here.{WasHere, arrival_at, arrival_in, arrival_letters, arrival_small, arrival_state, is_among, rolls_after, runs_after, was_here, arrival_within}
+use Rattle.residents.proofs.Changing.{pid_same}
 use Rattle.cluster_core.proofs.absorbing.Posted.{no_end, moves_it}
 use Rattle.cluster_core.proofs.absorbing.Telling.{Telling, telling, not_closed, items_told, sends_still, silent_still, told_now}
 use Rattle.cluster_core.proofs.here.Owning.{own_at}

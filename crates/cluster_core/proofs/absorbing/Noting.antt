@@ -38,7 +38,7 @@ use Rattle.cert_sched.proofs.LogLaws.{IsLegal-last}
 use Rattle.cluster_core.specs.View.{ClusterView}
 use Rattle.cluster_core.specs.Calls.{IsReady, ReadyFor}
 use Rattle.cluster_core.specs.Absorbing.{IsNotedHere, goes_to}
-use Rattle.cluster_core.proofs.here.Here.{pid_same, same_itself}
+use Rattle.residents.proofs.Changing.{pid_same, same_itself}
 use Rattle.cluster_core.proofs.absorbing.ByKind.{OneOf, by_kind, by_page, by_sync, kind_is}
 use Rattle.cluster_core.proofs.absorbing.AfterSent.{sent_is}
 

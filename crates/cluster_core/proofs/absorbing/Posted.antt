@@ -16,7 +16,7 @@ use Rattle.cert_sched.specs.Scripted.{closes}
 use Rattle.cert_sched.specs.Steps.{process_of}
 use Rattle.cluster_core.specs.Queue.{is_move_of, move_of, tells_steps}
 use Rattle.cluster_core.proofs.absorbing.ByKind.{by_kind}
-use Rattle.cluster_core.proofs.here.Here.{pid_same}
+use Rattle.residents.proofs.Changing.{pid_same}
 
 -- the post of a queue that moves a process tells of it
 pub moves_it : (p : Pid) (queue : List Post) (w : What) → move_of p queue ≡ Some w → process_of w ≡ Some p

@@ -55,7 +55,7 @@ use Rattle.cluster_core.proofs.absorbing.Spared.{BringsNothing, Spares, emission
 use Rattle.cluster_core.proofs.absorbing.Unmoved.{emission_same, silent_same}
 use Rattle.cluster_core.proofs.forks.ForksAgain.{forks_renewed}
 use Rattle.cluster_core.proofs.here.Beside.{FollowsBeside}
-use Rattle.cluster_core.proofs.here.Here.{pid_same}
+use Rattle.residents.proofs.Changing.{pid_same}
 use Rattle.cluster_core.proofs.losses.Homes.{HomeHere, pids_home}
 use Rattle.cluster_core.proofs.losses.RenewedHomes.{home_renewed, pids_renewed}
 

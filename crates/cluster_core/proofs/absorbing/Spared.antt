@@ -47,9 +47,9 @@ use Rattle.cluster_core.specs.Families.{family_after}
 use Rattle.cluster_core.specs.Owed.{owed_after}
 use Rattle.cluster_core.specs.ForksAgain.{ForksLeft}
 use Rattle.replay_laws.proofs.forks.EitherWait.{so_alike, so_follows}
-use Rattle.cluster_core.specs.Families.{family_after}
-use Rattle.cluster_core.specs.View.{ClusterView, Held, Runs, Rolls, Waits, held_of, next_count, with_server}
-use Rattle.cluster_core.specs.Residents.{pids_in}
+use Rattle.cluster_core.specs.View.{ClusterView, next_count, with_server}
+use Rattle.residents.specs.Held.{Held, Runs, Rolls, Waits, held_of}
+use Rattle.residents.specs.Residents.{pids_in}
 use Rattle.cluster_core.specs.Parts.{AllOwn}
 use Rattle.cluster_core.specs.Queue.{AreTogether, Queued, Nothing, One, posts_of, IsQueueLegal, is_move_of, state_by, state_now, taken_by, with_queue}
 use Rattle.cluster_core.specs.Holds.{IsHeldAs, is_fetch_queued, CarriesMarks, MarkedIfThere, unended_process}

@@ -24,7 +24,7 @@ use Rattle.cert_sched.specs.Rules.{is_full}
 use Rattle.cert_sched.proofs.PidLaws.{placed_pids}
 use Rattle.cert_sched.proofs.RisingLaws.{NoTwo}
 use Rattle.cluster_core.specs.Owed.{begins_wait, pids_waiting, with_pids}
-use Rattle.cluster_core.proofs.here.Slots.{at_key_is}
+use Rattle.residents.proofs.Slots.{at_key_is}
 
 -- ---- more of them
 

@@ -9,10 +9,12 @@ use Rattle.bus_msg.specs.declared.entry.What.TheVariants.{Birth}
 use Rattle.bus_msg.specs.declared.entry.Entry.{Entry}
 use Rattle.bus_msg.specs.Places.{same_pid}
 use Rattle.bus_msg.specs.PlacedAfter.{what}
-use Rattle.cluster_core.specs.View.{ClusterView, Held, Runs, after_sent, held_of}
+use Rattle.cluster_core.specs.View.{ClusterView, after_sent}
+use Rattle.residents.specs.Held.{Held, Runs, held_of}
 use Rattle.cluster_core.specs.Absorbing.{CanBeBorn}
 use Rattle.cluster_core.specs.Parts.{AllOwn}
-use Rattle.cluster_core.specs.Bearing.{BearsChild, CanBear, CanForkNow}
+use Rattle.cluster_core.specs.Bearing.{BearsChild}
+use Rattle.residents.specs.Bearing.{CanBear, CanForkNow}
 use Rattle.cluster_core.specs.Calls.{IsReady, ReadyFor}
 use Rattle.cluster_core.specs.Follows.{FollowsBuilt, StandsBetween}
 use Rattle.cluster_core.specs.Queue.{IsQueued, is_lone}

@@ -16,15 +16,16 @@ use Rattle.cert_sched.specs.Steps.{silent_upto}
 use Rattle.cert_sched.specs.Built.{MayStand}
 use Rattle.cert_sched.specs.Losses.{capped, least_calls, least_steps}
 use Rattle.log_laws.proofs.records.Standing.{built_stands}
-use Rattle.cluster_core.specs.declared.quantum.Forking.{Forking}
-use Rattle.cluster_core.specs.View.{ClusterView, Held, Runs, disk_calls, held_at, limits_of, next_count}
-use Rattle.cluster_core.specs.Residents.{with_changed}
+use Rattle.residents.specs.declared.quantum.Forking.{Forking}
+use Rattle.cluster_core.specs.View.{ClusterView, disk_calls, held_at, limits_of, next_count}
+use Rattle.residents.specs.Held.{Held, Runs}
+use Rattle.residents.specs.Changed.{with_changed}
 use Rattle.cluster_core.specs.Queue.{Nothing, with_queue}
 use Rattle.cluster_core.specs.Holds.{CarriesMarks, IsHeldAs, MarkedIfThere, process_in, unended_process}
 use Rattle.cluster_core.specs.Bearing.{BearsChild, birth_post}
 use Rattle.cluster_core.specs.Follows.{FollowsBuilt, IsOpen}
-use Rattle.cluster_core.specs.Quantum.{ComesToFork}
-use Rattle.cluster_core.proofs.here.Here.{changed_there, pids_changed}
+use Rattle.residents.specs.Quantum.{ComesToFork}
+use Rattle.residents.proofs.Changing.{changed_there, pids_changed}
 use Rattle.cluster_core.proofs.syncs.Batching.{unqueued}
 use Rattle.cluster_core.proofs.forks.ForksAgain.{forks_changed, run_forks}
 use Rattle.cluster_core.proofs.here.Beside.{FollowsBeside, all_of, any_of}

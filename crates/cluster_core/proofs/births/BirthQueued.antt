@@ -38,8 +38,9 @@ use Rattle.checkpoint_laws.proofs.marks.EntryMarks.{marks_before, marks_kept}
 use Rattle.checkpoint_laws.proofs.marks.ForkMarks.{birth_leaves}
 use Rattle.checkpoint_laws.proofs.marks.SentPages.{sent_on}
 use Rattle.cluster_core.specs.Bearing.{BearsChild, birth_post}
-use Rattle.cluster_core.specs.View.{ClusterView, Held, Runs, disk_calls, head_of, held_at}
-use Rattle.cluster_core.specs.Residents.{pids_in}
+use Rattle.cluster_core.specs.View.{ClusterView, disk_calls, head_of, held_at}
+use Rattle.residents.specs.Held.{Held, Runs}
+use Rattle.residents.specs.Residents.{pids_in}
 use Rattle.cluster_core.specs.Queue.{Nothing, IsQueueLegal, with_queue}
 use Rattle.cluster_core.specs.Holds.{CarriesMarks, IsHeldAs, MarkedIfThere, unended_process}
 use Rattle.cluster_core.specs.Follows.{FollowsBuilt, IsOpen}

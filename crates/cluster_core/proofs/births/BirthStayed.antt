@@ -37,8 +37,9 @@ use Rattle.cert_sched.proofs.LogLaws.{IsLegal-last, placement-snoc}
 use Rattle.cert_sched.proofs.PidLaws.{apart_of}
 use Rattle.cert_sched.proofs.RisingLaws.{rising-any}
 use Rattle.cluster_core.specs.Bearing.{BearsChild, birth_post}
-use Rattle.cluster_core.specs.View.{ClusterView, Held, Runs, held_at, held_of}
-use Rattle.cluster_core.specs.Residents.{pids_in}
+use Rattle.cluster_core.specs.View.{ClusterView, held_at}
+use Rattle.residents.specs.Held.{Held, Runs, held_of}
+use Rattle.residents.specs.Residents.{pids_in}
 use Rattle.cluster_core.specs.Follows.{IsOpen}
 use Rattle.cluster_core.proofs.absorbing.Following.{by_home_of, by_one}
 use Rattle.cluster_core.proofs.here.Here.{is_among}

@@ -1,5 +1,5 @@
 -- A cluster that has a birth queued and takes an entry in goes on to follow the log: an entry of another cluster, or the birth itself.
-use Rattle.std.proofs.Common.{◌≡◌, ℕ, ◌+◌, refl, sym, ◌∙◌, ap, subst, arith, List, [], ◌∷◌, ◌++◌, length-append, Bool, true, false, ◌||◌, eqb, eqb-true, Option, Some, None, is_some, inl, inr}
+use Rattle.std.proofs.Common.{◌≡◌, ℕ, ◌+◌, refl, sym, ◌∙◌, ap, subst, arith, List, [], ◌∷◌, ◌++◌, length-append, Bool, true, false, eqb, eqb-true, Option, Some, None, is_some, inl, inr}
 use Rattle.std.specs.List.{list_any}
 use Rattle.t32_base.specs.declared.process.Pid.{Pid}
 use Rattle.sys_text.specs.declared.system.System.{System}
@@ -37,13 +37,15 @@ use Rattle.log_laws.proofs.births.NewBirth.{stands_in_none}
 use Rattle.cluster_core.specs.ForksAgain.{ForksLeft}
 use Rattle.cluster_core.proofs.forks.ForksBorn.{forks_born}
 use Rattle.cluster_core.proofs.births.FamilyNext.{family_next}
-use Rattle.cluster_core.specs.View.{ClusterView, Held, Runs, IsHeldWithin, after_sent, held_at, held_of, limits_of, next_count, with_server}
-use Rattle.cluster_core.specs.Residents.{pids_in}
+use Rattle.cluster_core.specs.View.{ClusterView, after_sent, held_at, limits_of, next_count, with_server}
+use Rattle.residents.specs.Held.{Held, Runs, IsHeldWithin, held_of}
+use Rattle.residents.specs.Residents.{pids_in}
 use Rattle.cluster_core.specs.Parts.{AllOwn}
 use Rattle.cluster_core.specs.Queue.{Nothing, with_queue}
 use Rattle.cluster_core.specs.Holds.{CarriesMarks, IsHeldAs, MarkedIfThere, process_in, unended_process}
 use Rattle.cluster_core.specs.Follows.{FollowsBuilt, IsOpen, StandsBetween}
-use Rattle.cluster_core.specs.Bearing.{BearsChild, birth_post, forked, newborn, with_born}
+use Rattle.cluster_core.specs.Bearing.{BearsChild, birth_post}
+use Rattle.residents.specs.Bearing.{forked, newborn, with_born}
 use Rattle.cluster_core.specs.Recovered.{left_by, moved_by, with_all_waiting}
 use Rattle.cluster_core.specs.Calls.{with_entry, here_after}
 use Rattle.cluster_core.specs.Serving.{Serves}
@@ -55,7 +57,8 @@ use Rattle.cluster_core.proofs.births.BirthStayed.{bears_still}
 use Rattle.cluster_core.proofs.births.BornHere.{FoundBorn, found_born, pids_born}
 use Rattle.cluster_core.proofs.absorbing.Counted.{count_by-snoc, lost_before}
 use Rattle.cluster_core.proofs.absorbing.Following.{counted_own}
-use Rattle.cluster_core.proofs.here.Here.{is_among, pid_same}
+use Rattle.cluster_core.proofs.here.Here.{is_among}
+use Rattle.residents.proofs.Changing.{pid_same, any_pids}
 use Rattle.cluster_core.proofs.losses.Homes.{HomeHere, differ_built, home_here, pids_home}
 use Rattle.cluster_core.proofs.births.OwnBirth.{child_held, child_marked, child_pages, child_within, other_held, other_marked, other_pages, parent_held, parent_marked, parent_pages, parent_within}
 use Rattle.cluster_core.proofs.absorbing.Served.{accounts_on, ahead_after, brought}
@@ -72,11 +75,6 @@ follows_beside_birth c log e b valid now later f other spared server beside same
     with_birth c.system (log ++ e ∷ []) new (bears_still c log e b valid now later (f.processes).each_once other spared new refl refl refl (beside.processes).each_once same_home stays) valid later beside
 
 -- ---- the birth itself
-
--- a process that is among them, by its pid
-pub any_pids : (p : Pid) (here : List (Pid × Held)) → list_any (λ (e : Pid × Held). same_pid e.0 p) here ≡ list_any (λ n. eqb n p.0) (pids_in here)
-any_pids p [] = refl
-any_pids p (e ∷ here) = ap (λ b. eqb (e.0).0 p.0 || b) (any_pids p here)
 
 -- one more at the end, by rising pid
 rising-last : (xs : List ℕ) (n : ℕ) → rising (xs ++ n ∷ []) ≡ put_rising n (rising xs)

@@ -9,13 +9,15 @@ use Rattle.proc_state.specs.State.{state_of}
 use Rattle.bus_msg.specs.Places.{Places, next_serial_in, unended_at}
 use Rattle.cert_sched.specs.Kinds.{next_child_at}
 use Rattle.cert_sched.specs.Schedule.{placement}
-use Rattle.cluster_core.specs.declared.quantum.Forking.{Forking}
-use Rattle.cluster_core.specs.View.{ClusterView, Held, Runs, held_at, limits_of, next_count}
-use Rattle.cluster_core.specs.Residents.{pids_in, with_changed}
+use Rattle.residents.specs.declared.quantum.Forking.{Forking}
+use Rattle.cluster_core.specs.View.{ClusterView, held_at, limits_of, next_count}
+use Rattle.residents.specs.Held.{Held, Runs}
+use Rattle.residents.specs.Residents.{pids_in}
+use Rattle.residents.specs.Changed.{with_changed}
 use Rattle.cluster_core.specs.Bearing.{birth_post}
 use Rattle.cluster_core.specs.Work.{child_of}
 use Rattle.cluster_core.specs.Calls.{GoesOn}
-use Rattle.cluster_core.specs.Quantum.{ComesToFork}
+use Rattle.residents.specs.Quantum.{ComesToFork}
 use Rattle.cluster_core.proofs.births.BeginBirth.{bearing, birth_begins, birth_beside}
 use Rattle.cluster_core.proofs.births.BirthQueued.{with_birth}
 use Rattle.cluster_core.proofs.here.Here.{is_among}

@@ -38,11 +38,12 @@ use Rattle.checkpoint_laws.specs.marks.Beside.{is_some_page}
 use Rattle.page_server.specs.Account.{PagerState}
 use Rattle.cert_sched.specs.Parts.{rising}
 use Rattle.cert_sched.specs.Rests.{home_pids}
-use Rattle.cluster_core.specs.Bearing.{with_fork}
-use Rattle.cluster_core.specs.Residents.{pids_in}
+use Rattle.residents.specs.Bearing.{with_fork}
+use Rattle.residents.specs.Residents.{pids_in}
 use Rattle.cluster_core.specs.Families.{family_after}
 use Rattle.cluster_core.specs.Owed.{owed_after}
-use Rattle.cluster_core.specs.View.{ClusterView, Held, held_of, next_count, with_server}
+use Rattle.cluster_core.specs.View.{ClusterView, next_count, with_server}
+use Rattle.residents.specs.Held.{Held, held_of}
 use Rattle.cluster_core.specs.Parts.{AllOwn}
 use Rattle.cluster_core.specs.Recovered.{left_by, moved_by, with_all_waiting}
 use Rattle.cluster_core.specs.Follows.{IsOpen}
@@ -53,7 +54,8 @@ use Rattle.cert_sched.proofs.BirthClusters.{birth_living}
 use Rattle.cert_sched.proofs.BirthPlaces.{born_beside}
 use Rattle.cluster_core.proofs.births.BirthHomes.{child_elsewhere}
 use Rattle.cluster_core.proofs.absorbing.Following.{by_home_of, by_one}
-use Rattle.cluster_core.proofs.here.Here.{is_among, pid_same}
+use Rattle.cluster_core.proofs.here.Here.{is_among}
+use Rattle.residents.proofs.Changing.{pid_same}
 use Rattle.cluster_core.proofs.losses.Homes.{HomeHere, differ_built, home_here, pids_home}
 use Rattle.cluster_core.specs.ForksAgain.{ForksLeft}
 use Rattle.cluster_core.proofs.forks.ForksAgain.{forks_elsewhere}

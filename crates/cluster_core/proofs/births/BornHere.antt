@@ -7,11 +7,12 @@ use Rattle.t32_base.specs.declared.process.Pid.{Pid}
 use Rattle.proc_state.specs.declared.process.Process.{Process}
 use Rattle.bus_msg.specs.Places.{same_pid}
 use Rattle.cert_sched.specs.Parts.{rising}
-use Rattle.cluster_core.specs.View.{Held, Runs, held_of}
-use Rattle.cluster_core.specs.Residents.{pids_in, with_changed, with_more}
+use Rattle.residents.specs.Held.{Held, Runs, held_of}
+use Rattle.residents.specs.Residents.{pids_in}
+use Rattle.residents.specs.Changed.{with_changed, with_more}
 use Rattle.cluster_core.specs.Parts.{AllOwn, IsOwn}
-use Rattle.cluster_core.specs.Bearing.{forked, newborn, with_born, with_fork}
-use Rattle.cluster_core.proofs.here.Here.{found_changed, pid_same, pids_changed}
+use Rattle.residents.specs.Bearing.{forked, newborn, with_born, with_fork}
+use Rattle.residents.proofs.Changing.{found_changed, pid_same, pids_changed}
 use Rattle.cluster_core.proofs.here.Owning.{own_at, own_changed}
 use Rattle.cluster_core.proofs.losses.OwningWaits.{own_more}
 use Rattle.cluster_core.proofs.losses.RecoveredHere.{held_more, pids_more}

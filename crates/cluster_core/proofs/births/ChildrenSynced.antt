@@ -25,8 +25,9 @@ use Rattle.log_laws.proofs.births.UnsyncedChild.{first_lives_there, stateless}
 use Rattle.log_laws.proofs.records.Standing.{built_stands}
 use Rattle.sync_point.specs.Batch.{took_by}
 use Rattle.sync_point.specs.Due.{is_due_by}
-use Rattle.cluster_core.specs.View.{ClusterView, Held, held_at, held_of}
-use Rattle.cluster_core.specs.Residents.{pids_in}
+use Rattle.cluster_core.specs.View.{ClusterView, held_at}
+use Rattle.residents.specs.Held.{Held, held_of}
+use Rattle.residents.specs.Residents.{pids_in}
 use Rattle.cluster_core.specs.Follows.{FollowsBuilt, IsOpen}
 use Rattle.cluster_core.proofs.syncs.BeginSync.{MayCut}
 use Rattle.cluster_core.proofs.here.Here.{is_among}

@@ -27,7 +27,7 @@ use Rattle.cert_sched.specs.Simulation.{bears}
 use Rattle.cert_sched.proofs.FamilyLaws.{Pair}
 use Rattle.log_laws.proofs.births.Filters.{one_passes, passes_any}
 use Rattle.cluster_core.proofs.forks.ForksAgain.{bears_by}
-use Rattle.cluster_core.proofs.here.Here.{pid_same, same_itself}
+use Rattle.residents.proofs.Changing.{pid_same, same_itself}
 
 or_true : (a : Bool) → (a || true) ≡ true
 or_true true = refl

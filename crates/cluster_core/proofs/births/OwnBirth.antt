@@ -50,12 +50,14 @@ use Rattle.checkpoint_laws.proofs.marks.BornMarks.{child_runs, child_sent, paren
 use Rattle.checkpoint_laws.proofs.marks.ForkMarks.{forked_sent}
 use Rattle.checkpoint_laws.proofs.marks.SentPages.{sent_on}
 use Rattle.page_waits.specs.Waiting.{WaitingState}
-use Rattle.cluster_core.specs.View.{ClusterView, Held, Runs, Waits, IsHeldWithin, held_at, limits_of}
-use Rattle.cluster_core.specs.Residents.{pids_in}
+use Rattle.cluster_core.specs.View.{ClusterView, held_at, limits_of}
+use Rattle.residents.specs.Held.{Held, Runs, Waits, IsHeldWithin}
+use Rattle.residents.specs.Residents.{pids_in}
 use Rattle.cluster_core.specs.Parts.{AllOwn}
 use Rattle.cluster_core.specs.Queue.{Nothing}
 use Rattle.cluster_core.specs.Holds.{CarriesMarks, IsHeldAs, MarkedIfThere, process_in, unended_process}
-use Rattle.cluster_core.specs.Bearing.{BearsChild, birth_post, forked, newborn}
+use Rattle.cluster_core.specs.Bearing.{BearsChild, birth_post}
+use Rattle.residents.specs.Bearing.{forked, newborn}
 use Rattle.cluster_core.specs.Follows.{IsOpen}
 use Rattle.cluster_core.proofs.syncs.Batching.{unqueued}
 use Rattle.cluster_core.proofs.here.Beside.{FollowsBeside, all_of, one_of_them}

@@ -25,8 +25,9 @@ use Rattle.log_laws.proofs.births.Filters.{filter_alike, filter_both, one_passes
 use Rattle.log_laws.proofs.births.UnsyncedChild.{lives_with_parent}
 use Rattle.cluster_core.specs.Follows.{IsOpen}
 use Rattle.cluster_core.specs.Hearing.{FollowsHeard, concerns}
-use Rattle.cluster_core.specs.Residents.{pids_in}
-use Rattle.cluster_core.specs.View.{ClusterView, Held, held_at}
+use Rattle.residents.specs.Residents.{pids_in}
+use Rattle.cluster_core.specs.View.{ClusterView, held_at}
+use Rattle.residents.specs.Held.{Held}
 use Rattle.cluster_core.proofs.here.Here.{is_among}
 use Rattle.cluster_core.proofs.losses.Homes.{HomeHere, differ_built, home_here}
 

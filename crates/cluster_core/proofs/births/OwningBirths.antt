@@ -3,9 +3,9 @@ use Rattle.std.proofs.Common.{◌≡◌, ℕ, refl, arith, List, Option, Some, N
 use Rattle.std.specs.Option.{option_map_or}
 use Rattle.t32_base.specs.declared.process.Pid.{Pid}
 use Rattle.proc_state.specs.declared.process.Process.{Process}
-use Rattle.cluster_core.specs.View.{Held, Runs, held_of}
+use Rattle.residents.specs.Held.{Held, Runs, held_of}
 use Rattle.cluster_core.specs.Parts.{AllOwn, IsHeldOwn, IsOwn}
-use Rattle.cluster_core.specs.Bearing.{forked, newborn, with_born, with_fork}
+use Rattle.residents.specs.Bearing.{forked, newborn, with_born, with_fork}
 use Rattle.cluster_core.proofs.here.Owning.{own_at, own_changed}
 use Rattle.cluster_core.proofs.losses.OwningWaits.{own_more}
 

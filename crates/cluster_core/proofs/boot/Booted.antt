@@ -45,9 +45,10 @@ use Rattle.cluster_core.specs.Follows.{FollowsBuilt}
 use Rattle.cluster_core.specs.Holds.{IsHeldAs, CarriesMarks, MarkedIfThere, unended_process}
 use Rattle.cluster_core.specs.Parts.{AllOwn, IsHeldOwn, IsOwn}
 use Rattle.cluster_core.specs.Queue.{Nothing}
-use Rattle.cluster_core.specs.Residents.{pids_in}
+use Rattle.residents.specs.Residents.{pids_in}
 use Rattle.log_laws.specs.births.Unsynced.{unsynced_births}
-use Rattle.cluster_core.specs.View.{ClusterView, Held, Runs, held_at, held_of, IsHeldWithin, limits_of}
+use Rattle.cluster_core.specs.View.{ClusterView, held_at, limits_of}
+use Rattle.residents.specs.Held.{Held, Runs, held_of, IsHeldWithin}
 use Rattle.cluster_core.proofs.here.Here.{is_among}
 use Rattle.cluster_core.proofs.boot.Passing.{found_passing, passing, passing_apart, pids_pass, pids_under, process_is}
 use Rattle.cluster_core.proofs.absorbing.Telling.{at_once}

@@ -25,8 +25,8 @@ use Rattle.log_laws.specs.records.Kept.{KeepsRecords, has_backup_in, record_at_b
 use Rattle.log_laws.proofs.records.BootLaws.{boot_record}
 use Rattle.cluster_core.specs.Booting.{AreFirstRecords}
 use Rattle.cluster_core.proofs.boot.Booted.{boot_has}
-use Rattle.cluster_core.proofs.here.Here.{pid_same}
-use Rattle.cluster_core.proofs.here.Slots.{at_key_is}
+use Rattle.residents.proofs.Changing.{pid_same}
+use Rattle.residents.proofs.Slots.{at_key_is}
 use Rattle.page_accounts.proofs.Booted.{key_new, lookup_last, lookup_before}
 
 -- the entries of a map that were seen

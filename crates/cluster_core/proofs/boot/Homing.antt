@@ -19,8 +19,9 @@ use Rattle.plain_kernel.specs.Starts.{starts_in}
 use Rattle.bus_msg.specs.Places.{same_pid}
 use Rattle.cert_sched.proofs.BootPids.{state_pids}
 use Rattle.cluster_core.specs.Booting.{RunFrom, belongs_to, running_at}
-use Rattle.cluster_core.specs.Residents.{pids_in, with_more}
-use Rattle.cluster_core.specs.View.{Held, Runs}
+use Rattle.residents.specs.Residents.{pids_in}
+use Rattle.residents.specs.Changed.{with_more}
+use Rattle.residents.specs.Held.{Held, Runs}
 use Rattle.cluster_core.proofs.boot.Passing.{passing, pids_pass, pids_under}
 
 -- ---- the next pid is above those before it

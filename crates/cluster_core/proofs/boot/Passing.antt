@@ -11,15 +11,14 @@ use Rattle.t32_base.specs.declared.process.Pid.{Pid}
 use Rattle.proc_state.specs.declared.process.Process.{Process}
 use Rattle.proc_state.specs.State.{ProcState}
 use Rattle.plain_kernel.specs.Kernel.{pid_cmp}
-use Rattle.plain_kernel.specs.Maps.{at_key}
-use Rattle.plain_kernel.specs.Maps.{processes_of as states_of}
+use Rattle.plain_kernel.specs.Maps.{at_key, processes_of as states_of}
 use Rattle.bus_msg.specs.Places.{same_pid}
 use Rattle.cert_sched.proofs.BootPids.{state_pids}
 use Rattle.cert_sched.proofs.RisingLaws.{NoTwo}
 use Rattle.cluster_core.specs.Booting.{running_at}
-use Rattle.cluster_core.specs.Residents.{pids_in}
-use Rattle.cluster_core.specs.View.{Held, Runs, held_of}
-use Rattle.cluster_core.proofs.here.Slots.{at_key_is}
+use Rattle.residents.specs.Residents.{pids_in}
+use Rattle.residents.specs.Held.{Held, Runs, held_of}
+use Rattle.residents.proofs.Slots.{at_key_is}
 
 -- ---- the processes of a map
 

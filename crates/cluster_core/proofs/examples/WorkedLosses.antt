@@ -34,7 +34,8 @@ use Rattle.log_laws.specs.records.Kept.{has_backup_in}
 use Rattle.page_waits.specs.Waiting.{WaitingState}
 use Rattle.replay_laws.specs.pages.Waits.{WaitsAs, none_queued}
 use Rattle.replay_laws.proofs.forks.EitherWait.{kept_so}
-use Rattle.cluster_core.specs.View.{ClusterView, Held, Runs, Rolls, Waits, page_held}
+use Rattle.cluster_core.specs.View.{ClusterView}
+use Rattle.residents.specs.Held.{Held, Runs, Rolls, Waits, page_held}
 use Rattle.cluster_core.specs.Holds.{HoldsPages, HoldsProcesses, HoldsRecords, IsHeldAs}
 use Rattle.cluster_core.proofs.examples.WorkedRecords.{each_pid, ended_4, ended_log}
 use Rattle.cluster_core.proofs.examples.WorkedViews.{pid, cluster, by_cluster, image_page, entry, reader_words, far_system, upto, sent_at, unmarked, empty_view, both, one, one_page, differ, written_by, far_0, far_1, far_2, came, synced_3, synced_log, read_page}

@@ -22,7 +22,7 @@ use Rattle.backup_records.specs.Records.{record_in}
 use Rattle.checkpoint_laws.proofs.marks.EntryMarks.{account_stays}
 use Rattle.cluster_core.specs.View.{ClusterView, account_at}
 use Rattle.cluster_core.specs.Holds.{HoldsAccounts, HoldsRecords}
-use Rattle.cluster_core.proofs.here.Here.{pid_same}
+use Rattle.residents.proofs.Changing.{pid_same}
 use Rattle.cluster_core.proofs.examples.WorkedViews.{pid, by_cluster, image, image_page, root, entry, writer_words, far_system, empty_view, differ, far_0, far_1, far_2, came, synced_3, synced_log, read_page, one_account, reader_record, writer_record, one_by_end_1, records_view, record_due, writer_kept, reader_not_kept}
 
 -- what holds of the two processes of the system, and of every pid that is of neither

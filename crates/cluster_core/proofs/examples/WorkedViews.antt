@@ -43,10 +43,11 @@ use Rattle.sync_point.specs.Batch.{batch, synced}
 use Rattle.quanta.specs.Limited.{is_due}
 use Rattle.page_waits.specs.Waiting.{WaitingState}
 use Rattle.replay_laws.specs.pages.Waits.{WaitsAs, none_queued}
-use Rattle.cluster_core.specs.View.{ClusterView, Held, Runs, account_at, held_of, limits_of, process_load}
+use Rattle.cluster_core.specs.View.{ClusterView, account_at, limits_of, process_load}
+use Rattle.residents.specs.Held.{Held, Runs, held_of}
 use Rattle.cluster_core.specs.Holds.{HoldsAccounts, HoldsMarks, HoldsPages, HoldsRecords, IsMarked, MarkedIfThere, is_fetch_queued, unended_process}
 use Rattle.cluster_core.specs.Queue.{with_queue}
-use Rattle.cluster_core.proofs.here.Here.{pid_same}
+use Rattle.residents.proofs.Changing.{pid_same}
 
 -- ---- the systems
 

@@ -30,8 +30,8 @@ use Rattle.checkpoint_laws.specs.marks.Beside.{is_some_page}
 use Rattle.checkpoint_laws.proofs.marks.AllMarked.{all_marked}
 use Rattle.checkpoint_laws.proofs.marks.ForkMarks.{forked_marked, forked_sent}
 use Rattle.checkpoint_laws.proofs.marks.SentPages.{unsent_upto}
-use Rattle.cluster_core.specs.Bearing.{forked, newborn}
-use Rattle.cluster_core.specs.ForkingAgain.{with_mail_of}
+use Rattle.residents.specs.Bearing.{forked, newborn}
+use Rattle.residents.specs.ForkingAgain.{with_mail_of}
 use Rattle.cluster_core.specs.Holds.{CarriesMarks}
 
 module _ (system : System) (log : List Entry) (p : Pid) (process : Process) (counts : Counts) (child : Pid) (births : List Pid) (valid : is_system system ≡ true) (legal : IsLegalBy Stands system log) (unended : IsUnended system log p)

@@ -4,12 +4,10 @@ use Rattle.t32_base.specs.declared.process.Pid.{Pid}
 use Rattle.t32_base.specs.declared.process.Counts.{Counts}
 use Rattle.sys_text.specs.Valid.{is_system}
 use Rattle.proc_state.specs.State.{ProcState, state_of}
-use Rattle.sys_calls.specs.declared.steps.Emission.TheVariants.{Mail as Sent, Exit as Ended}
-use Rattle.sys_calls.specs.Calls.{Next, Silent, Blocked, Forks, Emits, Over}
+use Rattle.sys_calls.specs.Calls.{Forks}
 use Rattle.sys_calls.specs.Fork.{fork_child}
 use Rattle.sys_calls.specs.Next.{next_step}
 use Rattle.bus_msg.specs.declared.entry.Entry.{Entry}
-use Rattle.roll_forward.specs.RunsOut.{RunsOn}
 use Rattle.roll_forward.specs.Rolling.{with_saved}
 use Rattle.cert_sched.specs.Built.{MayStand}
 use Rattle.cert_sched.specs.Legal.{IsLegalBy, Stands}
@@ -23,22 +21,13 @@ use Rattle.replay_laws.proofs.rolling.FromStart.{record_stated}
 use Rattle.replay_laws.proofs.rolling.Reaching.{led_there}
 use Rattle.replay_laws.proofs.rolling.Stepping.{rolls_on}
 use Rattle.replay_laws.proofs.forks.EitherWait.{kept_so}
-use Rattle.cluster_core.specs.View.{ClusterView, Held, Rolls, Waits, held_at}
-use Rattle.cluster_core.specs.ForkingAgain.{AtForks, AtFront, CanBeginAgain, CanForkAgain}
+use Rattle.cluster_core.specs.View.{ClusterView, held_at}
+use Rattle.residents.specs.Held.{Held, Rolls, Waits}
+use Rattle.residents.specs.ForkingAgain.{AtForks, AtFront, CanBeginAgain, CanForkAgain}
 use Rattle.cluster_core.specs.Follows.{FollowsBuilt, IsOpen}
 use Rattle.cluster_core.specs.Holds.{IsHeldAs, is_fetch_queued}
 use Rattle.cluster_core.proofs.working.Working.{home_of_it}
-
--- what is asked of what comes after a step may be less
-pub runs_less : (s : ProcState) (counts : Counts) (More Less : ProcState → Counts → List Pid → Type 0) (next : Next) (births : List Pid) → ((t : ProcState) (left : Counts) (rest : List Pid) → More t left rest → Less t left rest) → RunsOn s counts More next births
-    → RunsOn s counts Less next births
-runs_less s counts More Less (Silent t) births less on = less t counts births on
-runs_less s counts More Less Blocked births less on = absurd on
-runs_less s counts More Less Forks [] less on = absurd on
-runs_less s counts More Less Forks (child ∷ rest) less on = less _ counts rest on
-runs_less s counts More Less (Emits (Sent letter) t) births less on = (on.0, less t _ births on.1)
-runs_less s counts More Less (Emits (Ended end) t) births less on = absurd on
-runs_less s counts More Less Over births less on = absurd on
+use Rattle.residents.proofs.KeptForks.{runs_less}
 
 module _ (c : ClusterView) (log : List Entry) (valid : is_system c.system ≡ true) (empty : c.queue ≡ []) (go : IsOpen MayStand c.system log) (f : FollowsBuilt c.system log c) where
   legal : IsLegalBy Stands c.system log

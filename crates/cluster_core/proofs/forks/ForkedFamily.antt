@@ -26,15 +26,15 @@ use Rattle.replay_laws.proofs.rolling.ForkedAgain.{forked_once_only}
 use Rattle.replay_laws.proofs.forks.Begins.{state_none}
 use Rattle.replay_laws.proofs.forks.EitherWait.{kept_so}
 use Rattle.replay_laws.proofs.forks.StatedAbove.{in_the_record}
-use Rattle.cluster_core.specs.View.{Held, Runs, Rolls, Waits, held_of, is_waiting}
-use Rattle.cluster_core.specs.Bearing.{forked, newborn}
-use Rattle.cluster_core.specs.ForkingAgain.{begun_with, with_mail_of, going_held, with_fork_again}
+use Rattle.residents.specs.Held.{Held, Runs, Rolls, Waits, held_of, is_waiting}
+use Rattle.residents.specs.Bearing.{forked, newborn}
+use Rattle.residents.specs.ForkingAgain.{begun_with, with_mail_of, going_held, with_fork_again}
 use Rattle.cluster_core.specs.ForksAgain.{ForksLeft, has_to_bear}
 use Rattle.cluster_core.specs.Holds.{IsHeldAs, is_fetch_queued}
-use Rattle.cluster_core.proofs.forks.ForkedHere.{FoundForked, found_forked, going_waits}
+use Rattle.residents.proofs.ForkedHere.{FoundForked, found_forked, going_waits}
 use Rattle.cluster_core.proofs.forks.ForksAgain.{bears_by}
 use Rattle.cluster_core.proofs.forks.ForksPaged.{BornSo, among_unsynced, born_so}
-use Rattle.cluster_core.proofs.here.Here.{pid_same}
+use Rattle.residents.proofs.Changing.{pid_same}
 use Rattle.cluster_core.proofs.births.OneParent.{next_is_born, one_parent}
 
 -- one that goes on has the forks to make that are left

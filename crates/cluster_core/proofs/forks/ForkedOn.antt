@@ -21,18 +21,19 @@ use Rattle.page_waits.specs.Waiting.{WaitingState}
 use Rattle.replay_laws.proofs.pages.MovedStated.{stateless_paged}
 use Rattle.replay_laws.specs.forks.ForkWaits.{WaitsForFork}
 use Rattle.replay_laws.proofs.forks.EitherWait.{for_fork}
-use Rattle.cluster_core.specs.View.{ClusterView, Held, Runs, Rolls, Waits, IsHeldWithin, held_at, held_of, limits_of}
-use Rattle.cluster_core.specs.Bearing.{forked, newborn}
+use Rattle.cluster_core.specs.View.{ClusterView, held_at, limits_of}
+use Rattle.residents.specs.Held.{Held, Runs, Rolls, Waits, IsHeldWithin, held_of}
+use Rattle.residents.specs.Bearing.{forked, newborn}
 use Rattle.cluster_core.specs.Follows.{FollowsBuilt, IsOpen}
-use Rattle.cluster_core.specs.ForkingAgain.{with_mail_of, going_held, with_fork_again}
+use Rattle.residents.specs.ForkingAgain.{with_mail_of, going_held, with_fork_again}
 use Rattle.cluster_core.specs.ForksAgain.{ForksLeft}
 use Rattle.cluster_core.specs.Holds.{CarriesMarks, IsHeldAs, MarkedIfThere, is_fetch_queued, process_in, unended_process}
 use Rattle.cluster_core.specs.Queue.{Nothing, with_queue}
-use Rattle.cluster_core.specs.Residents.{pids_in}
+use Rattle.residents.specs.Residents.{pids_in}
 use Rattle.cluster_core.proofs.forks.BegunChild.{born_behind, born_carries, forked_behind, forked_carries}
 use Rattle.cluster_core.proofs.forks.CanFork.{unended_here}
 use Rattle.cluster_core.proofs.forks.ForkedFamily.{forks_forked}
-use Rattle.cluster_core.proofs.forks.ForkedHere.{kept_at_begin, kept_at_fork, pids_forked}
+use Rattle.residents.proofs.ForkedHere.{kept_at_begin, kept_at_fork, pids_forked}
 use Rattle.cluster_core.proofs.rolling.GoingHeld.{going_is_held, going_marked, going_within}
 use Rattle.cluster_core.proofs.here.Within.{start_within}
 

@@ -22,15 +22,16 @@ use Rattle.cert_sched.proofs.FamilyLaws.{Pair}
 use Rattle.log_laws.proofs.births.Filters.{kept_passes, one_passes, passes_any}
 use Rattle.roll_forward.specs.Advancing.{Going, going, gone_on, rolled_on}
 use Rattle.roll_forward.specs.RunsOut.{nothing_left}
-use Rattle.cluster_core.specs.View.{Held, Runs, Rolls, Waits, arrived_held, asked_held, held_of, is_waiting}
+use Rattle.residents.specs.Held.{Held, Runs, Rolls, Waits, arrived_held, asked_held, held_of, is_waiting}
 use Rattle.cluster_core.specs.Calls.{here_after}
 use Rattle.cluster_core.specs.Families.{family_after}
 use Rattle.cluster_core.specs.ForksAgain.{ForksLeft, has_to_bear}
-use Rattle.cluster_core.specs.Quantum.{RollsTo, RunsTo}
-use Rattle.cluster_core.specs.Residents.{with_changed}
+use Rattle.residents.specs.Quantum.{RollsTo, RunsTo}
+use Rattle.residents.specs.Changed.{with_changed}
 use Rattle.cluster_core.proofs.absorbing.ByKind.{by_kind, by_sync, is_of_sync}
-use Rattle.cluster_core.proofs.here.Here.{arrival_at, found_changed, pid_same, was_here}
-use Rattle.cluster_core.proofs.absorbing.Standing.{runs_on}
+use Rattle.cluster_core.proofs.here.Here.{arrival_at, was_here}
+use Rattle.residents.proofs.Changing.{found_changed, pid_same}
+use Rattle.residents.proofs.Standing.{runs_on}
 
 -- ---- one that is here
 

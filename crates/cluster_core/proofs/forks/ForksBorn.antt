@@ -8,12 +8,12 @@ use Rattle.bus_msg.specs.Places.{same_pid}
 use Rattle.birth_notice.specs.Family.{stands_in}
 use Rattle.cert_sched.proofs.FamilyLaws.{Pair}
 use Rattle.log_laws.proofs.births.Filters.{one_passes, passes_any}
-use Rattle.cluster_core.specs.View.{Held, Runs, held_of, is_waiting}
-use Rattle.cluster_core.specs.Bearing.{with_born}
+use Rattle.residents.specs.Held.{Held, Runs, held_of, is_waiting}
+use Rattle.residents.specs.Bearing.{with_born}
 use Rattle.cluster_core.specs.ForksAgain.{ForksLeft, has_to_bear}
 use Rattle.cluster_core.proofs.births.BornHere.{FoundBorn, found_born}
 use Rattle.cluster_core.proofs.forks.ForksAgain.{SameForks, WasBearing, bears_by, born_or, same_forks}
-use Rattle.cluster_core.proofs.here.Here.{pid_same}
+use Rattle.residents.proofs.Changing.{pid_same}
 
 -- who is in no birth is in none as parent, and in none as child
 stands_apart : (births : List Pair) (new parent child : Pid) → list_any (stands_in new) births ≡ false → list_any (bears_by parent child) births ≡ true → (same_pid new parent ≡ false) × (same_pid new child ≡ false)

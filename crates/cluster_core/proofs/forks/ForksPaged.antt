@@ -32,14 +32,14 @@ use Rattle.roll_forward.specs.RunsOut.{nothing_left}
 use Rattle.page_waits.specs.Waiting.{WaitingState, is_whole, start_of, with_page}
 use Rattle.replay_laws.proofs.forks.EitherWait.{kept_so, page_for}
 use Rattle.replay_laws.proofs.forks.StatedAbove.{in_the_record}
-use Rattle.cluster_core.specs.View.{Held, Runs, Rolls, Waits, going_on, held_of, is_waiting, page_held, rolling_held}
+use Rattle.residents.specs.Held.{Held, Runs, Rolls, Waits, going_on, held_of, is_waiting, page_held, rolling_held}
 use Rattle.cluster_core.specs.Calls.{here_after}
 use Rattle.cluster_core.specs.Families.{family_after}
 use Rattle.cluster_core.specs.ForksAgain.{ForksLeft, has_to_bear}
 use Rattle.cluster_core.specs.Holds.{is_fetch_queued}
 use Rattle.cluster_core.proofs.absorbing.ByKind.{by_page, is_of_page}
 use Rattle.cluster_core.proofs.forks.ForksAgain.{bears_by}
-use Rattle.cluster_core.proofs.here.Here.{pid_same}
+use Rattle.residents.proofs.Changing.{pid_same}
 use Rattle.cluster_core.proofs.paging.Paged.{page_at, was_paged}
 use Rattle.cluster_core.proofs.here.Beside.{WaitsAs}
 

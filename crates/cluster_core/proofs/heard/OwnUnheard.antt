@@ -27,13 +27,14 @@ use Rattle.cluster_core.specs.Follows.{FollowsBuilt, IsOpen, StandsBetween}
 use Rattle.cluster_core.specs.Hearing.{FollowsHeard, KnowsPlaces, after_head_heard, after_sent_heard, concerns, heard_in}
 use Rattle.cluster_core.specs.Queue.{IsQueueLegal}
 use Rattle.cluster_core.specs.Recovered.{with_all_waiting}
-use Rattle.cluster_core.specs.View.{ClusterView, Held, after_head, after_sent, head_of, held_of, with_server}
+use Rattle.cluster_core.specs.View.{ClusterView, after_head, after_sent, head_of, with_server}
+use Rattle.residents.specs.Held.{Held, held_of}
 use Rattle.cluster_core.proofs.absorbing.Absorbed.{follows_entry}
 use Rattle.cluster_core.proofs.absorbing.Fallen.{own_left}
 use Rattle.cluster_core.proofs.absorbing.Arriving.{comes_here, goes_elsewhere}
 use Rattle.cluster_core.proofs.absorbing.Counted.{capped_less, count_by-snoc, lost_before}
 use Rattle.cluster_core.proofs.heard.Heard.{any_less, sync_keeps_concerns, without_child}
-use Rattle.cluster_core.proofs.here.Here.{pid_same}
+use Rattle.residents.proofs.Changing.{pid_same}
 use Rattle.cluster_core.proofs.losses.Homes.{HomeHere}
 use Rattle.cluster_core.proofs.absorbing.KnownPlaces.{known_after}
 use Rattle.cluster_core.proofs.absorbing.Noting.{noted_next}

@@ -32,21 +32,24 @@ use Rattle.page_server.specs.Account.{PagerState}
 use Rattle.page_accounts.proofs.Followed.{makes_keeps}
 use Rattle.backup_records.specs.Records.{records_after, are_rising}
 use Rattle.cluster_core.specs.Absorbing.{goes_to}
-use Rattle.cluster_core.specs.Calls.{ReadyFor, with_entry, here_after, with_page_come}
+use Rattle.cluster_core.specs.Calls.{ReadyFor, with_entry, here_after}
+use Rattle.residents.specs.Arriving.{with_page_come}
 use Rattle.cluster_core.specs.Follows.{FollowsBuilt, IsOpen}
 use Rattle.cluster_core.specs.Hearing.{FollowsHeard, KnowsEach, KnowsPlaces, concerns, heard_in}
 use Rattle.cluster_core.specs.Owed.{owed_after}
 use Rattle.cluster_core.specs.Parts.{AllOwn, IsHeldOwn}
 use Rattle.cluster_core.specs.Recovered.{left_by, moved_by, with_all_waiting}
-use Rattle.cluster_core.specs.Residents.{pids_in}
+use Rattle.residents.specs.Residents.{pids_in}
 use Rattle.cluster_core.specs.Serving.{Serves}
-use Rattle.cluster_core.specs.View.{ClusterView, Held, Waits, held_of, page_held, with_server}
+use Rattle.cluster_core.specs.View.{ClusterView, with_server}
+use Rattle.residents.specs.Held.{Held, Waits, held_of, page_held}
 use Rattle.cluster_core.proofs.absorbing.Absorbed.{follows_entry}
 use Rattle.cluster_core.proofs.absorbing.Fallen.{legal_left}
 use Rattle.cluster_core.proofs.absorbing.Arriving.{comes_here, goes_elsewhere}
 use Rattle.cluster_core.proofs.absorbing.Counted.{count_by-snoc, lost_before}
 use Rattle.cluster_core.proofs.absorbing.Following.{by_home_of}
-use Rattle.cluster_core.proofs.here.Here.{is_among, pid_same, same_itself}
+use Rattle.cluster_core.proofs.here.Here.{is_among}
+use Rattle.residents.proofs.Changing.{pid_same, same_itself}
 use Rattle.cluster_core.proofs.losses.Homes.{HomeHere, differ_built, home_here}
 use Rattle.cluster_core.proofs.absorbing.Noting.{named_goes, noted_next}
 use Rattle.cluster_core.proofs.heard.Shadow.{alike, queued_back, shadow, shadow_follows}

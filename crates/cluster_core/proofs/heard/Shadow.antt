@@ -19,10 +19,11 @@ use Rattle.cluster_core.specs.Bearing.{BearsChild}
 use Rattle.cluster_core.specs.Follows.{FollowsBuilt}
 use Rattle.cluster_core.specs.Hearing.{FollowsHeard, concerns}
 use Rattle.cluster_core.specs.Queue.{IsQueued}
-use Rattle.cluster_core.specs.Residents.{pids_in}
+use Rattle.residents.specs.Residents.{pids_in}
 use Rattle.cluster_core.specs.Syncing.{Synchronises}
 use Rattle.cluster_core.specs.View.{ClusterView}
-use Rattle.cluster_core.proofs.here.Here.{is_among, pid_same}
+use Rattle.cluster_core.proofs.here.Here.{is_among}
+use Rattle.residents.proofs.Changing.{pid_same}
 use Rattle.cluster_core.proofs.losses.Homes.{HomeHere, differ_built, home_here}
 
 -- the cluster with all that it would know if it took in each entry

@@ -9,8 +9,9 @@ use Rattle.cert_sched.specs.Built.{UnlostMayFollow}
 use Rattle.bus_msg.specs.declared.entry.Post.{Post}
 use Rattle.cert_sched.specs.Parts.{rising}
 use Rattle.cert_sched.specs.Rests.{home_pids}
-use Rattle.cluster_core.specs.Residents.{pids_in}
-use Rattle.cluster_core.specs.View.{ClusterView, Held, Runs, Waits, held_at}
+use Rattle.residents.specs.Residents.{pids_in}
+use Rattle.cluster_core.specs.View.{ClusterView, held_at}
+use Rattle.residents.specs.Held.{Held, Runs, Waits}
 use Rattle.cluster_core.specs.Queue.{IsQueued, with_queue}
 use Rattle.cluster_core.specs.Holds.{CarriesMarks, HasNotFailed, HoldsAccounts, HoldsLimits, HoldsLog, HoldsPages, HoldsQueue, HoldsRecords, HoldsSteps, IsHeldAs, MarkedIfThere, unended_process}
 use Rattle.cluster_core.specs.Families.{HoldsFamily}

@@ -16,9 +16,11 @@ use Rattle.roll_forward.specs.Advancing.{Going, going, rolled_on}
 use Rattle.write_count.specs.Counting.{no_counts}
 use Rattle.quanta.specs.Quantum.{RunsOn}
 use Rattle.cluster_core.proofs.rolling.RolledLoad.{rolled_lightens}
-use Rattle.cluster_core.specs.View.{Held, Runs, Rolls, Waits, has_moved, held_load, held_of, process_load}
-use Rattle.cluster_core.specs.Quantum.{RollsTo, RunsTo}
-use Rattle.cluster_core.specs.Residents.{pids_in, with_changed}
+use Rattle.residents.specs.Held.{Held, Runs, Rolls, Waits, held_of}
+use Rattle.cluster_core.specs.View.{has_moved, held_load, process_load}
+use Rattle.residents.specs.Quantum.{RollsTo, RunsTo}
+use Rattle.residents.specs.Residents.{pids_in}
+use Rattle.residents.specs.Changed.{with_changed}
 
 -- ---- one of them has fewer steps left
 

@@ -18,15 +18,17 @@ use Rattle.log_laws.specs.births.Unsynced.{unsynced_births}
 use Rattle.log_laws.proofs.births.Filters.{passes_any}
 use Rattle.log_laws.proofs.births.FirstChild.{within_has}
 use Rattle.log_laws.proofs.births.UnsyncedChild.{lives_with_parent}
-use Rattle.cluster_core.specs.View.{ClusterView, Held, Runs, Rolls, Waits, can_act, held_at, held_of, limits_of}
-use Rattle.cluster_core.specs.ChildrenFirst.{child_before, comes_after_children, has_turn, is_hindered, is_running, runs_at}
+use Rattle.cluster_core.specs.View.{ClusterView, held_at, limits_of}
+use Rattle.residents.specs.Held.{Held, Runs, Rolls, Waits, can_act, held_of}
+use Rattle.residents.specs.ChildrenFirst.{child_before, comes_after_children, has_turn, is_hindered, is_running, runs_at}
 use Rattle.cluster_core.specs.Follows.{FollowsBuilt}
-use Rattle.cluster_core.specs.Residents.{are_stuck, none_has_turn, pids_in}
+use Rattle.residents.specs.Residents.{are_stuck, none_has_turn, pids_in}
 use Rattle.cluster_core.specs.Calls.{FollowsSome}
-use Rattle.cluster_core.proofs.births.ChildFirst.{before_is, none_before}
+use Rattle.residents.proofs.ChildFirst.{before_is, none_before}
 use Rattle.cluster_core.proofs.forks.ForksAgain.{bears_by}
 use Rattle.cluster_core.proofs.losses.HeldAtHome.{held_at_home, home_found}
-use Rattle.cluster_core.proofs.here.Here.{is_among, pid_same, same_itself}
+use Rattle.cluster_core.proofs.here.Here.{is_among}
+use Rattle.residents.proofs.Changing.{pid_same, same_itself}
 use Rattle.cluster_core.proofs.losses.Homes.{differ_built, home_here}
 
 -- what holds of all that are here holds of one that is found

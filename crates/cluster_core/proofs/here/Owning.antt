@@ -16,21 +16,23 @@ use Rattle.sync_point.specs.Batch.{synced}
 use Rattle.sync_point.proofs.Cuts.{cut_keeps}
 use Rattle.sync_point.specs.Due.{is_due_by}
 use Rattle.quanta.specs.declared.limits.Limits.{Limits}
-use Rattle.cluster_core.specs.View.{Held, Runs, Rolls, Waits, arrived, arrived_held, held_of, next_number, asked_held, going_on, page_held, rolling_held, is_waiting}
-use Rattle.cluster_core.specs.Residents.{with_changed, are_stuck, is_stuck, HasRoom, are_settled, is_settled}
+use Rattle.residents.specs.Held.{Held, Runs, Rolls, Waits, arrived, arrived_held, held_of, next_number, asked_held, going_on, page_held, rolling_held, is_waiting}
+use Rattle.residents.specs.Changed.{with_changed}
+use Rattle.residents.specs.Residents.{are_stuck, is_stuck, HasRoom, are_settled, is_settled}
 use Rattle.cluster_core.specs.Parts.{IsHeldOwn, IsOwn, WaitsOwn, AllOwn}
-use Rattle.cluster_core.specs.Calls.{are_at_rest, here_after, is_at_rest, with_page_come}
-use Rattle.cluster_core.specs.declared.quantum.Sending.{Sending}
-use Rattle.cluster_core.specs.declared.quantum.Forking.{Forking}
-use Rattle.cluster_core.specs.Quantum.{ComesToFork, Moves, RollsTo, RunsTo, Sends}
+use Rattle.cluster_core.specs.Calls.{are_at_rest, here_after, is_at_rest}
+use Rattle.residents.specs.Arriving.{with_page_come}
+use Rattle.residents.specs.declared.quantum.Sending.{Sending}
+use Rattle.residents.specs.declared.quantum.Forking.{Forking}
+use Rattle.residents.specs.Quantum.{ComesToFork, Moves, RollsTo, RunsTo, Sends}
 use Rattle.roll_forward.specs.Advancing.{going, rolled_on}
 use Rattle.roll_forward.proofs.RolledLaws.{rolled_keeps}
 use Rattle.cert_sched.specs.Built.{tells_or_closes}
-use Rattle.cluster_core.proofs.here.Here.{pid_same}
+use Rattle.residents.proofs.Changing.{pid_same}
 use Rattle.cluster_core.proofs.absorbing.ByKind.{by_kind}
 use Rattle.t32_base.specs.Small.{SmallState}
 use Rattle.page_waits.specs.Waiting.{WaitingState, is_whole, start_of, with_page}
-use Rattle.cluster_core.specs.Work.{any_waits}
+use Rattle.residents.specs.Asking.{any_waits}
 use Rattle.page_waits.specs.Begun.{begun}
 use Rattle.roll_forward.specs.RunsOut.{nothing_left}
 use Rattle.std.specs.Option.{IfSome, option_map_or}

@@ -31,8 +31,9 @@ use Rattle.checkpoint_laws.specs.posts.Running.{RunsMarked}
 use Rattle.checkpoint_laws.proofs.posts.SilentSizes.{silent_sizes}
 use Rattle.checkpoint_laws.specs.limits.Within.{is_within_by}
 use Rattle.checkpoint_laws.proofs.limits.OwnCounts.{own_limits}
-use Rattle.cluster_core.specs.View.{Held, Runs, Rolls, Waits, IsHeldWithin, limits_of}
-use Rattle.cluster_core.specs.Quantum.{RollsTo}
+use Rattle.residents.specs.Held.{Held, Runs, Rolls, Waits, IsHeldWithin}
+use Rattle.cluster_core.specs.View.{limits_of}
+use Rattle.residents.specs.Quantum.{RollsTo}
 use Rattle.cluster_core.specs.Holds.{CarriesMarks, IsHeldAs, MarkedIfThere, unended_process}
 use Rattle.replay_laws.proofs.costs.CaughtLimits.{caught_limits}
 use Rattle.cluster_core.specs.Follows.{IsOpen}

@@ -8,10 +8,10 @@ use Rattle.t32_base.specs.declared.letter.BackRec.{BackRec}
 use Rattle.bus_msg.specs.Places.{same_pid}
 use Rattle.backup_records.specs.Records.{are_rising, record_in}
 use Rattle.page_waits.specs.Waiting.{page_count}
-use Rattle.cluster_core.specs.View.{Held}
-use Rattle.cluster_core.specs.Residents.{with_more}
+use Rattle.residents.specs.Held.{Held}
+use Rattle.residents.specs.Changed.{with_more}
 use Rattle.cluster_core.specs.Recovered.{CanWait}
-use Rattle.cluster_core.proofs.here.Here.{same_itself}
+use Rattle.residents.proofs.Changing.{same_itself}
 use Rattle.cluster_core.proofs.losses.MovedRecords.{above_found, apart, record_pid}
 
 -- a process that is not here is not here beside one more of another pid

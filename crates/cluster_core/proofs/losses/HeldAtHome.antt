@@ -9,8 +9,8 @@ use Rattle.bus_msg.specs.Places.{Places, is_at_home, same_cluster, same_pid, une
 use Rattle.cert_sched.specs.Parts.{rising}
 use Rattle.cert_sched.specs.Rules.{home_at}
 use Rattle.cert_sched.proofs.RisingLaws.{rising-any}
-use Rattle.cluster_core.specs.View.{Held, held_of}
-use Rattle.cluster_core.specs.Residents.{pids_in}
+use Rattle.residents.specs.Held.{Held, held_of}
+use Rattle.residents.specs.Residents.{pids_in}
 use Rattle.cluster_core.proofs.losses.Homes.{HomeHere, home_more, pids_home}
 
 -- where the one that is found under a pid is at home, its pid is one of those at home

@@ -52,15 +52,17 @@ use Rattle.cluster_core.specs.Families.{family_after}
 use Rattle.cluster_core.specs.Owed.{AreOwed, owed_after}
 use Rattle.cluster_core.proofs.awaiting.OwedNext.{owed_next}
 use Rattle.cluster_core.proofs.births.FamilyNext.{family_next}
-use Rattle.cluster_core.specs.View.{ClusterView, Held, Runs, Rolls, Waits, held_of, is_waiting, next_count, with_server, IsHeldWithin, limits_of}
-use Rattle.cluster_core.specs.Residents.{pids_in}
+use Rattle.cluster_core.specs.View.{ClusterView, next_count, with_server, limits_of}
+use Rattle.residents.specs.Held.{Held, Runs, Rolls, Waits, held_of, is_waiting, IsHeldWithin}
+use Rattle.residents.specs.Residents.{pids_in}
 use Rattle.cluster_core.specs.Parts.{AllOwn}
 use Rattle.cluster_core.specs.Queue.{AreTogether, Queued, posts_of, IsQueueLegal, move_of, with_queue}
 use Rattle.cluster_core.specs.Recovered.{left_by, moved_by, CanWait, with_all_waiting}
 use Rattle.cluster_core.specs.Holds.{IsHeldAs, is_fetch_queued, process_in, CarriesMarks, MarkedIfThere, unended_process}
 use Rattle.cluster_core.proofs.here.Beside.{FollowsBeside, HeldOf, of_them, one_of_them}
 use Rattle.cluster_core.specs.Calls.{with_entry, here_after}
-use Rattle.cluster_core.proofs.here.Here.{is_among, pid_same}
+use Rattle.cluster_core.proofs.here.Here.{is_among}
+use Rattle.residents.proofs.Changing.{pid_same}
 use Rattle.cluster_core.proofs.losses.Homes.{HomeHere, differ_built, home_here}
 use Rattle.cluster_core.proofs.losses.HomesMoved.{any_moved, homes_after, pids_moved, put_same, same_in_order}
 use Rattle.cluster_core.proofs.losses.MovedRecords.{all_recorded, number_there, passing_record, record_pid}

@@ -30,7 +30,7 @@ use Rattle.cert_sched.proofs.LogLaws.{IsLegal-last, placement-snoc}
 use Rattle.cert_sched.proofs.UnendedLaws.{loss_keeps, unended_map}
 use Rattle.cluster_core.specs.Queue.{is_lone, AreTogether, Queued, Nothing, One, posts_of, IsQueueLegal, falls, is_move_of, move_of}
 use Rattle.cluster_core.proofs.absorbing.ByKind.{by_kind, by_page, is_of_page, lone_is, may_told, told_may}
-use Rattle.cluster_core.proofs.here.Here.{pid_same}
+use Rattle.residents.proofs.Changing.{pid_same}
 use Rattle.cluster_core.proofs.losses.Homes.{differ_built}
 use Rattle.cluster_core.proofs.losses.HomesMoved.{stays_home}
 use Rattle.cluster_core.proofs.absorbing.Telling.{Telling, telling}

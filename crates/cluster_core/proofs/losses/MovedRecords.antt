@@ -9,7 +9,7 @@ use Rattle.t32_base.specs.declared.letter.BackRec.{BackRec}
 use Rattle.bus_msg.specs.Places.{same_pid}
 use Rattle.backup_records.specs.Records.{are_rising, record_in}
 use Rattle.page_waits.specs.Begun.{number_of}
-use Rattle.cluster_core.proofs.here.Here.{pid_same, same_itself}
+use Rattle.residents.proofs.Changing.{pid_same, same_itself}
 
 -- the record that is found of a process has its pid
 pub record_pid : (recs : List BackRec) (p : Pid) (r : BackRec) → record_in recs p ≡ Some r → r.pid ≡ p

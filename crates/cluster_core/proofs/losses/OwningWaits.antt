@@ -18,8 +18,9 @@ use Rattle.cert_sched.proofs.LogLaws.{IsLegal-last}
 use Rattle.backup_records.specs.Records.{are_rising, record_in, records_after}
 use Rattle.page_waits.specs.Waiting.{WaitingState}
 use Rattle.replay_laws.specs.pages.Waits.{first_wait}
-use Rattle.cluster_core.specs.View.{ClusterView, Held, Waits}
-use Rattle.cluster_core.specs.Residents.{with_more}
+use Rattle.cluster_core.specs.View.{ClusterView}
+use Rattle.residents.specs.Held.{Held, Waits}
+use Rattle.residents.specs.Changed.{with_more}
 use Rattle.cluster_core.specs.Parts.{AllOwn, IsHeldOwn, WaitsOwn}
 use Rattle.cluster_core.specs.Recovered.{moved_by, with_all_waiting, with_waiting}
 use Rattle.cluster_core.specs.Follows.{FollowsBuilt, IsOpen, StandsBetween}

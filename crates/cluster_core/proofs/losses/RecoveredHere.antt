@@ -9,8 +9,9 @@ use Rattle.cert_sched.specs.Parts.{put_rising, rising}
 use Rattle.cert_sched.proofs.RisingLaws.{put_all, put_all-put, put_rising-swap}
 use Rattle.page_waits.specs.Begun.{number_of}
 use Rattle.replay_laws.specs.pages.Waits.{first_wait}
-use Rattle.cluster_core.specs.View.{Held, Waits, held_of}
-use Rattle.cluster_core.specs.Residents.{pids_in, with_more}
+use Rattle.residents.specs.Held.{Held, Waits, held_of}
+use Rattle.residents.specs.Residents.{pids_in}
+use Rattle.residents.specs.Changed.{with_more}
 use Rattle.cluster_core.specs.Recovered.{with_all_waiting, with_waiting}
 
 -- ---- one more

@@ -27,7 +27,8 @@ use Rattle.page_accounts.specs.Keeps.{KeepsAccounts}
 use Rattle.page_accounts.proofs.WaitLaws.{earliest_is_kept}
 use Rattle.log_laws.proofs.records.Standing.{built_stands}
 use Rattle.cluster_core.specs.declared.worked.Worked.TheVariants.{Queued}
-use Rattle.cluster_core.specs.View.{ClusterView, Held, Runs, next_count, held_at}
+use Rattle.cluster_core.specs.View.{ClusterView, next_count, held_at}
+use Rattle.residents.specs.Held.{Held, Runs}
 use Rattle.cluster_core.specs.Holds.{IsHeldAs, KeepsIfThere}
 use Rattle.cluster_core.specs.Follows.{FollowsBuilt, IsOpen}
 use Rattle.cluster_core.specs.Queue.{One, is_lone}

@@ -17,15 +17,17 @@ use Rattle.page_waits.specs.Waiting.{WaitingState, next_page}
 use Rattle.replay_laws.specs.pages.Waits.{WaitsAs, none_queued}
 use Rattle.replay_laws.proofs.pages.Asks.{next_asked, next_fetch}
 use Rattle.cluster_core.specs.declared.worked.Worked.TheVariants.{Queued}
-use Rattle.cluster_core.specs.View.{ClusterView, Held, Waits, asked_held, held_at, next_count, page_lacked}
+use Rattle.cluster_core.specs.View.{ClusterView, held_at, next_count}
+use Rattle.residents.specs.Held.{Held, Waits, asked_held, page_lacked}
 use Rattle.cluster_core.specs.Holds.{IsHeldAs, is_fetch_queued}
 use Rattle.cluster_core.specs.Follows.{FollowsBuilt, IsOpen}
 use Rattle.cluster_core.specs.Queue.{One}
 use Rattle.cluster_core.specs.Calls.{GoesOn, WorkIs}
-use Rattle.cluster_core.specs.Residents.{with_changed}
-use Rattle.cluster_core.specs.Work.{AsksNext, fetch_post, owes_answer}
+use Rattle.residents.specs.Changed.{with_changed}
+use Rattle.residents.specs.Asking.{AsksNext}
+use Rattle.cluster_core.specs.Work.{fetch_post, owes_answer}
 use Rattle.cluster_core.proofs.forks.ForksAgain.{asked_forks, forks_changed}
-use Rattle.cluster_core.proofs.here.Here.{pids_changed, same_itself}
+use Rattle.residents.proofs.Changing.{pids_changed, same_itself}
 use Rattle.cluster_core.proofs.losses.Homes.{home_lives}
 use Rattle.cluster_core.proofs.absorbing.Served.{accounts_queued}
 use Rattle.replay_laws.proofs.forks.EitherWait.{lacks_pages, so_alike}

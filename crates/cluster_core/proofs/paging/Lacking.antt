@@ -31,12 +31,14 @@ use Rattle.replay_laws.proofs.forks.EitherWait.{for_pages, stated_record}
 use Rattle.replay_laws.proofs.forks.StatedAbove.{stated_above}
 use Rattle.cluster_core.specs.declared.worked.Worked.TheVariants.{Waits as IsWaiting, Rests}
 use Rattle.quanta.specs.declared.limits.Limits.{Limits}
-use Rattle.cluster_core.specs.View.{ClusterView, Held, Runs, Rolls, Waits, can_act, counted_once, held_at, held_of, is_waiting, limits_of, page_lacked}
-use Rattle.cluster_core.specs.Residents.{are_stuck, pids_in}
+use Rattle.cluster_core.specs.View.{ClusterView, counted_once, held_at, limits_of}
+use Rattle.residents.specs.Held.{Held, Runs, Rolls, Waits, can_act, held_of, is_waiting, page_lacked}
+use Rattle.residents.specs.Residents.{are_stuck, pids_in}
 use Rattle.cluster_core.specs.Parts.{AllOwn, IsHeldOwn}
 use Rattle.cluster_core.specs.Holds.{IsHeldAs, KeepsIfThere}
 use Rattle.cluster_core.specs.Calls.{OwesNoAnswer, OwesNothing, WaitsForPages, WorkIs}
-use Rattle.cluster_core.specs.Work.{any_lacks, any_waits, is_first_server, owes_answer}
+use Rattle.residents.specs.Asking.{any_lacks, any_waits}
+use Rattle.cluster_core.specs.Work.{is_first_server, owes_answer}
 use Rattle.cluster_core.specs.Follows.{FollowsBuilt, IsOpen}
 use Rattle.cluster_core.specs.ForksAgain.{has_to_bear}
 use Rattle.cluster_core.proofs.forks.ForksAgain.{bears_by}
@@ -44,7 +46,8 @@ use Rattle.cluster_core.proofs.forks.ForksPaged.{among_unsynced}
 use Rattle.cluster_core.proofs.losses.HeldAtHome.{held_at_home, home_found}
 use Rattle.cluster_core.proofs.losses.Homes.{HomeHere}
 use Rattle.cluster_core.proofs.losses.FirstServer.{FirstServes, first_serves}
-use Rattle.cluster_core.proofs.here.Here.{is_among, same_itself}
+use Rattle.cluster_core.proofs.here.Here.{is_among}
+use Rattle.residents.proofs.Changing.{same_itself}
 use Rattle.cluster_core.proofs.working.Lightening.{pids_apart}
 use Rattle.cluster_core.proofs.here.Owning.{own_at, stuck_rest, waiting_rests_not}
 use Rattle.cluster_core.proofs.working.Working.{home_of_it}

@@ -5,10 +5,11 @@ use Rattle.t32_base.specs.declared.process.Pid.{Pid}
 use Rattle.bus_msg.specs.declared.entry.What.{What}
 use Rattle.bus_msg.specs.declared.entry.What.TheVariants.{PageIs}
 use Rattle.bus_msg.specs.Places.{same_pid}
-use Rattle.cluster_core.specs.View.{Held, held_of, page_held}
-use Rattle.cluster_core.specs.Calls.{here_after, with_page_come}
+use Rattle.residents.specs.Held.{Held, held_of, page_held}
+use Rattle.cluster_core.specs.Calls.{here_after}
+use Rattle.residents.specs.Arriving.{with_page_come}
 use Rattle.cluster_core.proofs.absorbing.ByKind.{by_page, is_of_page}
-use Rattle.cluster_core.proofs.here.Here.{pid_same}
+use Rattle.residents.proofs.Changing.{pid_same}
 
 -- what an entry of a page makes of one process
 abbrev pub page_at : What → Pid → Held → Held

@@ -34,8 +34,9 @@ use Rattle.replay_laws.proofs.rolling.ByRule.{built_stands as standing}
 use Rattle.cluster_core.specs.Families.{family_after}
 use Rattle.cluster_core.specs.Owed.{HoldsOwed, owed_after}
 use Rattle.cluster_core.proofs.awaiting.OwedNext.{owed_next}
-use Rattle.cluster_core.specs.View.{page_held, ClusterView, Held, Runs, Rolls, Waits, next_count, with_server, held_of, IsHeldWithin, limits_of, rolling_held}
-use Rattle.cluster_core.specs.Residents.{pids_in}
+use Rattle.residents.specs.Held.{page_held, Held, Runs, Rolls, Waits, held_of, IsHeldWithin, rolling_held}
+use Rattle.cluster_core.specs.View.{ClusterView, next_count, with_server, limits_of}
+use Rattle.residents.specs.Residents.{pids_in}
 use Rattle.cluster_core.specs.Queue.{AreTogether, Queued, Nothing, One, posts_of, IsQueueLegal, move_of, state_by, state_now, with_queue}
 use Rattle.cluster_core.specs.Recovered.{left_by, moved_by, with_all_waiting}
 use Rattle.cluster_core.specs.Holds.{IsHeldAs, is_fetch_queued, process_in, CarriesMarks, MarkedIfThere, unended_process, HoldsLimits}
@@ -44,7 +45,8 @@ use Rattle.cluster_core.specs.Calls.{with_entry, here_after}
 use Rattle.cluster_core.proofs.births.FamilyNext.{family_next}
 use Rattle.cluster_core.proofs.absorbing.ByKind.{by_page, is_of_page, lone_is, may_told, page_unlost, told_may}
 use Rattle.cluster_core.proofs.here.Beside.{FollowsBeside, HeldOf, WaitsAs, any_of, one_of_them, told_waits, waits_as}
-use Rattle.cluster_core.proofs.here.Here.{is_among, pid_same}
+use Rattle.cluster_core.proofs.here.Here.{is_among}
+use Rattle.residents.proofs.Changing.{pid_same}
 use Rattle.cluster_core.proofs.losses.Homes.{HomeHere, differ_built, home_here, pids_home}
 use Rattle.cluster_core.proofs.absorbing.Telling.{Telling, telling}
 use Rattle.cluster_core.proofs.absorbing.Counted.{lost_before}

@@ -13,8 +13,8 @@ use Rattle.bus_msg.specs.declared.entry.What.{What}
 use Rattle.bus_msg.specs.declared.entry.What.TheVariants.{Mail, PageIs}
 use Rattle.bus_msg.specs.declared.entry.Post.{Post}
 use Rattle.bus_msg.specs.declared.entry.Entry.{Entry}
-use Rattle.bus_msg.specs.Places.{same_pid}
-use Rattle.bus_msg.specs.PlacedAfter.{what}
+use Rattle.bus_msg.specs.Places.{same_pid, unended_at}
+use Rattle.bus_msg.specs.PlacedAfter.{what, placed_after}
 use Rattle.roll_forward.specs.Deeds.{Sends}
 use Rattle.cert_sched.specs.Built.{tells_or_closes, MayStand}
 use Rattle.cert_sched.specs.Deeds.{deeds_in, is_cut, is_end_of}
@@ -24,8 +24,6 @@ use Rattle.cert_sched.specs.Told.{cluster_lost, is_moved}
 use Rattle.cert_sched.specs.Schedule.{placement}
 use Rattle.log_laws.specs.pages.Next.{moves_next}
 use Rattle.cert_sched.proofs.LogLaws.{placement-snoc}
-use Rattle.bus_msg.specs.Places.{unended_at}
-use Rattle.bus_msg.specs.PlacedAfter.{placed_after}
 use Rattle.replay_laws.proofs.pages.Follows.{page_within, page_entry}
 use Rattle.replay_laws.proofs.pages.GoesOn.{can_go_on, goes_on}
 use Rattle.replay_laws.proofs.pages.PagesCame.{has_all}
@@ -35,12 +33,12 @@ use Rattle.page_waits.specs.Waiting.{WaitingState, is_whole, rolling_of, with_pa
 use Rattle.replay_laws.specs.pages.Waits.{WaitsAs}
 use Rattle.replay_laws.specs.forks.ForkWaits.{WaitsSo}
 use Rattle.replay_laws.proofs.forks.EitherWait.{page_for, so_alike, so_follows}
-use Rattle.cluster_core.specs.View.{Waits, Rolls, Runs, page_held, rolling_held}
+use Rattle.residents.specs.Held.{Waits, Rolls, Runs, page_held, rolling_held}
 use Rattle.cluster_core.specs.Queue.{move_of, state_by}
 use Rattle.cluster_core.specs.Holds.{IsHeldAs, is_fetch_queued, process_in, CarriesMarks, MarkedIfThere, unended_process}
 use Rattle.cluster_core.proofs.absorbing.ByKind.{by_kind, by_page, is_of_page}
 use Rattle.cluster_core.proofs.here.Here.{arrival_at}
-use Rattle.cluster_core.specs.Resident.{CanComeTo}
+use Rattle.residents.specs.Resident.{CanComeTo}
 use Rattle.cert_sched.specs.Legal.{IsLegalBy}
 use Rattle.cluster_core.specs.Follows.{IsOpen}
 use Rattle.roll_forward.specs.Rolling.{RollingState}

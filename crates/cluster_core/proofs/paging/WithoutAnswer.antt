@@ -15,8 +15,9 @@ use Rattle.cluster_core.specs.Follows.{FollowsBuilt, IsOpen}
 use Rattle.cluster_core.specs.Holds.{CarriesMarks, IsHeldAs, MarkedIfThere, unended_process}
 use Rattle.cert_sched.specs.Moved.{is_fetch}
 use Rattle.cluster_core.specs.Queue.{IsQueueLegal, Nothing, One, is_lone, is_rebackup, move_of, with_queue}
-use Rattle.cluster_core.specs.Residents.{pids_in}
-use Rattle.cluster_core.specs.View.{ClusterView, Held, disk_calls, held_at}
+use Rattle.residents.specs.Residents.{pids_in}
+use Rattle.cluster_core.specs.View.{ClusterView, disk_calls, held_at}
+use Rattle.residents.specs.Held.{Held}
 use Rattle.cluster_core.proofs.absorbing.Counted.{capped_less}
 use Rattle.cluster_core.proofs.absorbing.Fallen.{IsComing}
 use Rattle.cluster_core.proofs.absorbing.Served.{IsPlain, least_queued}

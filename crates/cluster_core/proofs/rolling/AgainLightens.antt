@@ -14,14 +14,15 @@ use Rattle.sys_calls.proofs.ForkLaws.{forks_can}
 use Rattle.roll_forward.specs.RunsOut.{nothing_left}
 use Rattle.bus_msg.specs.Places.{same_pid}
 use Rattle.cert_sched.proofs.RisingLaws.{NoTwo}
-use Rattle.cluster_core.specs.Bearing.{forked, newborn}
-use Rattle.cluster_core.specs.Changed.{with_changed}
-use Rattle.cluster_core.specs.ForkingAgain.{begun_with, going_held, with_begun, with_mail_of, ForksAgain, NoPart, Part, RollsAgain, RollsPart}
-use Rattle.cluster_core.specs.Residents.{pids_in}
-use Rattle.cluster_core.specs.View.{Held, Runs, Rolls, Waits, held_load, process_load}
-use Rattle.cluster_core.proofs.here.Here.{pids_changed}
+use Rattle.residents.specs.Bearing.{forked, newborn}
+use Rattle.residents.specs.Changed.{with_changed}
+use Rattle.residents.specs.ForkingAgain.{begun_with, going_held, with_begun, with_mail_of, ForksAgain, NoPart, Part, RollsAgain, RollsPart}
+use Rattle.residents.specs.Residents.{pids_in}
+use Rattle.residents.specs.Held.{Held, Runs, Rolls, Waits}
+use Rattle.cluster_core.specs.View.{held_load, process_load}
+use Rattle.residents.proofs.Changing.{pids_changed}
 use Rattle.cluster_core.proofs.here.HeldLoads.{fewer_loads, one_lighter, process_bounds, rolled_leaves, sum_held}
-use Rattle.cluster_core.proofs.rolling.RollingParts.{pids_begun}
+use Rattle.residents.proofs.RollingParts.{pids_begun}
 
 -- ---- the pids stay
 

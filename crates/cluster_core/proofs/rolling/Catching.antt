@@ -18,8 +18,8 @@ use Rattle.replay_laws.specs.rolling.Behind.{RollsBehind}
 use Rattle.replay_laws.proofs.rolling.ByRule.{built_caught_up, standing_behind}
 use Rattle.replay_laws.proofs.rolling.Reaching.{led_unended}
 use Rattle.replay_laws.proofs.rolling.Stepping.{went_on}
-use Rattle.cluster_core.specs.View.{Held, Runs, Rolls, Waits}
-use Rattle.cluster_core.specs.Quantum.{RollsTo}
+use Rattle.residents.specs.Held.{Held, Runs, Rolls, Waits}
+use Rattle.residents.specs.Quantum.{RollsTo}
 use Rattle.cluster_core.specs.Follows.{IsOpen}
 use Rattle.cluster_core.specs.Holds.{IsHeldAs}
 use Rattle.cluster_core.proofs.absorbing.Telling.{at_once}

@@ -5,8 +5,9 @@ use Rattle.sys_text.specs.Valid.{is_system}
 use Rattle.bus_msg.specs.declared.entry.Entry.{Entry}
 use Rattle.cert_sched.specs.Built.{MayStand}
 use Rattle.cluster_core.specs.Follows.{FollowsBuilt, IsOpen}
-use Rattle.cluster_core.specs.ForkingAgain.{NoPart, Part, RollsAgain, RollsPart}
-use Rattle.cluster_core.specs.View.{ClusterView, Held}
+use Rattle.residents.specs.ForkingAgain.{NoPart, Part, RollsAgain, RollsPart}
+use Rattle.cluster_core.specs.View.{ClusterView}
+use Rattle.residents.specs.Held.{Held}
 use Rattle.cluster_core.proofs.forks.ForkedOn.{forks_again_follows}
 use Rattle.cluster_core.proofs.rolling.RollsAgain.{rolls_again_follows}
 

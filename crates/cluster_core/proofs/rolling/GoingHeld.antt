@@ -15,9 +15,10 @@ use Rattle.log_laws.proofs.records.Standing.{built_stands}
 use Rattle.replay_laws.specs.rolling.Behind.{RollsBehind}
 use Rattle.replay_laws.proofs.rolling.ByRule.{built_caught_up}
 use Rattle.replay_laws.proofs.costs.CaughtLimits.{caught_keeps}
-use Rattle.cluster_core.specs.View.{Runs, Rolls, IsHeldWithin, limits_of}
+use Rattle.residents.specs.Held.{Runs, Rolls, IsHeldWithin}
+use Rattle.cluster_core.specs.View.{limits_of}
 use Rattle.cluster_core.specs.Follows.{IsOpen}
-use Rattle.cluster_core.specs.ForkingAgain.{going_held}
+use Rattle.residents.specs.ForkingAgain.{going_held}
 use Rattle.cluster_core.specs.Holds.{CarriesMarks, IsHeldAs, MarkedIfThere, unended_process}
 use Rattle.cluster_core.proofs.absorbing.Telling.{at_once}
 use Rattle.cluster_core.proofs.here.Within.{own_within, runs_marked}

@@ -5,11 +5,11 @@ use Rattle.t32_base.specs.declared.process.Counts.{Counts}
 use Rattle.proc_state.specs.declared.process.Process.{Process}
 use Rattle.roll_forward.specs.RunsOut.{nothing_left}
 use Rattle.bus_msg.specs.Places.{same_pid}
-use Rattle.cluster_core.specs.Bearing.{forked, newborn}
-use Rattle.cluster_core.specs.ForkingAgain.{begun_with, going_held, with_begun, with_mail_of, NoPart, Part, RollsAgain, RollsPart}
+use Rattle.residents.specs.Bearing.{forked, newborn}
+use Rattle.residents.specs.ForkingAgain.{begun_with, going_held, with_begun, with_mail_of, NoPart, Part, RollsAgain, RollsPart}
 use Rattle.cluster_core.specs.Parts.{AllOwn, IsHeldOwn, IsOwn}
-use Rattle.cluster_core.specs.View.{Held, Runs, Rolls, Waits}
-use Rattle.cluster_core.proofs.here.Here.{pid_same}
+use Rattle.residents.specs.Held.{Held, Runs, Rolls, Waits}
+use Rattle.residents.proofs.Changing.{pid_same}
 use Rattle.cluster_core.proofs.here.Owning.{own_at, own_between, own_changed}
 use Rattle.cluster_core.proofs.births.OwningBirths.{own_forked}
 

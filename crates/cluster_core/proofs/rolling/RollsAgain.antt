@@ -5,14 +5,15 @@ use Rattle.sys_text.specs.Valid.{is_system}
 use Rattle.bus_msg.specs.declared.entry.Entry.{Entry}
 use Rattle.cert_sched.specs.Parts.{rising}
 use Rattle.cert_sched.specs.Built.{MayStand}
-use Rattle.cluster_core.specs.View.{ClusterView, Held, Waits, held_at}
-use Rattle.cluster_core.specs.Residents.{with_changed}
+use Rattle.cluster_core.specs.View.{ClusterView, held_at}
+use Rattle.residents.specs.Held.{Held, Waits}
+use Rattle.residents.specs.Changed.{with_changed}
 use Rattle.cluster_core.specs.Queue.{Nothing, with_queue}
 use Rattle.cluster_core.specs.Holds.{CarriesMarks, IsHeldAs, MarkedIfThere, process_in, unended_process}
 use Rattle.cluster_core.specs.Follows.{FollowsBuilt, IsOpen}
-use Rattle.cluster_core.specs.Quantum.{RollsTo}
+use Rattle.residents.specs.Quantum.{RollsTo}
 use Rattle.cluster_core.proofs.forks.ForksAgain.{forks_changed, rolled_forks}
-use Rattle.cluster_core.proofs.here.Here.{pids_changed}
+use Rattle.residents.proofs.Changing.{pids_changed}
 use Rattle.cluster_core.proofs.working.Working.{held_beside, held_between, limits_beside, marked_between, marks_beside, pages_beside, within_between}
 
 -- who makes such steps is no one that waits

@@ -28,8 +28,9 @@ use Rattle.checkpoint_laws.proofs.posts.TakeLeaves.{takes_leave}
 use Rattle.checkpoint_laws.specs.batches.Underway.{BatchMay, page_left, posts_left, sync_left}
 use Rattle.checkpoint_laws.proofs.batches.QueuedBatch.{queued_sent_before}
 use Rattle.log_laws.proofs.records.Standing.{built_stands}
-use Rattle.cluster_core.specs.View.{ClusterView, Held, Runs, Rolls, Waits, disk_calls, head_of, held_at}
-use Rattle.cluster_core.specs.Residents.{pids_in}
+use Rattle.cluster_core.specs.View.{ClusterView, disk_calls, head_of, held_at}
+use Rattle.residents.specs.Held.{Held, Runs, Rolls, Waits}
+use Rattle.residents.specs.Residents.{pids_in}
 use Rattle.cluster_core.specs.Queue.{Nothing, IsQueueLegal, move_of, state_by, with_queue}
 use Rattle.cluster_core.specs.Holds.{CarriesMarks, IsHeldAs, MarkedIfThere, is_fetch_queued, unended_process}
 use Rattle.cluster_core.specs.Syncing.{Synchronises}
@@ -37,7 +38,8 @@ use Rattle.cluster_core.specs.Follows.{FollowsBuilt, IsOpen}
 use Rattle.cluster_core.proofs.syncs.BatchPosts.{batch_calls, batch_fetches_none, batch_legal, batch_log, batch_marks_others, batch_marks_others_before, batch_marks_own, batch_moves, batch_moves_other, batch_own}
 use Rattle.cluster_core.proofs.here.Beside.{FollowsBeside, HeldOf, any_of, one_of_them}
 use Rattle.cluster_core.proofs.absorbing.ByKind.{is_of_sync}
-use Rattle.cluster_core.proofs.here.Here.{is_among, pid_same}
+use Rattle.cluster_core.proofs.here.Here.{is_among}
+use Rattle.residents.proofs.Changing.{pid_same}
 use Rattle.cluster_core.proofs.losses.Homes.{differ_built, home_here}
 use Rattle.cluster_core.proofs.syncs.Marking.{came_to}
 use Rattle.replay_laws.proofs.forks.EitherWait.{so_alike}

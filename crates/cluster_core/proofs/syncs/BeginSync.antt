@@ -32,14 +32,17 @@ use Rattle.checkpoint_laws.specs.posts.Running.{RunsMarked}
 use Rattle.checkpoint_laws.specs.posts.Sending.{MaySend}
 use Rattle.checkpoint_laws.specs.batches.Underway.{BatchMay, posts_left}
 use Rattle.checkpoint_laws.proofs.batches.BatchBegins.{batch_begins, batch_posts}
-use Rattle.cluster_core.specs.View.{ClusterView, Held, Runs, disk_calls, held_at, limits_of, next_count}
-use Rattle.cluster_core.specs.Residents.{pids_in, with_changed}
+use Rattle.cluster_core.specs.View.{ClusterView, disk_calls, held_at, limits_of, next_count}
+use Rattle.residents.specs.Held.{Held, Runs}
+use Rattle.residents.specs.Residents.{pids_in}
+use Rattle.residents.specs.Changed.{with_changed}
 use Rattle.cluster_core.specs.Queue.{Nothing, with_queue}
 use Rattle.cluster_core.specs.Holds.{CarriesMarks, IsHeldAs, MarkedIfThere, unended_process}
 use Rattle.cluster_core.specs.Syncing.{Synchronises}
 use Rattle.cluster_core.specs.Follows.{FollowsBuilt, IsOpen}
 use Rattle.cluster_core.specs.Calls.{GoesOn}
-use Rattle.cluster_core.proofs.here.Here.{FoundChanged, changed_there, found_changed, is_among, pids_changed}
+use Rattle.residents.proofs.Changing.{FoundChanged, changed_there, found_changed, pids_changed}
+use Rattle.cluster_core.proofs.here.Here.{is_among}
 use Rattle.cluster_core.proofs.losses.Homes.{HomeHere, differ_built, home_here, home_lives}
 use Rattle.cluster_core.proofs.syncs.Batching.{all_but, unqueued, with_batch}
 use Rattle.cluster_core.proofs.forks.ForksAgain.{forks_changed}

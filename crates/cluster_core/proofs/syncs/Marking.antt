@@ -45,7 +45,7 @@ use Rattle.checkpoint_laws.specs.marks.Sent.{SentUpto, is_later_page}
 use Rattle.checkpoint_laws.proofs.marks.EntryMarks.{marks_before, marks_kept}
 use Rattle.checkpoint_laws.proofs.marks.LetterMarks.{letter_kept}
 use Rattle.checkpoint_laws.proofs.marks.SentPages.{sent_on}
-use Rattle.cluster_core.specs.View.{Held, Runs, Rolls, Waits, arrived, arrived_held}
+use Rattle.residents.specs.Held.{Held, Runs, Rolls, Waits, arrived, arrived_held}
 use Rattle.cluster_core.specs.Queue.{AreTogether, Queued, Nothing, One, posts_of, IsQueueLegal, is_lone, is_move_of, is_rebackup, move_of, state_by, state_now, taken_by, tells_steps, with_queue}
 use Rattle.cluster_core.specs.Holds.{CarriesMarks, IsHeldAs, MarkedIfThere, process_in, unended_process}
 use Rattle.cluster_core.proofs.absorbing.ByKind.{by_kind, by_page, is_of_page, lone_is, told_may}

@@ -28,8 +28,9 @@ use Rattle.checkpoint_laws.proofs.batches.PageSent.{page_sent}
 use Rattle.checkpoint_laws.proofs.batches.RestMarks.{last_cuts}
 use Rattle.page_server.specs.Account.{PagerState}
 use Rattle.page_waits.specs.Waiting.{WaitingState}
-use Rattle.cluster_core.specs.View.{ClusterView, Held, Runs, Rolls, Waits, after_sent, head_of, held_at, with_server}
-use Rattle.cluster_core.specs.Residents.{pids_in}
+use Rattle.cluster_core.specs.View.{ClusterView, after_sent, head_of, held_at, with_server}
+use Rattle.residents.specs.Held.{Held, Runs, Rolls, Waits}
+use Rattle.residents.specs.Residents.{pids_in}
 use Rattle.cluster_core.specs.Parts.{AllOwn}
 use Rattle.cluster_core.specs.Queue.{Nothing, IsQueued, IsQueueLegal, is_rebackup, move_of, state_by, state_now, with_queue}
 use Rattle.cluster_core.specs.Holds.{IsHeldAs, is_fetch_queued, CarriesMarks, MarkedIfThere, unended_process}
@@ -45,7 +46,8 @@ use Rattle.cluster_core.proofs.absorbing.ByKind.{by_sync, is_of_sync}
 use Rattle.cluster_core.proofs.absorbing.Counted.{count_by-snoc, lost_before}
 use Rattle.cluster_core.proofs.absorbing.Following.{counted_own}
 use Rattle.cluster_core.proofs.paging.HasPages.{pages_after}
-use Rattle.cluster_core.proofs.here.Here.{is_among, pid_same}
+use Rattle.cluster_core.proofs.here.Here.{is_among}
+use Rattle.residents.proofs.Changing.{pid_same}
 use Rattle.cluster_core.proofs.losses.Homes.{HomeHere, home_here}
 use Rattle.cluster_core.proofs.here.Owning.{own_at}
 use Rattle.cluster_core.proofs.absorbing.Served.{accounts_on, ahead_after, brought}

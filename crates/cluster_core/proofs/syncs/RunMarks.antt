@@ -26,8 +26,8 @@ use Rattle.checkpoint_laws.proofs.marks.RolledReads.{rolled_over}
 use Rattle.checkpoint_laws.proofs.marks.SendingMarks.{sending_marked, sending_sent}
 use Rattle.cluster_core.specs.Holds.{CarriesMarks, IsHeldAs, MarkedIfThere, unended_process}
 use Rattle.quanta.specs.Quantum.{RunsOn}
-use Rattle.cluster_core.specs.Quantum.{RollsTo, RunsTo}
-use Rattle.cluster_core.specs.View.{Held, Runs, Rolls, Waits}
+use Rattle.residents.specs.Quantum.{RollsTo, RunsTo}
+use Rattle.residents.specs.Held.{Held, Runs, Rolls, Waits}
 use Rattle.log_laws.proofs.letters.RollingReads.{rolling_reads, silent_next}
 use Rattle.replay_laws.proofs.rolling.Others.{rolls_next}
 

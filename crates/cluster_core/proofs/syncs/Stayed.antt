@@ -35,8 +35,9 @@ use Rattle.checkpoint_laws.proofs.batches.EntryBetween.{batch_stays}
 use Rattle.checkpoint_laws.proofs.batches.OtherSenders.{others_between}
 use Rattle.checkpoint_laws.proofs.limits.RestLimits.{between_keeps}
 use Rattle.log_laws.proofs.records.Standing.{built_stands}
-use Rattle.cluster_core.specs.View.{ClusterView, Held, Runs, arrived, arrived_held, held_at, held_of, page_held}
-use Rattle.cluster_core.specs.Residents.{pids_in}
+use Rattle.cluster_core.specs.View.{ClusterView, held_at}
+use Rattle.residents.specs.Held.{Held, Runs, arrived, arrived_held, held_of, page_held}
+use Rattle.residents.specs.Residents.{pids_in}
 use Rattle.cluster_core.specs.Syncing.{Synchronises}
 use Rattle.cluster_core.specs.Follows.{FollowsBuilt, IsOpen}
 use Rattle.cluster_core.proofs.syncs.Batching.{all_but, sent_there, unqueued, with_batch}

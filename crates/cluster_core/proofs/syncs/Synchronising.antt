@@ -42,7 +42,8 @@ use Rattle.page_server.specs.Account.{PagerState}
 use Rattle.page_waits.specs.Waiting.{WaitingState}
 use Rattle.cluster_core.specs.Families.{family_after}
 use Rattle.cluster_core.specs.Owed.{owed_after}
-use Rattle.cluster_core.specs.View.{ClusterView, Held, Waits, next_count, with_server}
+use Rattle.cluster_core.specs.View.{ClusterView, next_count, with_server}
+use Rattle.residents.specs.Held.{Held, Waits}
 use Rattle.cluster_core.specs.Parts.{AllOwn}
 use Rattle.cluster_core.specs.Queue.{AreTogether, Queued, posts_of, is_lone}
 use Rattle.cluster_core.specs.Recovered.{left_by, moved_by, with_all_waiting}
@@ -53,7 +54,7 @@ use Rattle.cluster_core.specs.Calls.{with_entry, here_after}
 use Rattle.cluster_core.specs.Serving.{Serves}
 use Rattle.cluster_core.proofs.absorbing.ByKind.{by_sync, is_of_sync}
 use Rattle.cluster_core.proofs.absorbing.Following.{by_home_of, by_one}
-use Rattle.cluster_core.proofs.here.Here.{pid_same}
+use Rattle.residents.proofs.Changing.{pid_same}
 use Rattle.cluster_core.proofs.losses.Homes.{HomeHere, differ_built, pids_home}
 use Rattle.cluster_core.proofs.syncs.SyncedHomes.{home_kept, pids_synced, synced_found}
 use Rattle.cluster_core.proofs.absorbing.Unmoved.{emission_same, silent_same}

@@ -27,12 +27,14 @@ use Rattle.cert_sched.proofs.RollLaws.{all_roll, two_apart}
 use Rattle.cluster_core.specs.declared.worked.Worked.TheVariants.{Moved, Queued}
 use Rattle.cluster_core.proofs.rolling.AgainLightens.{again_lightens, again_no_heavier, again_pids}
 use Rattle.cluster_core.proofs.here.HeldLoads.{fewer_loads, held_weight, one_lighter, process_bounds, silent_leaves, silent_load, silent_no_heavier, sum_held}
-use Rattle.cluster_core.specs.ForkingAgain.{RollsAgain}
-use Rattle.cluster_core.specs.View.{ClusterView, Held, Runs, asked_held, has_moved, held_load, held_of, limits_of, load, process_load}
+use Rattle.residents.specs.ForkingAgain.{RollsAgain}
+use Rattle.cluster_core.specs.View.{ClusterView, has_moved, held_load, limits_of, load, process_load}
+use Rattle.residents.specs.Held.{Held, Runs, asked_held, held_of}
 use Rattle.cluster_core.specs.Follows.{FollowsBuilt}
 use Rattle.cluster_core.specs.Calls.{FollowsSome, QueuesBatch, QueuesBirth, QueuesFetch, QueuesOne, WorkIs}
-use Rattle.cluster_core.specs.Quantum.{Moves}
-use Rattle.cluster_core.specs.Residents.{pids_in, with_changed}
+use Rattle.residents.specs.Quantum.{Moves}
+use Rattle.residents.specs.Residents.{pids_in}
+use Rattle.residents.specs.Changed.{with_changed}
 
 -- ---- no pid stands twice
 

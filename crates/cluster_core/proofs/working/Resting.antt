@@ -2,10 +2,9 @@
 use Rattle.std.proofs.Common.{◌≡◌, ℕ, refl, sym, ◌∙◌, ap, subst, arith, Result, Ok, Err, List, [], ◌∷◌, map, Bool, true, false, cond, not, ◌&&◌, ◌||◌, eqb, eqb-true, ltb, Option, Some, None, true≢false}
 use Rattle.std.specs.Prelude.{IfOk, IfSome, find, is_some, nat_le, option_map}
 use Rattle.std.specs.List.{list_any, list_all}
-use Rattle.std.proofs.lemmas.Bool.{le-leb}
+use Rattle.std.proofs.lemmas.Bool.{le-leb, and_parts, and_from}
 use Rattle.std.proofs.lemmas.Bool.Decides.{nat_tests}
 use Rattle.std.specs.Option.{option_map_or}
-use Rattle.std.proofs.lemmas.Bool.{and_parts, and_from}
 use Rattle.t32_base.specs.declared.process.Pid.{Pid}
 use Rattle.sys_text.specs.declared.system.System.{System}
 use Rattle.proc_state.specs.State.{ProcState, state_of}
@@ -17,13 +16,16 @@ use Rattle.cert_sched.specs.Rests.{is_idle, is_idle_at}
 use Rattle.proc_state.specs.declared.process.Process.{Process}
 use Rattle.quanta.specs.declared.limits.Limits.{Limits}
 use Rattle.quanta.specs.Limited.{is_due}
-use Rattle.cluster_core.specs.View.{ClusterView, Held, Runs, held_of, limits_of, steps_of_held}
+use Rattle.cluster_core.specs.View.{ClusterView, limits_of}
+use Rattle.residents.specs.Held.{Held, Runs, held_of, steps_of_held}
 use Rattle.bus_msg.specs.Places.{same_pid}
 use Rattle.cert_sched.proofs.RisingLaws.{NoTwo}
-use Rattle.cluster_core.proofs.here.Here.{is_among, same_itself}
-use Rattle.cluster_core.specs.Residents.{are_rising, pids_in, are_settled}
+use Rattle.cluster_core.proofs.here.Here.{is_among}
+use Rattle.residents.proofs.Changing.{same_itself}
+use Rattle.residents.specs.Residents.{are_rising, pids_in, are_settled}
 use Rattle.cluster_core.specs.Parts.{AllOwn}
-use Rattle.cluster_core.specs.Calls.{RestsIn, are_at_rest, is_at_rest, is_resting, rests_in, rests_of}
+use Rattle.cluster_core.specs.Calls.{RestsIn, are_at_rest, is_at_rest, is_resting, rests_of}
+use Rattle.residents.specs.Told.{rests_in}
 use Rattle.cluster_core.proofs.here.Owning.{settled_rest}
 use Rattle.cluster_core.proofs.working.Working.{ahead, held_before}
 

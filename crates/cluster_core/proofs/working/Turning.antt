@@ -13,40 +13,43 @@ use Rattle.cert_sched.specs.Built.{is_unlost}
 use Rattle.cert_sched.specs.Losses.{is_from}
 use Rattle.t32_base.specs.declared.process.ClusterNo.{ClusterNo}
 use Rattle.page_server.specs.Account.{PagerState}
-use Rattle.cluster_core.specs.declared.quantum.Sending.{Sending}
-use Rattle.cluster_core.specs.declared.quantum.Quantum.{Quantum}
-use Rattle.cluster_core.specs.declared.quantum.Forking.{Forking}
-use Rattle.cluster_core.specs.declared.quantum.Quantum.TheVariants.{Moved as QuantumMoved, Sent as QuantumSent, Synced as QuantumSynced, Forks as QuantumForks}
+use Rattle.residents.specs.declared.quantum.Sending.{Sending}
+use Rattle.residents.specs.declared.quantum.Quantum.{Quantum}
+use Rattle.residents.specs.declared.quantum.Forking.{Forking}
+use Rattle.residents.specs.declared.quantum.Quantum.TheVariants.{Moved as QuantumMoved, Sent as QuantumSent, Synced as QuantumSynced, Forks as QuantumForks}
 use Rattle.cluster_core.specs.declared.worked.Worked.{Worked}
 use Rattle.cluster_core.specs.declared.worked.Worked.TheVariants.{Moved, Queued, Waits, Rests}
-use Rattle.cluster_core.specs.View.{ClusterView, Held, Runs, asked_held, can_act, counted_once, held_at, held_of, limits_of, next_count}
+use Rattle.cluster_core.specs.View.{ClusterView, counted_once, held_at, limits_of, next_count}
+use Rattle.residents.specs.Held.{Held, Runs, asked_held, can_act, held_of}
 use Rattle.plain_kernel.specs.Maps.{pid_of}
-use Rattle.cluster_core.specs.Residents.{ChosenTurn, HasTurn, ResidentsView, SyncsChild, TakesTurn, none_has_turn, with_changed}
+use Rattle.residents.specs.Residents.{ChosenTurn, HasTurn, ResidentsView, SyncsChild, TakesTurn, none_has_turn}
+use Rattle.residents.specs.Changed.{with_changed}
 use Rattle.cluster_core.specs.Parts.{AllOwn}
 use Rattle.birth_notice.specs.Family.{first_unsynced}
 use Rattle.cert_sched.specs.Record.{has_state}
 use Rattle.quanta.specs.Limited.{is_due}
 use Rattle.sys_calls.specs.Next.{is_exit, next_step}
-use Rattle.cluster_core.specs.ChildrenFirst.{comes_after_children}
+use Rattle.residents.specs.ChildrenFirst.{comes_after_children}
 use Rattle.cluster_core.specs.Calls.{FollowsSome, GoesOn, IsNextToSync, OwesNothing, WorkIs, is_resting}
 use Rattle.cluster_core.specs.Bearing.{birth_post}
-use Rattle.cluster_core.specs.Quantum.{ComesToFork, Sends, Syncs, forking_of, post_told}
-use Rattle.cluster_core.specs.Work.{AnswersNext, AsksNext, NoPages, QueuesAnswer, QueuesFetch, RunsNext, WorksOn, any_lacks, any_waits, birth_told, child_of, fetch_post, owes_answer}
+use Rattle.residents.specs.Quantum.{ComesToFork, Sends, Syncs, forking_of, post_told}
+use Rattle.cluster_core.specs.Work.{AnswersNext, NoPages, QueuesAnswer, QueuesFetch, RunsNext, WorksOn, birth_told, child_of, fetch_post, owes_answer}
+use Rattle.residents.specs.Asking.{AsksNext, any_lacks, any_waits}
 use Rattle.cluster_core.proofs.paging.Answering.{answered_built, answered_goes_on, answered_own, answered_work}
 use Rattle.cluster_core.proofs.paging.Fetching.{asked_goes_on, asked_work, fetch_own}
 use Rattle.cluster_core.proofs.paging.Lacking.{rested_work, waited_work}
 use Rattle.cluster_core.proofs.births.BirthTurn.{birth_goes_on}
 use Rattle.cluster_core.proofs.here.Owning.{own_asked, own_at, own_at_fork, own_before_sent, own_changed, own_quantum, own_sent, own_synced}
 use Rattle.cluster_core.proofs.syncs.BeginSync.{MayCutIn, batch_goes_on, due_or_takes}
-use Rattle.cluster_core.proofs.births.ChildFirst.{before_from, before_is, comes_acts}
+use Rattle.residents.proofs.ChildFirst.{before_from, before_is, comes_acts}
 use Rattle.cluster_core.proofs.births.ChildrenKept.{synced_where_none}
 use Rattle.cluster_core.proofs.births.ChildrenSynced.{first_childless, first_may}
 use Rattle.cluster_core.proofs.here.Hindering.{none_moves}
-use Rattle.cluster_core.specs.ForkingAgain.{RollsAgain}
-use Rattle.cluster_core.proofs.here.Acting.{ActsThere, fork_acts, moved_acts, sent_acts, synced_acts}
+use Rattle.residents.specs.ForkingAgain.{RollsAgain}
+use Rattle.residents.proofs.Acting.{ActsThere, fork_acts, moved_acts, sent_acts, synced_acts}
 use Rattle.cluster_core.proofs.rolling.FollowsAgain.{again_follows}
 use Rattle.cluster_core.proofs.rolling.OwningAgain.{own_again}
-use Rattle.cluster_core.proofs.rolling.RollingParts.{none_again}
+use Rattle.residents.proofs.RollingParts.{none_again}
 use Rattle.cluster_core.proofs.working.Working.{moved_view, moved_goes_on, moved_work, posted_goes_on, posted_view, posted_work, some_moves, goes_on_rested}
 
 -- what is posted is the cluster's own, and of a kind that is built

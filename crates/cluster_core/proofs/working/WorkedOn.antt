@@ -8,12 +8,13 @@ use Rattle.plain_kernel.specs.Maps.{pid_of}
 use Rattle.bus_msg.specs.declared.entry.Post.{Post}
 use Rattle.bus_msg.specs.Places.{Places}
 use Rattle.page_server.specs.Account.{PagerState}
-use Rattle.cluster_core.specs.declared.quantum.Quantum.{Quantum}
-use Rattle.cluster_core.specs.declared.quantum.Quantum.TheVariants.{Moved as QuantumMoved, Sent, Synced, Stuck, Forks}
+use Rattle.residents.specs.declared.quantum.Quantum.{Quantum}
+use Rattle.residents.specs.declared.quantum.Quantum.TheVariants.{Moved as QuantumMoved, Sent, Synced, Stuck, Forks}
 use Rattle.cluster_core.specs.declared.worked.Worked.{Worked}
 use Rattle.cluster_core.specs.declared.worked.Worked.TheVariants.{Moved, Queued, Waits as IsWaiting, Rests}
-use Rattle.cluster_core.specs.Residents.{ChosenTurn, HasTurn, ResidentsView, TurnIs, next_ready, none_has_turn, pids_able}
-use Rattle.cluster_core.specs.Work.{NoPages, RunsNext, WorksOn, any_waits}
+use Rattle.residents.specs.Residents.{ChosenTurn, HasTurn, ResidentsView, TurnIs, next_ready, none_has_turn, pids_able}
+use Rattle.cluster_core.specs.Work.{NoPages, RunsNext, WorksOn}
+use Rattle.residents.specs.Asking.{any_waits}
 
 module _ (k : ClusterNo) (family : List (Pid × Pid)) (a b new : ResidentsView) (limits : a.limits ≡ b.limits) (here : a.here ≡ b.here) (last : a.last ≡ b.last) where
   chosen_from : (quantum : Quantum) → ChosenTurn k family a quantum new → ChosenTurn k family b quantum new

@@ -33,9 +33,11 @@ use Rattle.cert_sched.proofs.StepLaws.{Tells, sent_applies}
 use Rattle.cluster_core.specs.declared.worked.Worked.TheVariants.{Moved, Queued}
 use Rattle.quanta.specs.declared.limits.Limits.{Limits}
 use Rattle.quanta.specs.Limited.{is_due}
-use Rattle.cluster_core.specs.View.{ClusterView, Held, Runs, Rolls, Waits, IsHeldWithin, can_act, held_at, held_of, limits_of, next_count, counted_once, tried_once}
-use Rattle.cluster_core.specs.Residents.{pids_in, with_changed}
-use Rattle.cluster_core.specs.ForkingAgain.{RollsAgain}
+use Rattle.cluster_core.specs.View.{ClusterView, held_at, limits_of, next_count, counted_once, tried_once}
+use Rattle.residents.specs.Held.{Held, Runs, Rolls, Waits, IsHeldWithin, can_act, held_of}
+use Rattle.residents.specs.Residents.{pids_in}
+use Rattle.residents.specs.Changed.{with_changed}
+use Rattle.residents.specs.ForkingAgain.{RollsAgain}
 use Rattle.cluster_core.specs.Parts.{IsOwn}
 use Rattle.cluster_core.proofs.absorbing.Served.{accounts_queued}
 use Rattle.cluster_core.specs.Queue.{IsQueued, IsQueueLegal, Nothing, One, is_lone, move_of, taken_by, state_by, state_now, with_queue}
@@ -44,10 +46,11 @@ use Rattle.cluster_core.specs.Syncing.{Synchronises}
 use Rattle.cluster_core.specs.Bearing.{BearsChild}
 use Rattle.cluster_core.specs.Follows.{FollowsBuilt, IsOpen}
 use Rattle.cluster_core.specs.Calls.{GoesOn, OwesNothing, WorkIs, is_at_rest, are_at_rest, is_resting}
-use Rattle.cluster_core.specs.declared.quantum.Sending.{Sending}
-use Rattle.cluster_core.specs.Quantum.{EndsChildless, Moves, RollsTo, RunsTo, Sends, told_of, post_told}
+use Rattle.residents.specs.declared.quantum.Sending.{Sending}
+use Rattle.residents.specs.Quantum.{EndsChildless, Moves, RollsTo, RunsTo, Sends, told_of, post_told}
 use Rattle.cluster_core.proofs.births.ChildrenKept.{synced_where_none}
-use Rattle.cluster_core.proofs.here.Here.{FoundChanged, found_changed, is_among, pid_same, pids_changed}
+use Rattle.residents.proofs.Changing.{FoundChanged, found_changed, pid_same, pids_changed}
+use Rattle.cluster_core.proofs.here.Here.{is_among}
 use Rattle.cluster_core.proofs.absorbing.Telling.{done_is}
 use Rattle.cluster_core.proofs.rolling.Catching.{rolled_held}
 use Rattle.checkpoint_laws.proofs.limits.SendingLimits.{sent_keeps}

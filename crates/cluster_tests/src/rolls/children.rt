@@ -1,7 +1,7 @@
 //! A resident that comes after its children: before its end it stays, until none of them is to synchronise first. The steps are
 //! counted by hand.
-use cluster_core::quantum::Quantum;
-use cluster_core::resident::Resident;
+use residents::quantum::Quantum;
+use residents::resident::Resident;
 use proc_state::process::Process;
 use quanta::limits::Limits;
 use std::alloc::Global;

@@ -3,8 +3,8 @@ use Rattle.proc_state.specs.State.{ProcState}
 use Rattle.plain_kernel.specs.Maps.{pid_of}
 use Rattle.plain_kernel.specs.Starts.{starts_in}
 use Rattle.cluster_core.specs.Booting.{RunFrom}
-use Rattle.cluster_core.specs.Residents.{with_more}
-use Rattle.cluster_core.specs.View.{Held}
+use Rattle.residents.specs.Changed.{with_more}
+use Rattle.residents.specs.Held.{Held}
 use Rattle.cluster_core.proofs.boot.Homing.{more_run, not_here}
 use Rattle.cluster_core.proofs.booting.residents_of.Goals as goal
 

@@ -4,9 +4,9 @@ use Rattle.t32_base.specs.declared.process.Pid.{Pid}
 use Rattle.bus_msg.specs.Places.{same_pid}
 use Rattle.backup_records.specs.Records.{are_rising}
 use Rattle.replay_laws.specs.pages.Waits.{first_wait}
-use Rattle.cluster_core.specs.Residents.{with_more}
+use Rattle.residents.specs.Changed.{with_more}
 use Rattle.cluster_core.specs.Recovered.{CanWait, with_all_waiting}
-use Rattle.cluster_core.specs.View.{Held, Waits}
+use Rattle.residents.specs.Held.{Held, Waits}
 use Rattle.cluster_core.proofs.losses.BeginWaits.{first_waits, others_rise, others_wait}
 use Rattle.cluster_core.proofs.taking_over.begin_waits.Goals as goal
 

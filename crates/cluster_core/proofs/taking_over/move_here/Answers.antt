@@ -1,6 +1,6 @@
 use Rattle.std.proofs.Common.{sym, subst, ap}
 use Rattle.cluster_core.specs.Recovered.{CanWait}
-use Rattle.cluster_core.specs.Residents.{ResidentsView}
+use Rattle.residents.specs.Residents.{ResidentsView}
 use Rattle.cluster_core.proofs.taking_over.move_here.Goals as goal
 
 pub begin_waits-requires-clause-can : goal.begin_waits-requires-clause-can

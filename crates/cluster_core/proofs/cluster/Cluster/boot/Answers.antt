@@ -9,7 +9,8 @@ use Rattle.cert_sched.specs.Built.{is_unlost}
 use Rattle.cert_sched.specs.Losses.{is_from}
 use Rattle.cert_sched.specs.Schedule.{places_at_boot}
 use Rattle.log_laws.specs.records.Kept.{KeepsRecords}
-use Rattle.cluster_core.specs.View.{ClusterView, Held, limits_of}
+use Rattle.cluster_core.specs.View.{ClusterView, limits_of}
+use Rattle.residents.specs.Held.{Held}
 use Rattle.cluster_core.specs.Booting.{AreBooted}
 use Rattle.cluster_core.specs.Follows.{FollowsBuilt}
 use Rattle.cluster_core.specs.Parts.{AllOwn}

@@ -5,7 +5,7 @@ use Rattle.sys_text.specs.Valid.{is_system}
 use Rattle.cert_sched.specs.Losses.{is_from}
 use Rattle.cluster_core.specs.View.{ClusterView, limits_of}
 use Rattle.cluster_core.specs.Calls.{GoesOn, WorkIs}
-use Rattle.cluster_core.specs.ForkingAgain.{CanForkAgain}
+use Rattle.residents.specs.ForkingAgain.{CanForkAgain}
 use Rattle.cluster_core.specs.Parts.{AllOwn}
 use Rattle.cluster_core.proofs.forks.CanFork.{can_fork_again}
 use Rattle.cluster_core.specs.Serving.{CanAnswer}

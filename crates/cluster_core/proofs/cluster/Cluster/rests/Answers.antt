@@ -3,8 +3,8 @@ use Rattle.std.specs.Prelude.{IfOk, Some, None, if◌then◌else◌}
 use Rattle.quanta.specs.declared.limits.Limits.{Limits}
 use Rattle.cluster_core.specs.View.{ClusterView, limits_of}
 use Rattle.cluster_core.specs.Parts.{AllOwn}
-use Rattle.cluster_core.specs.Residents.{are_rising, are_settled, pids_in}
-use Rattle.cluster_core.specs.Calls.{rests_in}
+use Rattle.residents.specs.Residents.{are_rising, are_settled, pids_in}
+use Rattle.residents.specs.Told.{rests_in}
 use Rattle.cluster_core.proofs.working.Resting.{told_rests, answered_rests}
 use Rattle.cluster_core.proofs.cluster.Cluster.rests.Goals as goal
 

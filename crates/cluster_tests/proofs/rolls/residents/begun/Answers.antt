@@ -3,8 +3,8 @@ use Rattle.t32_base.specs.declared.letter.BackRec.{BackRec}
 use Rattle.proc_state.specs.State.{ProcState, state_of}
 use Rattle.roll_forward.specs.Rolling.{with_saved}
 use Rattle.roll_forward.proofs.Examples.{can_roll_alike, counted, pid, two_first, two_start}
-use Rattle.cluster_core.specs.ForkingAgain.{CanBeginWith}
-use Rattle.cluster_core.specs.View.{Waits}
+use Rattle.residents.specs.ForkingAgain.{CanBeginWith}
+use Rattle.residents.specs.Held.{Waits}
 use Rattle.cluster_tests.proofs.rolls.residents.begun.Goals as goal
 
 pub begin_again-requires : goal.begin_again-requires

@@ -1,0 +1,18 @@
+use Rattle.std.proofs.Common.{◌+◌, ◌∙◌, ap, sym, cond, length}
+use Rattle.std.specs.List.{list_any}
+use Rattle.plain_kernel.specs.Maps.{at_key, pid_of}
+use Rattle.residents.specs.Residents.{ResidentsView, is_stuck_at}
+use Rattle.residents.proofs.Kept.{kept_resting}
+use Rattle.residents.proofs.residents.Residents.rest.Goals as goal
+
+pub invariant_of-self : goal.invariant_of-self
+invariant_of-self c = (
+  kept_resting c.self.inside.limits c.self.inside.residents c.args.pid c.self.inside.keys.entries c.self.inside.ready.keys c.remove.new.self.keys c.self.inside.asking.keys
+      (ap (λ (v : ResidentsView). is_stuck_at v.limits (pid_of c.args.pid) v.here) c.self.view_is ∙ c.requires.stuck) (λ q other. c.remove.ensures.updates.2 q other) c.self.invariant.0,
+  c.self.invariant.1,
+)
+
+pub returns-clause-fewer : goal.returns-clause-fewer
+returns-clause-fewer c =
+    let there = c.remove.ensures.test ∙ ap (λ (v : ResidentsView). list_any (at_key c.args.pid) v.ready) c.self.view_is ∙ c.requires.there in
+    ap (λ b. length c.remove.new.self.keys + cond b 1 0) (sym there) ∙ c.remove.ensures.len ∙ ap (λ (v : ResidentsView). length v.ready) c.self.view_is

@@ -1,0 +1,12 @@
+pub mod Arriving
+pub mod Asking
+pub mod Bearing
+pub mod Changed
+pub mod ChildrenFirst
+pub mod ForkingAgain
+pub mod Held
+pub mod Quantum
+pub mod Resident
+pub mod Residents
+pub mod Slots
+pub mod Told
