@@ -6,9 +6,9 @@ ghost use Rattle.cluster_core.specs.Absorbing.{CanBeBorn, CanCome, ComesHere, Is
 ghost use Rattle.cluster_core.specs.Calls.{here_after};
 ghost use Rattle.residents.specs.Residents.{HasRoom};
 
-use residents::residents::Residents;
 use backup_records::records::Records;
 use bus_msg::entry::{Dests, Entry, What};
+use residents::residents::Residents;
 use std::alloc::Global;
 use t32_base::process::ClusterNo;
 use t32_base::streams::NoMemory;

@@ -14,8 +14,6 @@ ghost use Rattle.cluster_core.specs.Serving.{BeginsToServe, IsAheadThere, IsFail
 ghost use Rattle.cluster_core.specs.View.{failing_in, limits_of};
 ghost use Rattle.page_accounts.specs.Booting.{IsAhead};
 
-use residents::resident::Resident;
-use residents::residents::Residents;
 use crate::serving::serve_roots;
 use backup_queue::record::Record;
 use backup_records::records::Records;
@@ -25,6 +23,8 @@ use page_server::pager::Pager;
 use plain_kernel::booting::starts_of;
 use plain_kernel::start::Start;
 use quanta::limits::Limits;
+use residents::resident::Resident;
+use residents::residents::Residents;
 use std::alloc::Global;
 use std::collections::BTreeMap;
 use sys_text::system::System;

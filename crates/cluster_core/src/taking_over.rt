@@ -7,13 +7,13 @@ ghost use Rattle.page_waits.specs.Waiting.{page_count};
 ghost use Rattle.replay_laws.specs.pages.Waits.{first_wait};
 ghost use Rattle.cluster_core.specs.Recovered.{CanWait, left_by, moved_by, with_all_waiting};
 
-use residents::resident::Resident;
-use residents::residents::Residents;
 use backup_queue::record::Record;
 use backup_records::records::Records;
 use bus_msg::entry::{Entry, What};
 use channel_table::placement::Placement;
 use page_waits::waiting::Waiting;
+use residents::resident::Resident;
+use residents::residents::Residents;
 use std::alloc::Global;
 use std::collections::VecDeque;
 use std::mem;

@@ -8,8 +8,6 @@ ghost use Rattle.cluster_core.specs.Work.{RunsNext, WorksOn, birth_told, fetch_p
 ghost use Rattle.residents.specs.Asking.{any_waits};
 
 use crate::hurt::Hurt;
-use residents::quantum::{Forking, Quantum, Sending};
-use residents::residents::Residents;
 use crate::serving::answer_next;
 use crate::worked::Worked;
 use birth_notice::family::Family;
@@ -17,6 +15,8 @@ use bus_msg::entry::{By, Post, What};
 use channel_table::placement::Placement;
 use page_server::disk::PageDisk;
 use page_server::pager::Pager;
+use residents::quantum::{Forking, Quantum, Sending};
+use residents::residents::Residents;
 use std::alloc::Global;
 use std::collections::VecDeque;
 use sys_calls::steps::Emission;

@@ -1,5 +1,5 @@
 -- In any log, also one in which clusters return, a cluster is off from its loss to its return, and sends nothing then.
-use Rattle.std.proofs.Common.{◌≡◌, ℕ, zero, suc, ◌+◌, ◌-◌, ◌<◌, ◌≤◌, refl, sym, ◌∙◌, ap, subst, arith, List, [], ◌∷◌, ◌++◌, length, take, drop, slice_get, Bool, true, false, cond, ◌||◌, ◌⊎◌, inl, inr, eqb, eqb-true, Option, Some, None, unwrap_or, is_none, is_some, length-append, true≢false}
+use Rattle.std.proofs.Common.{◌≡◌, ℕ, zero, suc, ◌+◌, ◌<◌, ◌≤◌, refl, sym, ◌∙◌, ap, subst, arith, List, [], ◌∷◌, ◌++◌, length, take, drop, slice_get, Bool, true, false, cond, ◌||◌, ◌⊎◌, inl, inr, eqb, eqb-true, Option, Some, None, unwrap_or, is_none, is_some, length-append, true≢false}
 use Rattle.std.specs.List.{list_any}
 use Rattle.std.proofs.lemmas.Bool.{and_parts, or_parts}
 use Rattle.std.proofs.lemmas.Option.{slice_get_within}
