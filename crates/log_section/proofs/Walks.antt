@@ -1,7 +1,7 @@
 -- Part after part of a text is passed.
 use Rattle.std.proofs.Common.{◌≡◌, ℕ, zero, suc, List, [], ◌∷◌, ◌++◌, drop, Option, Some, None, refl, sym, ap, ◌∙◌, append_assoc}
 use Rattle.std.specs.Option.{option_map, option_map_or, option_and_then}
-use Rattle.log_section.specs.Lines.{Left, past, past_sign, behind_count, behind_most}
+use Rattle.log_section.specs.Lines.{behind_count, behind_most}
 use Rattle.text_parts.specs.Lines.{is_newline, before, from}
 use Rattle.entry_lines.specs.declared.told.Told.{Told}
 use Rattle.entry_lines.specs.Reading.{told_in}
