@@ -7,8 +7,6 @@ use Rattle.entry_lines.specs.declared.told.Told.{Told}
 use Rattle.entry_lines.specs.Reading.{told_in}
 use Rattle.log_section.specs.Form.{ended_line, first_told, told_lines}
 
--- ---- the signs of a shape
-
 -- ---- parts
 
 pub count_more : (part : List ℕ → Option (List ℕ)) (left less : ℕ) (text rest : List ℕ) (total : Option (List ℕ)) → left ≡ suc less → part text ≡ Some rest → behind_count part left text ≡ total
