@@ -2,6 +2,6 @@
 #[cfg(test)]
 mod children;
 #[cfg(test)]
-mod residents;
+mod processes;
 #[cfg(test)]
 mod rolls;
