@@ -1,9 +1,9 @@
 //! A resident that comes after its children: before its end it stays, until none of them is to synchronise first. The steps are
 //! counted by hand.
-use residents::quantum::Quantum;
-use residents::resident::Resident;
 use proc_state::process::Process;
 use quanta::limits::Limits;
+use residents::quantum::Quantum;
+use residents::resident::Resident;
 use std::alloc::Global;
 use std::test::Fail;
 use sys_calls::steps::Emission;

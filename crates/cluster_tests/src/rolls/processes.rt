@@ -1,11 +1,11 @@
 //! A resident that was lost after its first line, and one that waits for its parent's fork, on ample memory. The steps are counted by
 //! hand.
 use crate::rolls::rolls::{TWO, child_record, two_lost};
-use residents::quantum::Quantum;
-use residents::resident::Resident;
 use page_waits::waiting::Waiting;
 use proc_state::process::Process;
 use quanta::limits::Limits;
+use residents::quantum::Quantum;
+use residents::resident::Resident;
 use std::alloc::Global;
 use std::test::Fail;
 use sys_calls::steps::Emission;
