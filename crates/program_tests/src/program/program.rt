@@ -116,13 +116,13 @@ static LOADS: [(&[u8], u8); 17] = [
     (b"load 7 --text crash:4@bus:1", 1),
     (b"load 7 --text crash:9@bus:1", 1),
     (b"load 7 --text disk:2@0", 1),
-    (b"load 7 --text crash:0@bus:1 disk:0@0", 1),
+    (b"load 7 --text crash:0@bus:1 disk:0@0", 0),
     (b"load 0 --text", 1),
     (b"load 1001 --text", 1),
     (b"load 7 --text --text", 1),
     (b"load -- 7 --text", 1),
     (b"load 7 crash:4@bus:1", 1),
-    (b"load 7 crash:0@bus:1 disk:0@0", 1),
+    (b"load 7 crash:0@bus:1 crash:4@bus:1", 1),
     (b"load 1001", 1),
 ];
 
