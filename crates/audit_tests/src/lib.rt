@@ -2,8 +2,20 @@
 #![tactic(auto)]
 
 #[cfg(test)]
+mod begun;
+#[cfg(test)]
+mod born;
+#[cfg(test)]
+mod cut;
+#[cfg(test)]
+mod done;
+#[cfg(test)]
 mod fetched;
 #[cfg(test)]
+mod kept;
+#[cfg(test)]
 mod lines;
+#[cfg(test)]
+mod renewed;
 #[cfg(test)]
 mod sent;

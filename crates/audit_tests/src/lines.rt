@@ -1,41 +1,70 @@
 //! Lines of losses, of stops, and of pages that are asked for and that come. The system has one process, 16, at home in cluster 0 with its backup in
 //! cluster 1, and one page, whose first byte is that of the first word of its image.
-ghost use Rattle.std.specs.Prelude.{◌≡◌, ◌-◌, ◌<◌, ◌^◌, IfOk, IsTrue, IfSome};
+ghost use Rattle.std.specs.Prelude.{◌-◌, ◌<◌, ◌^◌, IsTrue, IfSome};
 ghost use Rattle.page_accounts.specs.Answering.{IsKept, earliest};
 
+use crate::begun::{front, pager};
 use bus_msg::entry::{By, Cause, Dests, Entry, Post, What};
 use entry_lines::ToldBy;
 use log_audit::answers::next_page;
 use log_audit::fetches::{Asked, next_fetch};
 use log_audit::front::Front;
 use log_audit::losses::{next_loss, next_stop};
-use page_accounts::booting::put_roots;
 use page_server::disk::PageDisk;
 use page_server::mem_disk::MemDisk;
 use page_server::pager::Pager;
-use plain_kernel::booting::starts_of;
 use std::alloc::Global;
 use std::test::Fail;
-use sys_text::read_system;
-use t32_base::lists::List;
 use t32_base::process::{ClusterNo, Pid};
 use t32_base::streams::NoMemory;
 use test_asserts::same;
 use test_systems::HI;
 
-const BUS: ToldBy = ToldBy::Bus;
-
-fn front(alloc: Global) -> Result<Front, Fail>
-    ensures { IfOk result (λ front. front.length ≡ 0) }
-{
-    let system = read_system(alloc, HI.as_bytes())?;
-    Ok(Front::start(alloc, &system)?)
+// A line behind its place and its sender: the loss of a cluster, a stop, or that a page is asked for, which may have been asked for before. The process has
+// one page, and a loss moved it with a state.
+enum Line {
+    Loss(u64),
+    Stop,
+    Fetch(u64, bool),
 }
 
-// The place of an entry, and the clusters that it goes to.
-fn seen(entry: Option<Entry>) -> Option<(u64, u16)> {
-    let entry = entry?;
+fn fetched(front: &Front, place: u64, by: ToldBy, index: u64, asked: bool) -> Option<Entry> {
+    let kept = Asked {
+        pages: 1,
+        moved: true,
+        asked,
+    };
+    next_fetch(front, place, by, Pid(16), index, kept)
+}
+
+fn next(front: &Front, place: u64, by: ToldBy, line: &Line) -> Option<Entry> {
+    match line {
+        Line::Loss(k) => next_loss(front, place, by, *k, Cause::Place),
+        Line::Stop => next_stop(front, place, by),
+        Line::Fetch(index, asked) => fetched(front, place, by, *index, *asked),
+    }
+}
+
+// The place of the entry that such a line is, and the clusters that it goes to.
+fn shown(front: &Front, place: u64, by: ToldBy, line: &Line) -> Option<(u64, u16)> {
+    let entry = next(front, place, by, line)?;
     Some((entry.place, entry.dests.clusters))
+}
+
+// The place, the sender and the line, and what is shown of the entry that it is.
+type Row = (u64, ToldBy, Line, Option<(u64, u16)>);
+
+fn assert_each(front: &Front, rows: &[Row]) -> Result<(), Fail> {
+    for row in rows {
+        let shown = shown(front, row.0, row.1, &row.2);
+        same("a line", &(row.0, row.1, shown), &(row.0, row.1, row.3))?;
+    }
+    Ok(())
+}
+
+fn assert_first(alloc: Global, rows: &[Row]) -> Result<(), Fail> {
+    let front = front(alloc, HI)?;
+    assert_each(&front, rows)
 }
 
 // Cluster 0 is lost at place 0.
@@ -57,51 +86,56 @@ fn lose(front: &mut Front) -> Result<(), NoMemory>
     })
 }
 
-fn loss(front: &Front, place: u64, by: ToldBy, k: u64) -> Option<(u64, u16)> {
-    seen(next_loss(front, place, by, k, Cause::Place))
+fn assert_lost(front: &mut Front, rows: &[Row]) -> Result<(), Fail>
+    requires { front.old.length < 2 ^ 64 - 1 }
+{
+    lose(front)?;
+    assert_each(front, rows)
+}
+
+fn assert_after_loss(alloc: Global, rows: &[Row]) -> Result<(), Fail> {
+    let mut front = front(alloc, HI)?;
+    assert_lost(&mut front, rows)
 }
 
 // The loss of cluster 0, at a later place, by a cluster, of a cluster that is not there, and of one past all.
-const LOSSES: [Option<(u64, u16)>; 5] = [Some((0, 3)), None, None, None, None];
+static LOSSES: [Row; 5] = [
+    (0, ToldBy::Bus, Line::Loss(0), Some((0, 3))),
+    (1, ToldBy::Bus, Line::Loss(0), None),
+    (0, ToldBy::Cluster(0), Line::Loss(0), None),
+    (0, ToldBy::Bus, Line::Loss(2), None),
+    (0, ToldBy::Bus, Line::Loss(256), None),
+];
 
 #[test]
 fn the_loss_of_a_cluster_that_lives_may_stand_next(rt: HostRuntime) -> Result<(), Fail> {
-    let front = front(rt.alloc())?;
-    let lines = [
-        loss(&front, 0, BUS, 0),
-        loss(&front, 1, BUS, 0),
-        loss(&front, 0, ToldBy::Cluster(0), 0),
-        loss(&front, 0, BUS, 2),
-        loss(&front, 0, BUS, 256),
-    ];
-    let wanted = LOSSES;
-    same("the losses", &lines, &wanted)
+    assert_first(rt.alloc(), &LOSSES)
 }
 
 // After the loss of cluster 0: its loss again, that of cluster 1, a stop, and a stop by a cluster.
-const AFTER_LOSS: [Option<(u64, u16)>; 4] = [None, Some((1, 2)), Some((1, 2)), None];
+static AFTER_LOSS: [Row; 4] = [
+    (1, ToldBy::Bus, Line::Loss(0), None),
+    (1, ToldBy::Bus, Line::Loss(1), Some((1, 2))),
+    (1, ToldBy::Bus, Line::Stop, Some((1, 2))),
+    (1, ToldBy::Cluster(1), Line::Stop, None),
+];
 
 #[test]
 fn after_a_loss_what_is_left_may_be_lost_or_stop(rt: HostRuntime) -> Result<(), Fail> {
-    let mut front = front(rt.alloc())?;
-    lose(&mut front)?;
-    let lines = [
-        loss(&front, 1, BUS, 0),
-        loss(&front, 1, BUS, 1),
-        seen(next_stop(&front, 1, BUS)),
-        seen(next_stop(&front, 1, ToldBy::Cluster(1))),
-    ];
-    let wanted = AFTER_LOSS;
-    same("the lines", &lines, &wanted)
+    assert_after_loss(rt.alloc(), &AFTER_LOSS)
 }
 
-fn pager_at_boot(alloc: Global) -> Result<Pager<MemDisk>, Fail> {
-    let system = read_system(alloc, HI.as_bytes())?;
-    let starts = starts_of(alloc, &system)?;
-    let mut pager = Pager::new(alloc, MemDisk::new(alloc, List::new(alloc)));
-    put_roots(&mut pager, &starts)?;
-    pager.ask(Pid(16), 0)?;
-    Ok(pager)
+// After the loss of cluster 0: the page by the new home, by another cluster, a page that is not there, and the page again.
+static FETCHES: [Row; 4] = [
+    (1, ToldBy::Cluster(1), Line::Fetch(0, false), Some((1, 2))),
+    (1, ToldBy::Cluster(0), Line::Fetch(0, false), None),
+    (1, ToldBy::Cluster(1), Line::Fetch(1, false), None),
+    (1, ToldBy::Cluster(1), Line::Fetch(0, true), None),
+];
+
+#[test]
+fn a_page_is_asked_for_once_by_the_new_home(rt: HostRuntime) -> Result<(), Fail> {
+    assert_after_loss(rt.alloc(), &FETCHES)
 }
 
 fn can_answer<D: PageDisk>(pager: &Pager<D>) -> bool
@@ -113,19 +147,6 @@ fn can_answer<D: PageDisk>(pager: &Pager<D>) -> bool
     }
 }
 
-// The first byte of the page of such a line, if it may stand next.
-fn page(alloc: Global, by: ToldBy, pid: u64, index: u64) -> Result<Option<u8>, Fail> {
-    let front = front(alloc)?;
-    let mut pager = pager_at_boot(alloc)?;
-    if !can_answer(&pager) {
-        return Err("the page that is asked for is not there".into());
-    }
-    match next_page(alloc, &front, &mut pager, 0, by, pid, index)? {
-        Some(entry) => Ok(first_byte(&entry)),
-        None => Ok(None),
-    }
-}
-
 fn first_byte(entry: &Entry) -> Option<u8> {
     match &entry.post.what {
         What::PageIs { bytes, .. } => Some(bytes.get()[0]),
@@ -133,45 +154,49 @@ fn first_byte(entry: &Entry) -> Option<u8> {
     }
 }
 
+// The sender, the process and the page of a line.
+type PageLine = (ToldBy, u64, u64);
+
+// The first byte of the page of such a line, if it may stand next, where the page is asked for.
+fn page(
+    alloc: Global,
+    front: &Front,
+    pager: &mut Pager<MemDisk>,
+    line: PageLine,
+) -> Result<Option<u8>, Fail> {
+    if !can_answer(pager) {
+        return Err("the page that is asked for is not there".into());
+    }
+    match next_page(alloc, front, pager, 0, line.0, line.1, line.2)? {
+        Some(entry) => Ok(first_byte(&entry)),
+        None => Ok(None),
+    }
+}
+
 // The page by the first page server, by the other one, of another process, and another page.
-const PAGES: [Option<u8>; 4] = [Some(0x93), None, None, None];
+static PAGES: [(PageLine, Option<u8>); 4] = [
+    ((ToldBy::Cluster(0), 16, 0), Some(0x93)),
+    ((ToldBy::Cluster(1), 16, 0), None),
+    ((ToldBy::Cluster(0), 17, 0), None),
+    ((ToldBy::Cluster(0), 16, 1), None),
+];
+
+fn assert_pages(alloc: Global, front: &Front, pager: &mut Pager<MemDisk>) -> Result<(), Fail> {
+    for (line, wanted) in &PAGES {
+        let shown = page(alloc, front, pager, *line)?;
+        same("a page", &(*line, shown), &(*line, *wanted))?;
+    }
+    Ok(())
+}
+
+fn assert_asked(alloc: Global, pager: &mut Pager<MemDisk>) -> Result<(), Fail> {
+    pager.ask(Pid(16), 0)?;
+    let front = front(alloc, HI)?;
+    assert_pages(alloc, &front, pager)
+}
 
 #[test]
 fn the_first_page_server_may_answer_the_earliest_fetch(rt: HostRuntime) -> Result<(), Fail> {
-    let alloc = rt.alloc();
-    let pages = [
-        page(alloc, ToldBy::Cluster(0), 16, 0)?,
-        page(alloc, ToldBy::Cluster(1), 16, 0)?,
-        page(alloc, ToldBy::Cluster(0), 17, 0)?,
-        page(alloc, ToldBy::Cluster(0), 16, 1)?,
-    ];
-    let wanted = PAGES;
-    same("the pages", &pages, &wanted)
-}
-
-// Whether page `index` of the process may be asked for, where it has one page and a loss moved it with a state.
-fn fetch(front: &Front, by: ToldBy, index: u64, asked: bool) -> Option<(u64, u16)> {
-    let kept = Asked {
-        pages: 1,
-        moved: true,
-        asked,
-    };
-    seen(next_fetch(front, 1, by, Pid(16), index, kept))
-}
-
-// After the loss of cluster 0: the page by the new home, by another cluster, a page that is not there, and the page again.
-const FETCHES: [Option<(u64, u16)>; 4] = [Some((1, 2)), None, None, None];
-
-#[test]
-fn a_page_is_asked_for_once_by_the_new_home(rt: HostRuntime) -> Result<(), Fail> {
-    let mut front = front(rt.alloc())?;
-    lose(&mut front)?;
-    let lines = [
-        fetch(&front, ToldBy::Cluster(1), 0, false),
-        fetch(&front, ToldBy::Cluster(0), 0, false),
-        fetch(&front, ToldBy::Cluster(1), 1, false),
-        fetch(&front, ToldBy::Cluster(1), 0, true),
-    ];
-    let wanted = FETCHES;
-    same("the fetches", &lines, &wanted)
+    let mut pager = pager(rt.alloc(), HI)?;
+    assert_asked(rt.alloc(), &mut pager)
 }

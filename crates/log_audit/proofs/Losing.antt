@@ -99,12 +99,12 @@ next_passes system log f e place front at stands =
     let goes_on : f.over ≡ false = front.over ∙ (stands.placed).2 in
     ap (λ b. b && not f.over) (eq-eqb f.length place here) ∙ ap not goes_on
 
-passes : (system : System) (log : List Entry) (f : FrontState) (e : Entry) (t : Told) → IsFrontOf system log f → told_of e ≡ t → Stands system log e → is_bus (e.post).by ≡ true → stop_may f t.place t.by ≡ true
+pub passes : (system : System) (log : List Entry) (f : FrontState) (e : Entry) (t : Told) → IsFrontOf system log f → told_of e ≡ t → Stands system log e → is_bus (e.post).by ≡ true → stop_may f t.place t.by ≡ true
 passes system log f e t front line stands bus =
     let sender : is_bus_told t.by ≡ true = ap (λ (t : Told). is_bus_told t.by) (sym line) ∙ bus_told (e.post).by bus in
     ap (λ b. b && is_bus_told t.by) (next_passes system log f e t.place front (ap (λ (t : Told). t.place) line) stands) ∙ sender
 
-below : (cs : List ClusterPlace) (k : ℕ) → option_map_or (λ (c : ClusterPlace). c.lives) (slice_get cs k) false ≡ true → k < length cs
+pub below : (cs : List ClusterPlace) (k : ℕ) → option_map_or (λ (c : ClusterPlace). c.lives) (slice_get cs k) false ≡ true → k < length cs
 below cs k lives = by_place (slice_get cs k) refl lives
   where
     by_place : (o : Option ClusterPlace) → slice_get cs k ≡ o → option_map_or (λ (c : ClusterPlace). c.lives) o false ≡ true → k < length cs

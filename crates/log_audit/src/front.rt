@@ -79,6 +79,13 @@ impl Front {
         }
     }
 
+    /// The placement after the log. Takes no memory.
+    pub fn places(&self) -> &Placement
+        ensures { result.now ≡ self.now.places }
+    {
+        &self.places
+    }
+
     /// Whether an entry with this place may stand next: it is the next place, and the log is not over. Takes no memory.
     pub fn is_next(&self, place: u64) -> bool
         ensures { result ≡ is_next self.now place }

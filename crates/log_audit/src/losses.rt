@@ -43,8 +43,8 @@ fn loss_may(front: &Front, place: u64, by: ToldBy, k: ClusterNo) -> bool
     stop_may(front, place, by) && front.living(k)
 }
 
-// Whether it may be a stop.
-fn stop_may(front: &Front, place: u64, by: ToldBy) -> bool
+/// Whether it may be a stop: any entry of the bus with this place. Takes no memory.
+pub fn stop_may(front: &Front, place: u64, by: ToldBy) -> bool
     ensures { result ≡ stop_may front.now place by }
 {
     front.is_next(place) && matches!(by, ToldBy::Bus)

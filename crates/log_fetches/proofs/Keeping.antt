@@ -58,7 +58,8 @@ each_few system valid p n is = by_process (process_at (boot system) p) refl is
         let same : (s.small).pages ≡ n = cc in
         omega (arith, few, same)
 
-count_few : (system : System) (log : List Entry) (p : Pid) → is_system system ≡ true → page_count system log p ≤ 256
+-- as each page of a process has
+pub count_few : (system : System) (log : List Entry) (p : Pid) → is_system system ≡ true → page_count system log p ≤ 256
 count_few system log p valid = page_count-most system log p 256 (each_few system valid)
 
 is_below : (i n : ℕ) → i < n → nat_lt i n ≡ true

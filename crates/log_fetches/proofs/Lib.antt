@@ -1,6 +1,6 @@
 mod Bits
 mod Among
-mod Notes
-mod Keeping
+pub mod Notes
+pub mod Keeping
 mod Booting
 mod Coming

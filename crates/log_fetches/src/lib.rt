@@ -3,4 +3,4 @@
 
 pub mod fetches;
 mod kept;
-mod pages;
+pub mod pages;

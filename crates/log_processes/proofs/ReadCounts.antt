@@ -9,14 +9,14 @@ use Rattle.cert_sched.specs.Steps.{numbers_read}
 use Rattle.log_laws.specs.letters.ReadsFrom.{ReadsFrom}
 
 -- a letter of the list has the number
-abbrev has : ℕ → List Arrived → Bool
+abbrev pub has : ℕ → List Arrived → Bool
 has n letters = list_any (λ (a : Arrived). eqb a.number n) letters
 
-abbrev numbers_of : List Arrived → List ℕ
+abbrev pub numbers_of : List Arrived → List ℕ
 numbers_of letters = map (λ (a : Arrived). a.number) letters
 
 -- among the numbers of those that pass stands one that passes and that some letter has
-any_passing : (test : ℕ → Bool) (n : ℕ) (letters : List Arrived) → list_any (λ k. eqb k n) (numbers_of (filter (λ (a : Arrived). test a.number) letters)) ≡ (test n && has n letters)
+pub any_passing : (test : ℕ → Bool) (n : ℕ) (letters : List Arrived) → list_any (λ k. eqb k n) (numbers_of (filter (λ (a : Arrived). test a.number) letters)) ≡ (test n && has n letters)
 any_passing test n [] = by_test (test n)
   where
     by_test : (b : Bool) → false ≡ (b && false)
@@ -40,7 +40,7 @@ any_passing test n (a ∷ rest) = by_tests (test a.number) (eqb a.number n) refl
     by_tests false false passes here more = more
 
 -- each letter is among those of its list
-each_has : (letters : List Arrived) → All (λ (a : Arrived). has a.number letters ≡ true) letters
+pub each_has : (letters : List Arrived) → All (λ (a : Arrived). has a.number letters ≡ true) letters
 each_has [] = All-nil (λ (a : Arrived). has a.number [] ≡ true)
 each_has (a ∷ rest) =
     All-cons (λ (b : Arrived). has b.number (a ∷ rest) ≡ true) a rest (ap (λ x. x || has a.number rest) (eq-eqb a.number a.number refl))

@@ -83,7 +83,7 @@ home_there front head kept by next whole told right =
 
 -- ---- what it sends
 
-steps_there : (p : Pid) (s : ProcState) (o : Option Kernel) → option_and_then (λ k. process_at k p) o ≡ Some s → option_map_or (λ k. done k p) o 0 ≡ (s.small).steps
+pub steps_there : (p : Pid) (s : ProcState) (o : Option Kernel) → option_and_then (λ k. process_at k p) o ≡ Some s → option_map_or (λ k. done k p) o 0 ≡ (s.small).steps
 steps_there p s None is = cc
 steps_there p s (Some k) is = ap (λ (o : Option ProcState). option_map_or (λ (s : ProcState). (s.small).steps) o 0) is
 

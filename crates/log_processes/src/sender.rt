@@ -34,8 +34,8 @@ pub struct Sender {
     pub parent: bool,
 }
 
-// The home from which the process may send next.
-pub(crate) fn home_may(front: &Front, head: Head, kept: Sender) -> Option<ClusterNo>
+/// The home from which a process may send next, where it has its pages and the line says that this cluster sent it. Takes no memory.
+pub fn home_may(front: &Front, head: Head, kept: Sender) -> Option<ClusterNo>
     ensures { result ≡ home_may front.now head kept }
 {
     if front.is_next(head.place) && kept.whole {
@@ -45,29 +45,29 @@ pub(crate) fn home_may(front: &Front, head: Head, kept: Sender) -> Option<Cluste
     }
 }
 
-// How many steps lead the process to this count.
-pub(crate) fn steps_upto(process: &Process, at: u64) -> u64
+/// How many steps lead a process to this count. Takes no memory.
+pub fn steps_upto(process: &Process, at: u64) -> u64
     ensures { result ≡ at - (state_of process.now).small.steps }
 {
     at.saturating_sub(steps_made(process))
 }
 
-// How many steps the process has made.
-pub(crate) fn steps_made(process: &Process) -> u64
+/// How many steps a process has made. Takes no memory.
+pub fn steps_made(process: &Process) -> u64
     ensures { result ≡ (state_of process.now).small.steps }
 {
     process.small.steps
 }
 
-// How many letters wait to be read.
-pub(crate) fn letters_waiting(process: &Process) -> u64
+/// How many letters of a process wait to be read. Takes no memory.
+pub fn letters_waiting(process: &Process) -> u64
     ensures { result ≡ length (state_of process.now).mail }
 {
     process.mail.len() as u64
 }
 
-// Whether the process is within its limits.
-pub(crate) fn is_within(limits: Limits, kept: Sender, process: &Process) -> bool
+/// Whether a process is within its limits, as it stands. Takes no memory.
+pub fn is_within(limits: Limits, kept: Sender, process: &Process) -> bool
     ensures { result ≡ is_within limits kept (state_of process.now) }
 {
     let steps = steps_made(process).saturating_sub(kept.start);

@@ -1,0 +1,3 @@
+pub mod LogSmall
+pub mod Section
+pub mod Explaining

@@ -1,0 +1,10 @@
+pub mod Copies
+pub mod Lists
+pub mod Putting
+pub mod Starting
+pub mod Reaching
+pub mod Paging
+pub mod Reading
+pub mod Remembering
+pub mod Led
+pub mod Cutting

@@ -1,0 +1,4 @@
+pub mod Found
+pub mod Taking
+mod Room
+mod Booting

@@ -1,0 +1,4 @@
+pub mod Below
+pub mod Executing
+pub mod Parts
+pub mod Stepping
