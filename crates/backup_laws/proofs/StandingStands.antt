@@ -22,7 +22,7 @@ use Rattle.cert_sched.specs.Moved.{any_since_moved, was_moved}
 use Rattle.cert_sched.specs.Kinds.{is_done_by}
 use Rattle.cert_sched.specs.Rules.{has_awaited_backup, is_by_right, keeps_backups}
 use Rattle.cert_sched.specs.Kinds.{KindHolds}
-use Rattle.cert_sched.specs.Legal.{IsLegal, IsLegalBy, MayFollow}
+use Rattle.cert_sched.specs.Legal.{IsLegal, IsLegalBy, MayFollow, Stands}
 use Rattle.cert_sched.specs.Simulation.{IsUnended}
 use Rattle.cert_sched.proofs.LogLaws.{IsLegal-snoc, no_items, placement-snoc}
 use Rattle.cert_sched.proofs.Induction.{legal_induction}
@@ -33,6 +33,7 @@ use Rattle.cert_sched.proofs.UnplacedLaws.{never_moved}
 use Rattle.cert_sched.proofs.ThereLaws.{plain_there}
 use Rattle.log_laws.specs.pages.Next.{moves_next}
 use Rattle.log_laws.proofs.pages.OneEntry.{any_since-goes_on, any_since-snoc}
+use Rattle.log_laws.proofs.records.Standing.{legal_stands}
 use Rattle.backup_mode.specs.Posts.{standing_post}
 use Rattle.backup_laws.specs.Posts.{MayHandOn}
 use Rattle.backup_laws.proofs.Since.{mode_at, was_moved-snoc}
@@ -144,26 +145,32 @@ waiting_quiet system log p valid legal unended waits = (all_quiet system log val
 
 -- ---- the post
 
-pub standing_follows : (system : System) (log : List Entry) (k to : ClusterNo) (first : BackRec) (rest : List BackRec) → is_system system ≡ true → IsLegal system log
-    → MayHandOn system log k to first rest → MayFollow system log (entry_of system log (standing_post k to (first ∷ rest)))
-standing_follows system log k to first rest valid legal may =
+-- where its process has done nothing since it was moved
+pub standing_stands : (system : System) (log : List Entry) (k to : ClusterNo) (first : BackRec) (rest : List BackRec) → IsLegalBy Stands system log → MayHandOn system log k to first rest
+    → any_since_moved system log first.pid (is_done_by first.pid) ≡ false → Stands system log (entry_of system log (standing_post k to (first ∷ rest)))
+standing_stands system log k to first rest legal may quiet =
     let w = waiting_says system log first.pid may.waits in
     record {
-      stands = record {
-        placed = (refl, refl, may.goes_on);
-        by_right = may.by_home;
-        applies = ap is_some (no_items system log (entry_of system log (standing_post k to (first ∷ rest))) (λ k. refl)) ∙ plain_there MayFollow (λ system log e may. may.stands) system log legal;
-        kind = record {
-          backup = may.backup;
-          fullback = λ i. w.full i && w.moved i;
-          waits = waiting_quiet system log first.pid valid legal (by_home_there (placement system log) (Cluster k) first.pid may.by_home) may.waits;
-          stated = may.stated;
-          family = may.family;
-          records = may.records;
-        };
+      placed = (refl, refl, may.goes_on);
+      by_right = may.by_home;
+      applies = ap is_some (no_items system log (entry_of system log (standing_post k to (first ∷ rest))) (λ k. refl)) ∙ plain_there Stands (λ system log e stands. stands) system log legal;
+      kind = record {
+        backup = may.backup;
+        fullback = λ i. w.full i && w.moved i;
+        waits = quiet;
+        stated = may.stated;
+        family = may.family;
+        records = may.records;
       };
-      limits = refl;
-      backup = refl;
-      new_page = refl;
-      pages = refl;
     }
+
+pub standing_follows : (system : System) (log : List Entry) (k to : ClusterNo) (first : BackRec) (rest : List BackRec) → is_system system ≡ true → IsLegal system log
+    → MayHandOn system log k to first rest → MayFollow system log (entry_of system log (standing_post k to (first ∷ rest)))
+standing_follows system log k to first rest valid legal may = record {
+  stands = standing_stands system log k to first rest (legal_stands MayFollow (λ system log e may. may.stands) system log legal) may
+      (waiting_quiet system log first.pid valid legal (by_home_there (placement system log) (Cluster k) first.pid may.by_home) may.waits);
+  limits = refl;
+  backup = refl;
+  new_page = refl;
+  pages = refl;
+}

@@ -1,4 +1,5 @@
 pub mod BirthLaws
 mod Examples
+pub mod JoinedLaws
 pub mod LowestLaws
 pub mod WalkLaws

@@ -1,12 +1,14 @@
 //! The children that never synchronised, each with its parent, and which of them is to be synchronised next.
-ghost use Rattle.std.specs.Prelude.{◌≡◌, ◌↔◌, false, true, not, List, Option, [], ◌∷◌, ◌++◌, filter, None, OnOk, OnErr};
+ghost use Rattle.std.specs.Prelude.{◌≡◌, ◌↔◌, false, true, not, List, Option, [], ◌∷◌, ◌++◌, filter, None, IfOk, OnOk, OnErr};
 ghost use Rattle.std.specs.Option.{IfSome, unwrap_or};
 ghost use Rattle.std.specs.List.{list_any};
 ghost use Rattle.t32_base.specs.declared.process.Pid.{Pid};
 ghost use Rattle.bus_msg.specs.Places.{same_pid};
 ghost use Rattle.birth_notice.specs.Family.{stands_in, are_births, children_of, lower, lowest, first_unsynced, IsByRule};
+ghost use Rattle.birth_notice.specs.Joined.{others_of};
 
 use std::alloc::Global;
+use std::collections::BTreeSet;
 use std::marker::Model;
 use t32_base::process::Pid;
 use t32_base::streams::NoMemory;
@@ -38,6 +40,15 @@ impl Family {
         Family {
             births: Vec::new(alloc),
         }
+    }
+
+    /// An equal family.
+    pub fn copy(&self) -> Result<Self, NoMemory>
+        ensures { IfOk result (λ copy. copy ≡ self.now) }
+    {
+        Ok(Family {
+            births: self.births.clone()?,
+        })
     }
 
     /// Whether a process stands here, as a parent or as a child. Takes no memory.
@@ -80,6 +91,19 @@ impl Family {
             Some(child) => Some(first_from(births, child)),
             None => None,
         }
+    }
+
+    /// The others of the family of a process, by rising pid: its children here, and the children of these.
+    pub fn others(&self, alloc: Global, pid: Pid) -> Result<BTreeSet<u32>, NoMemory>
+        ensures { IfOk result (λ others. others.keys ≡ others_of self.now pid) }
+    {
+        let mut others = BTreeSet::new(alloc);
+        for birth in self.births.as_slice() {
+            if birth.0.0 == pid.0 || others.contains(&birth.0.0) {
+                others.insert(birth.1.0)?;
+            }
+        }
+        Ok(others)
     }
 }
 

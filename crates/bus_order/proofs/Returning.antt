@@ -1,9 +1,8 @@
 -- The return of a cluster that was lost may stand next, by a word for a place that was reached.
-use Rattle.std.proofs.Common.{◌≡◌, ℕ, zero, suc, ◌+◌, ◌<◌, refl, sym, ◌∙◌, ap, subst, arith, List, [], ◌∷◌, ◌++◌, length, Bool, cond, not, true, false, ltb, Option, Some, None, is_some, true≢false}
+use Rattle.std.proofs.Common.{◌≡◌, ℕ, ◌+◌, ◌<◌, refl, sym, ◌∙◌, ap, subst, arith, List, [], ◌∷◌, ◌++◌, length, Bool, cond, not, true, false, Option, Some, None, is_some, true≢false}
 use Rattle.std.specs.Prelude.{remove, slice_get}
 use Rattle.std.specs.Option.{option_map_or}
 use Rattle.std.proofs.lemmas.Option.{slice_get_within}
-use Rattle.std.proofs.lemmas.Bool.Decides.{nat_tests}
 use Rattle.t32_base.specs.declared.process.ClusterNo.{ClusterNo}
 use Rattle.sys_text.specs.declared.system.System.{System}
 use Rattle.bus_msg.specs.declared.entry.What.TheVariants.{Crash, Return}
@@ -26,23 +25,6 @@ use Rattle.bus_order.proofs.WordsLaws.{find-filter, without-filter, length-witho
 use Rattle.bus_order.proofs.Keeping.{IsMore, accounts_more, no_loss_for, reached_bus, words_stay}
 
 -- ---- a cluster that is lost
-
--- it is one of the clusters, and does not live
-pub lost_there : (places : Places) (k : ClusterNo) → (cond (ltb k.0 (length places.clusters)) (not (lives_in places k)) false) ≡ is_lost_in places k
-lost_there places k = by_cluster (slice_get places.clusters k.0) refl (ltb k.0 (length places.clusters)) refl
-  where
-    by_cluster : (o : Option ClusterPlace) → slice_get places.clusters k.0 ≡ o → (b : Bool) → ltb k.0 (length places.clusters) ≡ b
-        → cond b (not (option_map_or (λ (c : ClusterPlace). c.lives) o false)) false ≡ option_map_or (λ (c : ClusterPlace). not c.lives) o false
-    by_cluster (Some c) there true less = refl
-    by_cluster (Some c) there false less =
-        absurd (let short : length places.clusters < k.0 + 1 = grind (arith, nat_tests) in let within = slice_get_within places.clusters k.0 c there in omega (arith, short, within))
-    by_cluster None there true less = absurd (none_below places.clusters k.0 (let low : k.0 < length places.clusters = grind (arith, nat_tests) in low) there)
-      where
-        none_below : (cs : List ClusterPlace) (n : ℕ) → n < length cs → slice_get cs n ≡ None → ⊥
-        none_below [] n within none = absurd (omega (arith, within))
-        none_below (c ∷ cs) zero within none = cc
-        none_below (c ∷ cs) (suc n) within none = none_below cs n (omega (arith, within)) none
-    by_cluster None there false less = refl
 
 pub lost_within : (places : Places) (k : ClusterNo) → is_lost_in places k ≡ true → k.0 < length places.clusters
 lost_within places k lost = by_cluster (slice_get places.clusters k.0) refl lost

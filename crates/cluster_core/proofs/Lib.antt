@@ -1,5 +1,6 @@
 pub mod absorbing
 mod awaiting
+mod handing
 mod births
 mod losses
 mod paging

@@ -44,17 +44,20 @@ use Rattle.cluster_core.specs.Families.{family_after}
 use Rattle.cluster_core.specs.Owed.{owed_after}
 use Rattle.cluster_core.specs.Work.{AnswersNext, child_of, fetch_post, owes_answer}
 use Rattle.residents.specs.Asking.{AsksNext, any_lacks}
+use Rattle.standing_backups.specs.Standing.{IsNextStanding}
 use Rattle.cluster_core.specs.Follows.{FollowsBuilt, IsOpen, StandsBetween}
 use Rattle.residents.specs.Arriving.{with_letter, with_page_come}
 use Rattle.residents.specs.Told.{rests_in}
 
 -- ---- the start
 
--- a cluster that has taken in no entry, sent nothing and made no kernel step
+-- a cluster that has taken in no entry, sent nothing and made no kernel step; it has the placement of the roots, and no child is born yet
 pub record IsFirst (system : System) (number : ClusterNo) (c : ClusterView) : Type 0 where
   pub system_is : c.system ≡ system
   pub number_is : c.number ≡ number
   pub cursor : c.cursor ≡ 0
+  pub places : c.places ≡ placement system []
+  pub family : c.family ≡ []
   pub queue : c.queue ≡ []
   pub tried : c.tried ≡ false
   pub steps : c.steps ≡ 0
@@ -198,6 +201,12 @@ WaitsForPages c = (log : List Entry) → IsOpen MayStand c.system log → Follow
 abbrev pub OwesNoAnswer : ClusterView → Type 0
 OwesNoAnswer c = (log : List Entry) → IsOpen MayStand c.system log → FollowsBuilt c.system log c → first_of (servers_in (placement c.system log)) ≡ Some c.number → waiting_fetches c.system log ≡ []
 
+-- the new backup of the first family here that waits for it is queued
+pub record QueuesStanding (old new : ClusterView) : Type 0 where
+  pub post : Post
+  pub next : IsNextStanding old.number old.places old.family old.here old.owed (Some post)
+  pub rest : new ≡ record old { queue = post ∷ []; steps = next_count old.steps }
+
 -- the answer that it owes is queued
 pub record QueuesAnswer (old new : ClusterView) : Type 0 where
   pub post : Post
@@ -212,17 +221,19 @@ pub record QueuesFetch (old new : ClusterView) : Type 0 where
   pub asks : AsksNext old.here new.here pid index
   pub rest : new ≡ record old { here = new.here; queue = fetch_post old.number pid index ∷ []; steps = next_count old.steps }
 
--- it owes no answer, and no page is to be asked for
+-- no process here waits for its new backup, it owes no answer, and no page is to be asked for
 pub record OwesNothing (c : ClusterView) : Type 0 where
+  pub backed : c.owed ≡ []
   pub unowed : owes_answer c.places c.number c.server ≡ false
   pub none : any_lacks c.here ≡ false
 
--- What a work says that it did: an answer that is owed comes first, then a page that is to be asked for, then the step of a process.
+-- What a work says that it did: a new backup that a process waits for comes first, then an answer that is owed, then a page that is to be asked for, then the step of a process.
 abbrev pub WorkIs : ClusterView → Worked → ClusterView → Type 0
 WorkIs old Moved new = OwesNothing old × (is_resting old ≡ false) × MovedOne old new
 WorkIs old Queued new =
-    QueuesAnswer old new
-    ⊎ ((owes_answer old.places old.number old.server ≡ false) × QueuesFetch old new)
+    QueuesStanding old new
+    ⊎ ((old.owed ≡ []) × QueuesAnswer old new)
+    ⊎ ((old.owed ≡ []) × (owes_answer old.places old.number old.server ≡ false) × QueuesFetch old new)
     ⊎ (OwesNothing old × (is_resting old ≡ false) × (QueuesOne old new ⊎ QueuesBatch old new ⊎ QueuesBirth old new))
 WorkIs old IsWaiting new = OwesNothing old × (is_resting old ≡ false) × WaitsForPages old × OwesNoAnswer old × (new ≡ counted_once old)
 WorkIs old Rests new = OwesNothing old × (is_resting old ≡ true) × OwesNoAnswer old × (new ≡ counted_once old)

@@ -4,14 +4,16 @@ use Rattle.sys_text.specs.declared.system.System.{System}
 use Rattle.bus_msg.specs.declared.entry.Entry.{Entry}
 use Rattle.cert_sched.specs.Legal.{IsLegalBy, MayFollow}
 use Rattle.cert_sched.specs.Rules.{is_over}
-use Rattle.cert_sched.specs.Built.{UnlostMayFollow}
 use Rattle.cluster_core.specs.View.{ClusterView, head_of, after_sent}
 use Rattle.cert_sched.specs.Appended.{entry_of}
 use Rattle.cluster_core.specs.Queue.{IsQueued}
+use Rattle.cluster_core.specs.Sent.{SentMayFollow}
 use Rattle.cluster_core.specs.Syncing.{Synchronises}
 use Rattle.cluster_core.specs.Bearing.{BearsChild}
+use Rattle.cluster_core.specs.HandingOn.{HandsOver}
 use Rattle.cluster_core.specs.Families.{HoldsFamily}
 use Rattle.cluster_core.specs.Owed.{HoldsOwed}
+use Rattle.cluster_core.specs.Standing.{HoldsBackups}
 use Rattle.cluster_core.specs.ForksAgain.{HoldsForks}
 use Rattle.cluster_core.specs.Holds.{HoldsLog, HoldsProcesses, HoldsQueue, HoldsSteps, HoldsLimits, HoldsPages, HoldsMarks, IsMarked, CarriesMarks, HoldsRecords, HoldsAccounts, HasNotFailed}
 
@@ -26,12 +28,12 @@ pub record Follows (system : System) (entries : List Entry) (c : ClusterView) : 
   pub records : HoldsRecords system entries c
   pub accounts : HoldsAccounts system entries c
 
--- The lines that are built so far, for logs of the entries that are built so far. What is queued is nothing, or one post that is sent alone, or the rest of a batch, or a birth.
+-- The lines that are built so far, for logs of the entries that are built so far. What is queued is nothing, or one post that is sent alone, or the rest of a batch, or a birth, or the new backup of a family that was moved.
 pub record FollowsBuilt (system : System) (entries : List Entry) (c : ClusterView) : Type 0 where
   pub log : HoldsLog system entries c
   pub processes : HoldsProcesses system entries c
-  pub queue : HoldsQueue UnlostMayFollow system entries c
-  pub queued : IsQueued c.queue ⊎ Synchronises system entries c ⊎ BearsChild system entries c
+  pub queue : HoldsQueue SentMayFollow system entries c
+  pub queued : IsQueued c.queue ⊎ Synchronises system entries c ⊎ BearsChild system entries c ⊎ HandsOver c
   pub steps : HoldsSteps entries c
   pub limits : HoldsLimits system c
   pub pages : HoldsPages system entries c
@@ -39,6 +41,7 @@ pub record FollowsBuilt (system : System) (entries : List Entry) (c : ClusterVie
   pub records : HoldsRecords system entries c
   pub family : HoldsFamily system entries c
   pub owed : HoldsOwed system entries c
+  pub backups : HoldsBackups system entries c
   pub forks : HoldsForks c
   pub accounts : HoldsAccounts system entries c
   pub disk : HasNotFailed c

@@ -14,7 +14,6 @@ use Rattle.cluster_core.specs.Calls.{absorbed}
 use Rattle.cluster_core.specs.Families.{family_after}
 use Rattle.bus_msg.specs.declared.placed.Placed.{Placed}
 use Rattle.bus_msg.specs.Places.{Places, is_cluster, lives_in, same_cluster, servers_in, unended_at}
-use Rattle.cert_sched.specs.Built.{UnlostMayFollow}
 use Rattle.cert_sched.specs.Losses.{capped, least_steps, was_lost_in}
 use Rattle.cert_sched.specs.Record.{is_root}
 use Rattle.cert_sched.specs.Schedule.{placement}
@@ -26,6 +25,8 @@ use Rattle.cluster_core.specs.Holds.{CarriesMarks, HasNotFailed, HoldsAccounts, 
 use Rattle.cluster_core.specs.Parts.{AllOwn}
 use Rattle.cluster_core.specs.Owed.{HoldsOwed}
 use Rattle.cluster_core.specs.Queue.{IsQueued}
+use Rattle.cluster_core.specs.Sent.{SentMayFollow}
+use Rattle.cluster_core.specs.Standing.{HoldsBackups}
 use Rattle.cluster_core.specs.Syncing.{Synchronises}
 use Rattle.cluster_core.specs.View.{ClusterView, after_head}
 
@@ -87,7 +88,7 @@ pub record FollowsHeard (system : System) (entries : List Entry) (c : ClusterVie
   pub lives : lives_in (placement system entries) c.number ≡ true
   pub log : HasHeard system entries c
   pub processes : HoldsProcesses system entries c
-  pub queue : HoldsQueue UnlostMayFollow system entries c
+  pub queue : HoldsQueue SentMayFollow system entries c
   pub queued : IsQueued c.queue ⊎ Synchronises system entries c ⊎ BearsChild system entries c
   pub steps : CountsHeard entries c
   pub limits : HoldsLimits system c
@@ -96,6 +97,7 @@ pub record FollowsHeard (system : System) (entries : List Entry) (c : ClusterVie
   pub records : HoldsRecords system entries c
   pub family : HoldsFamilyHere system entries c
   pub owed : HoldsOwed system entries c
+  pub backups : HoldsBackups system entries c
   pub forks : HoldsForks c
   pub accounts : HoldsAccounts system entries c
   pub server : ServesThere system entries c

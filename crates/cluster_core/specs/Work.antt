@@ -20,6 +20,7 @@ use Rattle.cluster_core.specs.declared.worked.Worked.TheVariants.{Moved, Queued,
 use Rattle.residents.specs.Quantum.{post_told}
 use Rattle.residents.specs.Residents.{ResidentsView, TurnIs}
 use Rattle.residents.specs.Asking.{any_lacks, AsksNext, any_waits}
+use Rattle.standing_backups.specs.Standing.{IsNextStanding}
 
 -- ---- the answer that a page server owes
 
@@ -65,6 +66,14 @@ birth_told k places forking = record { by = Cluster k; what = Birth forking.pid 
 
 -- ---- the work
 
+-- the new backup of a family that waits for it is queued
+pub record QueuesStanding (k : ClusterNo) (places : Places) (family : List (Pid × Pid)) (owed : List ℕ) (old : ResidentsView) (server : Option PagerState) (new : ResidentsView) (served : Option PagerState) (queue : List Post) : Type 0 where
+  pub post : Post
+  pub next : IsNextStanding k places family old.here owed (Some post)
+  pub same : new ≡ old
+  pub kept : served ≡ server
+  pub queue_is : queue ≡ post ∷ []
+
 -- the answer that is owed is queued
 pub record QueuesAnswer (k : ClusterNo) (places : Places) (old : ResidentsView) (server : Option PagerState) (new : ResidentsView) (served : Option PagerState) (queue : List Post) : Type 0 where
   pub post : Post
@@ -99,12 +108,18 @@ RunsNext k places family old Queued new queue =
 RunsNext k places family old IsWaiting new queue = TurnIs k family old (Ok Stuck) new × (any_waits old.here ≡ true) × (queue ≡ [])
 RunsNext k places family old Rests new queue = TurnIs k family old (Ok Stuck) new × (any_waits old.here ≡ false) × (queue ≡ [])
 
--- an answer that is owed comes first, then a page that is to be asked for, and then the turn of one that is here; what it sent is queued
-abbrev pub WorksOn : ClusterNo → Places → List (Pid × Pid) → ResidentsView → Option PagerState → Worked → ResidentsView → Option PagerState → List Post → Type 0
-WorksOn k places family old server Queued new served queue =
+-- where no process waits for its new backup: an answer that is owed comes first, then a page that is to be asked for, and then the turn of one that is here; what it sent is queued
+abbrev pub WorksUnowed : ClusterNo → Places → List (Pid × Pid) → ResidentsView → Option PagerState → Worked → ResidentsView → Option PagerState → List Post → Type 0
+WorksUnowed k places family old server Queued new served queue =
     QueuesAnswer k places old server new served queue
     ⊎ QueuesFetch k places old server new served queue
     ⊎ (NoPages k places old server served × RunsNext k places family old Queued new queue)
-WorksOn k places family old server Moved new served queue = NoPages k places old server served × RunsNext k places family old Moved new queue
-WorksOn k places family old server IsWaiting new served queue = NoPages k places old server served × RunsNext k places family old IsWaiting new queue
-WorksOn k places family old server Rests new served queue = NoPages k places old server served × RunsNext k places family old Rests new queue
+WorksUnowed k places family old server Moved new served queue = NoPages k places old server served × RunsNext k places family old Moved new queue
+WorksUnowed k places family old server IsWaiting new served queue = NoPages k places old server served × RunsNext k places family old IsWaiting new queue
+WorksUnowed k places family old server Rests new served queue = NoPages k places old server served × RunsNext k places family old Rests new queue
+
+-- a new backup that a process waits for comes first
+abbrev pub WorksOn : ClusterNo → Places → List (Pid × Pid) → List ℕ → ResidentsView → Option PagerState → Worked → ResidentsView → Option PagerState → List Post → Type 0
+WorksOn k places family owed old server worked new served queue =
+    ((worked ≡ Queued) × QueuesStanding k places family owed old server new served queue)
+    ⊎ ((owed ≡ []) × WorksUnowed k places family old server worked new served queue)

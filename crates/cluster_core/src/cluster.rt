@@ -16,6 +16,7 @@ use crate::booting::{limits_of, parts_at_boot};
 use crate::falling::drop_fallen;
 use crate::families::join;
 use crate::hurt::Hurt;
+use crate::known::Known;
 use crate::owed::Owed;
 use crate::serving::serve;
 use crate::taking_over::take_over;
@@ -158,6 +159,35 @@ impl<D: PageDisk + Drop> Cluster<D> {
             failed: None,
             system: system.clone()?,
         })
+    }
+
+    /// What it knows of the log beside its own processes.
+    pub fn known(&self) -> Result<Known, NoMemory>
+        ensures places { IfOk result (λ known. known.places ≡ self.now.places) }
+        ensures family { IfOk result (λ known. known.family ≡ self.now.family) }
+    {
+        Ok(Known {
+            places: self.places.copy()?,
+            family: self.family.copy()?,
+        })
+    }
+
+    /// The same cluster behind its return at a later place of the log, with what it knows then. It counts its kernel steps on,
+    /// and has no process, no record and no disk.
+    pub fn come_back(&self, known: Known, cursor: u64) -> Result<Cluster<D>, NoMemory>
+        requires valid { is_system self.now.system ≡ true }
+        requires has { self.now.number.0 < self.now.system.clusters }
+        ensures { IfOk result (λ c. c ≡ returned self.now.system self.now.number known.places known.family cursor self.now.steps) }
+    {
+        Cluster::fresh(
+            self.alloc,
+            &self.system,
+            self.number,
+            known.places,
+            known.family,
+            cursor,
+            self.steps,
+        )
     }
 
     /// The head of the queue: none exactly where the queue is empty. Takes no memory.
@@ -323,6 +353,7 @@ impl<D: PageDisk + Drop> Cluster<D> {
             self.number,
             &self.places,
             &self.family,
+            &self.owed,
             &mut self.here,
             &mut self.server,
             &mut self.queue,

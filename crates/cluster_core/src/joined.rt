@@ -5,7 +5,7 @@ ghost use Rattle.sys_text.specs.declared.system.System.{System};
 ghost use Rattle.bus_msg.specs.declared.entry.Entry.{Entry};
 ghost use Rattle.cert_sched.specs.Family.{unsynced_family};
 ghost use Rattle.log_laws.specs.births.Unsynced.{unsynced_births};
-ghost use Rattle.cluster_core.specs.Joined.{family_of};
+ghost use Rattle.birth_notice.specs.Joined.{family_of};
 
 /// A law and no code: among the births that a cluster keeps the family of a process is the one whose records its new backup gets.
 pub fn families_are_joined()

@@ -1,13 +1,17 @@
 //! The processes here that wait for their new backup, as an entry changes them.
-ghost use Rattle.std.specs.Prelude.{◌≡◌, ◌∷◌, [], OnOk};
+ghost use Rattle.std.specs.Prelude.{◌≡◌, ◌∷◌, [], IfOk, OnOk};
 ghost use Rattle.bus_msg.specs.PlacedAfter.{what};
 ghost use Rattle.cert_sched.specs.Rules.{is_full};
+ghost use Rattle.standing_backups.specs.Standing.{CanBeNext, IsNextStanding};
 ghost use Rattle.cluster_core.specs.Owed.{begins_wait, pids_waiting, settled, to_back, waited, with_pids};
 
 use backup_mode::next::next_backup;
-use bus_msg::entry::{Entry, What};
+use birth_notice::family::Family;
+use bus_msg::entry::{Entry, Post, What};
 use bus_msg::placed::Placed;
 use channel_table::placement::Placement;
+use residents::residents::Residents;
+use standing_backups::standing::next_standing;
 use std::alloc::Global;
 use std::collections::BTreeSet;
 use std::marker::Model;
@@ -85,6 +89,22 @@ impl Owed {
             What::Done { .. } => {}
             What::Stop => {}
         }
+    }
+
+    /// The post by which the cluster with a number gives the next of them, and its family, its new backup. None exactly where
+    /// none waits.
+    pub fn next_post(
+        &self,
+        alloc: Global,
+        number: ClusterNo,
+        places: &Placement,
+        family: &Family,
+        here: &Residents,
+    ) -> Result<Option<Post>, NoMemory>
+        requires { CanBeNext places.now family.now here.now.here self.now }
+        ensures { IfOk result (λ next. IsNextStanding number places.now family.now here.now.here self.now next) }
+    {
+        next_standing(alloc, number, places, &self.pids, family, here)
     }
 
     // Each fullback waits that the loss of a cluster moves to the one with a number. It stands by itself so that no

@@ -4,10 +4,12 @@ ghost use Rattle.std.specs.VecDeque.{deque_len, deque_capacity};
 ghost use Rattle.residents.specs.ForkingAgain.{CanForkAgain};
 ghost use Rattle.residents.specs.Quantum.{post_told};
 ghost use Rattle.cluster_core.specs.Serving.{CanAnswer, HurtsServer};
-ghost use Rattle.cluster_core.specs.Work.{RunsNext, WorksOn, birth_told, fetch_post, next_pid};
+ghost use Rattle.cluster_core.specs.Work.{RunsNext, WorksOn, WorksUnowed, birth_told, fetch_post, next_pid};
+ghost use Rattle.standing_backups.specs.Standing.{CanBeNext};
 ghost use Rattle.residents.specs.Asking.{any_waits};
 
 use crate::hurt::Hurt;
+use crate::owed::Owed;
 use crate::serving::answer_next;
 use crate::worked::Worked;
 use birth_notice::family::Family;
@@ -23,11 +25,42 @@ use sys_calls::steps::Emission;
 use t32_base::process::{ClusterNo, Pid};
 use t32_base::streams::NoMemory;
 
-/// Does the next thing that is to be done in the cluster with a number. An answer that it owes as a page server is queued;
+/// Does the next thing that is to be done in the cluster with a number. The new backup is queued that the next of these processes
+/// waits for; or an answer that it owes as a page server;
 /// or a fetch of a page that a process here lacks; or the next process that can move synchronises or runs for a quantum, or one of these
 /// children synchronises in its place, and what it sends, or the birth of its child, is queued; or nothing can move, where a process may wait for its pages. After want of memory, or where the call of the disk
 /// failed, nothing is queued, and nothing else is said but that the values can be dropped.
 pub fn work_on<D: PageDisk>(
+    alloc: Global,
+    number: ClusterNo,
+    places: &Placement,
+    family: &Family,
+    owed: &Owed,
+    here: &mut Residents,
+    server: &mut Option<Pager<D>>,
+    queue: &mut VecDeque<Post>,
+) -> Result<Worked, Hurt>
+    requires queue { queue.old.items ≡ [] }
+    requires standing { CanBeNext places.now family.now here.old.here owed.now }
+    requires can { CanAnswer server.old }
+    requires pids { next_pid number places.now < 2 ^ 32 }
+    requires forks { CanForkAgain here.old.here }
+    ensures ok { IfOk result (λ worked. WorksOn number places.now family.now owed.now here.old server.old worked here.new server.new queue.new.items) }
+    ensures here { OnErr result (here.new.here ≡ here.old.here) }
+    ensures limits { here.new.limits ≡ here.old.limits }
+    ensures queue { OnErr result (queue.new.items ≡ []) }
+    ensures hurts { IfErr result (HurtsServer server.old) }
+{
+    make_room(queue)?;
+    if let Some(post) = owed.next_post(alloc, number, places, family, here)? {
+        queue.push_back_reserved(post);
+        return Ok(Worked::Queued);
+    }
+    work_unowed(alloc, number, places, family, here, server, queue)
+}
+
+// The same, where no process waits for its new backup.
+fn work_unowed<D: PageDisk>(
     alloc: Global,
     number: ClusterNo,
     places: &Placement,
@@ -37,16 +70,16 @@ pub fn work_on<D: PageDisk>(
     queue: &mut VecDeque<Post>,
 ) -> Result<Worked, Hurt>
     requires queue { queue.old.items ≡ [] }
+    requires room { deque_len queue.old < deque_capacity queue.old }
     requires can { CanAnswer server.old }
     requires pids { next_pid number places.now < 2 ^ 32 }
     requires forks { CanForkAgain here.old.here }
-    ensures ok { IfOk result (λ worked. WorksOn number places.now family.now here.old server.old worked here.new server.new queue.new.items) }
+    ensures ok { IfOk result (λ worked. WorksUnowed number places.now family.now here.old server.old worked here.new server.new queue.new.items) }
     ensures here { OnErr result (here.new.here ≡ here.old.here) }
     ensures limits { here.new.limits ≡ here.old.limits }
     ensures queue { OnErr result (queue.new.items ≡ []) }
     ensures hurts { IfErr result (HurtsServer server.old) }
 {
-    make_room(queue)?;
     if let Some(post) = answer_next(alloc, number, places, server)? {
         queue.push_back_reserved(post);
         return Ok(Worked::Queued);

@@ -23,9 +23,10 @@ use Rattle.report_text.specs.declared.run.Ended.{Ended}
 use Rattle.report_text.specs.declared.run.Ended.TheVariants.{Finished, Lost}
 use Rattle.report_text.specs.Good.{EndsAs, IsLostAt}
 use Rattle.report_text.specs.RunReport.{is_crash}
-use Rattle.cluster_run.specs.Ends.{IsLostBy, ends_lost, has_run_out}
-use Rattle.cluster_run.proofs.CutOff.{ended_over, run_out_parts}
-use Rattle.cluster_run.proofs.Prefixes.{get_last}
+use Rattle.cluster_turns.specs.Ends.{ends_lost, has_run_out}
+use Rattle.cluster_run.specs.Left.{IsLostBy}
+use Rattle.cluster_turns.proofs.CutOff.{ended_over, run_out_parts}
+use Rattle.cluster_turns.proofs.Prefixes.{get_last}
 
 -- ---- a closed log is over
 

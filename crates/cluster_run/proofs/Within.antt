@@ -1,5 +1,5 @@
 -- The processes of a cluster that follows a log have no more steps left than so many as the system says.
-use Rattle.std.proofs.Common.{◌≡◌, ℕ, zero, suc, ◌+◌, ◌-◌, ◌*◌, ◌^◌, ◌≤◌, ◌<◌, ◌⊎◌, inl, inr, refl, sym, ◌∙◌, ap, subst, arith, List, [], ◌∷◌, ◌++◌, length, take, get_or, Bool, true, false, cond, ◌||◌, eqb, ltb, eqb-true, Option, Some, None, true≢false}
+use Rattle.std.proofs.Common.{◌≡◌, ℕ, zero, suc, ◌+◌, ◌*◌, ◌^◌, ◌≤◌, ◌<◌, ◌⊎◌, inl, inr, refl, sym, ◌∙◌, ap, subst, arith, List, [], ◌∷◌, ◌++◌, length, take, get_or, Bool, true, false, cond, ◌||◌, eqb, ltb, eqb-true, Option, Some, None, true≢false}
 use Rattle.std.specs.Prelude.{All, count_by, filter, find, option_and_then, option_map}
 use Rattle.std.specs.List.{list_any, sum_by}
 use Rattle.std.specs.Option.{option_map_or}
@@ -17,7 +17,7 @@ use Rattle.proc_state.specs.declared.process.Process.{Process}
 use Rattle.proc_state.specs.State.{ProcState, state_of, can_take}
 use Rattle.sys_calls.specs.Small.{weight_with_children}
 use Rattle.sys_calls.specs.Calls.{Next, Silent, Blocked, Forks, Emits, Over}
-use Rattle.sys_calls.specs.Fork.{before_fork, fork_parent}
+use Rattle.sys_calls.specs.Fork.{fork_parent}
 use Rattle.sys_calls.specs.Next.{next_step}
 use Rattle.sys_calls.specs.declared.steps.Emission.{Emission}
 use Rattle.plain_kernel.specs.Kernel.{Kernel, boot, process_at}
@@ -31,17 +31,18 @@ use Rattle.roll_forward.specs.Replay.{put_first, replayed, replay_step}
 use Rattle.cert_sched.specs.Parts.{put_rising, rising, upto_last}
 use Rattle.cert_sched.specs.Deeds.{since, starts}
 use Rattle.cert_sched.specs.Rolling.{refilled}
-use Rattle.cert_sched.specs.Schedule.{done_after, placement, plain_after, process_after}
+use Rattle.cert_sched.specs.Schedule.{placement, plain_after, process_after}
 use Rattle.cert_sched.specs.Kinds.{after_take, took_is}
-use Rattle.cert_sched.specs.Steps.{before_fork_at, emission_at, silent_upto}
+use Rattle.cert_sched.specs.Steps.{emission_at, process_of, silent_upto}
 use Rattle.cert_sched.specs.Appended.{entry_of}
 use Rattle.cert_sched.specs.Rests.{home_pids}
 use Rattle.cert_sched.specs.Rules.{is_over}
-use Rattle.cert_sched.specs.Built.{MayStand, UnlostMayFollow, is_unlost}
-use Rattle.cert_sched.specs.Legal.{IsLegalBy}
-use Rattle.cluster_run.specs.Ends.{is_cut_off}
-use Rattle.cert_sched.proofs.KernelSums.{one_of_sum}
-use Rattle.cert_sched.proofs.ReplayLaws.{fork_after}
+use Rattle.cert_sched.specs.Built.{MayStand}
+use Rattle.cluster_core.specs.Sent.{SentMayFollow, is_sent}
+use Rattle.cluster_core.specs.HandingOn.{HandsOver}
+use Rattle.cert_sched.specs.Legal.{IsLegalBy, Stands}
+use Rattle.cluster_turns.specs.Ends.{is_cut_off}
+use Rattle.cert_sched.proofs.KernelSums.{one_of_sum, sum_of}
 use Rattle.cert_sched.proofs.RisingLaws.{NoTwo}
 use Rattle.cert_sched.proofs.StepLaws.{sent_from, silent_from}
 use Rattle.cluster_core.specs.View.{ClusterView, after_sent, head_of, has_moved, held_load, load, process_load}
@@ -49,7 +50,7 @@ use Rattle.residents.specs.Held.{Held, Runs, Rolls, Waits, held_of}
 use Rattle.cluster_core.specs.Holds.{IsHeldAs}
 use Rattle.cluster_core.specs.Calls.{FollowsSome}
 use Rattle.cluster_core.specs.Follows.{FollowsBuilt, IsOpen}
-use Rattle.cluster_core.specs.Queue.{Nothing, One, IsQueueLegal, is_move_of, state_by, AreTogether, IsQueued, Queued, is_lone, move_of, posts_of}
+use Rattle.cluster_core.specs.Queue.{Nothing, One, IsQueueLegal, is_move_of, state_by, AreTogether, IsQueued, Queued, is_lone, move_of, posts_of, tells_steps}
 use Rattle.residents.proofs.Changing.{same_itself, pid_same}
 use Rattle.residents.specs.Residents.{pids_in}
 use Rattle.cluster_core.proofs.working.Lightening.{held_apart}
@@ -57,22 +58,25 @@ use Rattle.sys_calls.proofs.Counting.{last_sent}
 use Rattle.sys_calls.proofs.ForkLaws.{forks_can}
 use Rattle.sys_calls.proofs.Bearing.{emits_lightens, fork_lightens, silent_lightens, silently_lightens}
 use Rattle.bus_order.specs.View.{BusView}
-use Rattle.cluster_run.specs.Disks.{HasFailed}
-use Rattle.cluster_run.specs.Gone.{IsGone, StoodAs, StoodBeside, StoodBetween}
-use Rattle.cluster_run.specs.Along.{AllAlong, IsMember, IsOwned, IsSound}
+use Rattle.bus_order.proofs.WordsLaws.{found_passes}
+use Rattle.cluster_turns.specs.Disks.{HasFailed}
+use Rattle.cluster_turns.specs.Gone.{IsGone, StoodAs, StoodBeside, StoodBetween}
+use Rattle.cluster_turns.specs.Along.{AllAlong, IsMember, IsOwned, IsSound}
 use Rattle.log_laws.proofs.records.Standing.{built_stands}
 use Rattle.checkpoint_laws.specs.remaining.Left.{left_of_syncs, left_to_send, most_syncs}
 use Rattle.checkpoint_laws.specs.remaining.Load.{kernel_load, log_load}
 use Rattle.checkpoint_laws.proofs.remaining.Bounded.{syncs_within}
 use Rattle.checkpoint_laws.proofs.remaining.StepsLeft.{after_log}
-use Rattle.cluster_run.specs.Progress.{Falls, IsOver, Remaining, remaining, total, unseen}
-use Rattle.cluster_run.proofs.Posting.{follows_some}
+use Rattle.cluster_turns.specs.Progress.{Falls, IsOver, Remaining, left_of_posts, remaining, total, unseen}
+use Rattle.backup_laws.specs.Owed.{is_unbacked, left_of_backups}
+use Rattle.checkpoint_laws.proofs.remaining.PlacedSums.{of_family, placed_few}
+use Rattle.cluster_turns.proofs.Posting.{follows_some}
 use Rattle.cert_sched.proofs.Induction.{legal_prefix}
-use Rattle.cluster_run.proofs.Prefixes.{goes_on_before}
+use Rattle.cluster_turns.proofs.Prefixes.{goes_on_before}
 use Rattle.cluster_run.proofs.PagesWithin.{few_placed, most_pages, pages_within, placed_count}
-use Rattle.cluster_run.proofs.StepLosses.{gone_inside, same_sent}
+use Rattle.cluster_turns.proofs.StepLosses.{gone_inside, same_sent}
 use Rattle.cluster_run.proofs.Together.{one_member}
-use Rattle.cluster_run.proofs.Unlost.{by_unlost, same_after}
+use Rattle.cluster_turns.proofs.SentKinds.{by_sent, same_after}
 use Rattle.log_laws.specs.pages.Left.{left_of_pages}
 use Rattle.sys_calls.proofs.TakeLaws.{taken_strikes}
 use Rattle.std.proofs.lemmas.Bool.{and_parts}
@@ -81,7 +85,7 @@ use Rattle.cluster_core.specs.Bearing.{BearsChild}
 use Rattle.cluster_core.proofs.syncs.BatchPosts.{batch_moves, batch_moves_other}
 use Rattle.checkpoint_laws.specs.batches.Underway.{posts_left}
 use Rattle.checkpoint_laws.proofs.posts.TakeLeaves.{takes_leave}
-use Rattle.bus_msg.specs.declared.entry.What.TheVariants.{Mail, Exit, Fetch, PageIs, Sync}
+use Rattle.bus_msg.specs.declared.entry.What.TheVariants.{Mail, Exit, Fetch, PageIs, Rebackup, Sync}
 
 -- ---- a process
 
@@ -157,31 +161,16 @@ took_within None s can = omega arith
 took_within (Some g) s can = (taken_strikes s (and_parts (can_take s) _ can).0).weight_children
 
 -- a process that has moved ahead of the log
-moved_within : (system : System) (log : List Entry) (p : Pid) (steps : ℕ) (t : ProcState) (w : What) → is_unlost w ≡ true → TakesRightly system log w → state_by system log p steps (Some w) ≡ Some t → weight_with_children t.small ≤ boot_load system
-unfolding before_fork_at
+moved_within : (system : System) (log : List Entry) (p : Pid) (steps : ℕ) (t : ProcState) (w : What) → is_sent w ≡ true → tells_steps w ≡ true → TakesRightly system log w → state_by system log p steps (Some w) ≡ Some t → weight_with_children t.small ≤ boot_load system
 moved_within system log p steps t =
-    by_unlost (λ w. TakesRightly system log w → state_by system log p steps (Some w) ≡ Some t → weight_with_children t.small ≤ boot_load system)
-    (λ at letter can there. emitted_within system log letter.from at t (emission_at system log letter.from at) refl (same_option _ ∙ there))
-    (λ parent at child end can there. forked_within parent at child (before_fork_at system log parent at) refl there)
-    (λ pid at end can there. emitted_within system log pid at t (emission_at system log pid at) refl (same_option _ ∙ there))
-    (λ pid index can there. cc) (λ pid index bytes can there. cc) (λ pid at index bytes can there. cc) (λ pid small read took can there. cut_within pid small took (silent_upto system log pid small.steps) refl can there) (λ rests can there. cc) (λ can there. cc)
+    by_sent (λ w. tells_steps w ≡ true → TakesRightly system log w → state_by system log p steps (Some w) ≡ Some t → weight_with_children t.small ≤ boot_load system)
+    (λ at letter tells can there. emitted_within system log letter.from at t (emission_at system log letter.from at) refl (same_option _ ∙ there))
+    (λ parent at child end tells. absurd (true≢false (sym tells)))
+    (λ pid at end tells can there. emitted_within system log pid at t (emission_at system log pid at) refl (same_option _ ∙ there))
+    (λ pid index tells. absurd (true≢false (sym tells))) (λ pid index bytes tells. absurd (true≢false (sym tells))) (λ pid at index bytes tells. absurd (true≢false (sym tells)))
+    (λ pid small read took tells can there. cut_within pid small took (silent_upto system log pid small.steps) refl can there)
+    (λ to recs tells. absurd (true≢false (sym tells))) (λ rests tells. absurd (true≢false (sym tells))) (λ tells. absurd (true≢false (sym tells)))
   where
-    -- a fork leaves its parent less
-    forked_within : (parent : Pid) (at : ℕ) (child : Pid) (o : Option ProcState) → before_fork_at system log parent at ≡ o → option_map (λ s. s) (option_map (λ s. fork_parent s child) o) ≡ Some t → weight_with_children t.small ≤ boot_load system
-    forked_within parent at child None is there = cc
-    forked_within parent at child (Some u) is there = by_process (process_after system log parent) refl is
-      where
-        same : fork_parent u child ≡ t
-        same = cc
-
-        by_process : (o : Option ProcState) → process_after system log parent ≡ o → option_and_then (before_fork (at - 1 - done_after system log parent)) o ≡ Some u → weight_with_children t.small ≤ boot_load system
-        by_process None there before = cc
-        by_process (Some s) there before =
-            let f = fork_after (at - 1 - done_after system log parent) s u before in
-            let less = fork_lightens u child (forks_can u f.forks) in
-            let here : weight_with_children (fork_parent u child).small ≡ weight_with_children t.small = ap (λ (x : ProcState). weight_with_children x.small) same in
-            omega (arith, here, less, silently_lightens _ s u f.silent, process_within system log parent s there)
-
     cut_within : (pid : Pid) (small : SmallState) (took : Option ℕ) (o : Option ProcState) → silent_upto system log pid small.steps ≡ o → option_map (took_is took) o ≡ Some true → option_map (after_take took) o ≡ Some t → weight_with_children t.small ≤ boot_load system
     cut_within pid small took None is can there = cc
     cut_within pid small took (Some u) is can there =
@@ -192,19 +181,27 @@ moved_within system log p steps t =
     same_option None = refl
     same_option (Some s) = refl
 
--- each post that is found in a legal queue is no loss
-queued_unlost : (system : System) (log : List Entry) (queue : List Post) (test : Post → Bool) (post : Post) → IsQueueLegal UnlostMayFollow system log queue → find test queue ≡ Some post → is_unlost post.what ≡ true
-queued_unlost system log [] test post legal found = cc
-queued_unlost system log (first ∷ queue) test post legal found = by_test (test first) found (queued_unlost system (log ++ entry_of system log first ∷ []) queue test post legal.1)
+-- each post that is found in a legal queue is of a kind that clusters send
+queued_sent : (system : System) (log : List Entry) (queue : List Post) (test : Post → Bool) (post : Post) → IsQueueLegal SentMayFollow system log queue → find test queue ≡ Some post → is_sent post.what ≡ true
+queued_sent system log [] test post legal found = cc
+queued_sent system log (first ∷ queue) test post legal found = by_test (test first) found (queued_sent system (log ++ entry_of system log first ∷ []) queue test post legal.1)
   where
-    by_test : (b : Bool) → cond b (Some first) (find test queue) ≡ Some post → (find test queue ≡ Some post → is_unlost post.what ≡ true) → is_unlost post.what ≡ true
-    by_test true found more = let same : first ≡ post = cc in subst (λ (p : Post). is_unlost p.what ≡ true) same (legal.0).built
+    by_test : (b : Bool) → cond b (Some first) (find test queue) ≡ Some post → (find test queue ≡ Some post → is_sent post.what ≡ true) → is_sent post.what ≡ true
+    by_test true found more = let same : first ≡ post = cc in subst (λ (p : Post). is_sent p.what ≡ true) same (legal.0).built
     by_test false found more = more found
 
-runs_within : (system : System) (log : List Entry) (queue : List Post) (p : Pid) (steps : ℕ) (t : ProcState) → IsQueueLegal UnlostMayFollow system log queue → (o : Option Post) → find (is_move_of p) queue ≡ o
+-- one that moves a process tells of its steps
+moves_tell : (p : Pid) (post : Post) → is_move_of p post ≡ true → tells_steps post.what ≡ true
+moves_tell p post moves = by_test (tells_steps post.what) refl moves
+  where
+    by_test : (b : Bool) → tells_steps post.what ≡ b → cond b (option_map_or (λ q. same_pid q p) (process_of post.what) false) false ≡ true → tells_steps post.what ≡ true
+    by_test true is moves = is
+    by_test false is moves = absurd (true≢false (sym moves))
+
+runs_within : (system : System) (log : List Entry) (queue : List Post) (p : Pid) (steps : ℕ) (t : ProcState) → IsQueueLegal SentMayFollow system log queue → (o : Option Post) → find (is_move_of p) queue ≡ o
     → ((w : What) → option_map (λ (post : Post). post.what) o ≡ Some w → TakesRightly system log w) → state_by system log p steps (option_map (λ (post : Post). post.what) o) ≡ Some t → weight_with_children t.small ≤ boot_load system
 runs_within system log queue p steps t legal None found can is = silent_within system log p steps t is
-runs_within system log queue p steps t legal (Some post) found can is = moved_within system log p steps t post.what (queued_unlost system log queue (is_move_of p) post legal found) (can post.what refl) is
+runs_within system log queue p steps t legal (Some post) found can is = moved_within system log p steps t post.what (queued_sent system log queue (is_move_of p) post legal found) (moves_tell p post (found_passes (is_move_of p) queue post found)) (can post.what refl) is
 
 -- two for each step that the system's processes have left at boot, and one for a synchronisation
 abbrev pub most_held : System → ℕ
@@ -226,7 +223,7 @@ lone_rightly system log (PageIs pid index bytes) lone = tt
 lone_rightly system log _ lone = absurd (true≢false (sym lone))
 
 -- a signal that is queued as taken is one that its process can take
-queued_rightly : (system : System) (log : List Entry) (c : ClusterView) (p : Pid) → IsQueued c.queue ⊎ Synchronises system log c ⊎ BearsChild system log c → (w : What) → move_of p c.queue ≡ Some w → TakesRightly system log w
+queued_rightly : (system : System) (log : List Entry) (c : ClusterView) (p : Pid) → IsQueued c.queue ⊎ Synchronises system log c ⊎ BearsChild system log c ⊎ HandsOver c → (w : What) → move_of p c.queue ≡ Some w → TakesRightly system log w
 queued_rightly system log c p (inl alone) w is = by_queued alone.queued alone.together (ap (move_of p) (sym alone.posts) ∙ is)
   where
     by_test : (post : Post) (b : Bool) → is_lone post.what ≡ true → option_map (λ (post : Post). post.what) (cond b (Some post) None) ≡ Some w → TakesRightly system log w
@@ -254,9 +251,13 @@ queued_rightly system log c p (inr (inl y)) w is = by_pid (same_pid y.pid p) ref
         let moves = ap (λ q. move_of q (posts_left c.number y.pid s y.read y.took y.indices)) (sym (pid_same y.pid p (eqb-true (y.pid).0 p.0 own))) ∙ batch_moves c.number y.pid s y.read y.took y.indices in
         subst (TakesRightly system log) (same_Some (Sync y.pid s.small y.read y.took) w (sym moves ∙ here)) can
     by_pid false other = let none : None ≡ Some w = sym (batch_moves_other c.number y.pid s y.read y.took p y.indices other) ∙ here in cc
-queued_rightly system log c p (inr (inr b)) w is = let none : None ≡ Some w = ap (move_of p) (sym b.posts) ∙ is in cc
+queued_rightly system log c p (inr (inr (inl b))) w is = let none : None ≡ Some w = ap (move_of p) (sym b.posts) ∙ is in cc
+queued_rightly system log c p (inr (inr (inr h))) w is = let none : None ≡ Some w = sym (stays h.post h.standing) ∙ ap (move_of p) (sym h.posts) ∙ is in cc
+  where
+    stays : (post : Post) → post.what ≡ Rebackup h.to false h.recs → move_of p (post ∷ []) ≡ None
+    stays post is = ap (λ (w : What). move_of p (record post { what = w } ∷ [])) is
 
-held_within : (system : System) (log : List Entry) (queue : List Post) (p : Pid) (h : Held) → IsQueueLegal UnlostMayFollow system log queue → ((w : What) → move_of p queue ≡ Some w → TakesRightly system log w) → IsHeldAs system log queue p h → held_load h ≤ most_held system
+held_within : (system : System) (log : List Entry) (queue : List Post) (p : Pid) (h : Held) → IsQueueLegal SentMayFollow system log queue → ((w : What) → move_of p queue ≡ Some w → TakesRightly system log w) → IsHeldAs system log queue p h → held_load h ≤ most_held system
 held_within system log queue p (Runs process) legal can is =
     process_load_within system process (runs_within system log queue p (process.small).steps (state_of process) legal (find (is_move_of p) queue) refl can is)
 held_within system log queue p (Rolls process counts births) legal can held =
@@ -360,14 +361,14 @@ module _ (b : BusView) (c : ClusterView) (sound : IsSound b) (gone : IsGone b c)
     follows = subst (λ s. FollowsBuilt s (take c.cursor b.log) v) (sym system) follows;
   })
 
-  sent_load : (was : ClusterView) (queue : List Post) (e : Entry) → IsQueueLegal UnlostMayFollow b.system (take c.cursor b.log) queue → option_map (entry_of b.system (take c.cursor b.log)) (head_of queue) ≡ Some e → load (after_sent was queue) ≡ load was
+  sent_load : (was : ClusterView) (queue : List Post) (e : Entry) → IsQueueLegal SentMayFollow b.system (take c.cursor b.log) queue → option_map (entry_of b.system (take c.cursor b.log)) (head_of queue) ≡ Some e → load (after_sent was queue) ≡ load was
   sent_load was [] e legal head = cc
   sent_load was (p ∷ queue) e legal head = ap load (ap (λ (v : ClusterView). record v { queue = queue; tried = false }) (same_after p.what was (legal.0).built))
 
   pub gone_within : load c ≤ most_load b.system
   gone_within = by_stood (gone.left).followed
     where
-      by_way : StoodBeside b c ⊎ ((is_cut_off c.number b.system b.log ≡ true) × StoodBetween b c) → load c ≤ most_load b.system
+      by_way : StoodBeside b c ⊎ ((is_cut_off c.number b.system b.log c.cursor ≡ true) × StoodBetween b c) → load c ≤ most_load b.system
       by_way (inl beside) = follows_then c (gone.left).system beside.follows
       by_way (inr (lost, stood)) =
           let was = (stood.between).before in
@@ -383,7 +384,7 @@ module _ (b : BusView) (c : ClusterView) (sound : IsSound b) (gone : IsGone b c)
 member_within : (b : BusView) (n : ℕ) (c : ClusterView) → IsSound b → IsMember b n c → load c ≤ most_load b.system
 member_within b n c sound member = elim member.along [
   | inl along ↦ some_within b c sound along.system (follows_some b c sound along)
-  | inr (inl gone) ↦ gone_within b c sound gone
+  | inr (inl stopped) ↦ gone_within b c sound stopped.gone
   | inr (inr failed) ↦ failed_within b c failed.disk
 ]
 
@@ -410,14 +411,28 @@ steps_within system log = by_kernel (plain_after system log) refl
     by_kernel None before = omega arith
     by_kernel (Some k) before = after_log system log k before
 
+-- the most processes that are placed
+abbrev most_placed : System → ℕ
+most_placed system = sum_of (of_family (λ (s : SmallState). 1)) (boot system)
+
+-- so many backups may be made, and those of the children that may be born
+backups_within : (system : System) (log : List Entry) → is_system system ≡ true → IsLegalBy Stands system log → left_of_backups system log ≤ most_placed system + 32
+backups_within system log valid legal =
+    let some = count_by-le-length is_unbacked (placement system log).placed in
+    let few = placed_few system log valid legal in
+    omega (arith, some, few)
+
 -- the most that clusters may send
 abbrev pub most_posts : System → ℕ
-most_posts system = 3 * boot_load system + most_pages system + most_syncs system
+most_posts system = 3 * boot_load system + most_pages system + most_syncs system + (most_placed system + 32)
 
-pub posts_within : (system : System) (log : List Entry) → is_system system ≡ true → IsLegalBy MayStand system log → length log < 2 ^ 64 → left_to_send system log ≤ most_posts system
+pub posts_within : (system : System) (log : List Entry) → is_system system ≡ true → IsLegalBy MayStand system log → length log < 2 ^ 64 → left_of_posts system log ≤ most_posts system
 posts_within system log valid legal fits =
+    let sent : left_to_send system log ≤ 3 * boot_load system + most_pages system + most_syncs system =
     all_parts (log_load system log) (boot_load system) (left_of_pages system log) (most_pages system) (left_of_syncs system log) (most_syncs system) (steps_within system log) (pages_within system log valid legal fits)
-    (syncs_within system log valid (built_stands system log legal))
+    (syncs_within system log valid (built_stands system log legal)) in
+    let made = backups_within system log valid (built_stands system log legal) in
+    omega (arith, sent, made)
   where
     all_parts : (a b c d m n : ℕ) → a ≤ b → c ≤ d → m ≤ n → 3 * a + c + m ≤ 3 * b + d + n
     all_parts a b c d m n first second third = omega (arith, first, second, third)

@@ -1,5 +1,5 @@
 -- What a run leaves that came to its end.
-use Rattle.std.specs.Prelude.{ℕ, ◌≡◌, true, List, slice_get, Some, None}
+use Rattle.std.specs.Prelude.{ℕ, ◌≡◌, true, List, ◌++◌, slice_get, Some, None}
 use Rattle.sys_text.specs.declared.system.System.{System}
 use Rattle.cert_sched.specs.declared.script.ScriptWord.{ScriptWord}
 use Rattle.cert_sched.specs.Scripted.{is_spread}
@@ -8,7 +8,8 @@ use Rattle.report_text.specs.Good.{IsGoodBuilt}
 use Rattle.cluster_core.specs.View.{disk_calls}
 use Rattle.cluster_run.specs.declared.life.Life.{Life}
 use Rattle.cluster_run.specs.declared.life.Ran.{Ran}
-use Rattle.cluster_run.specs.Lived.{ends_at_done, LivedBuilt}
+use Rattle.cluster_turns.specs.Lives.{ends_at_done}
+use Rattle.cluster_run.specs.Lived.{LivedBuilt}
 
 -- the run has, for each life that ends with it and in which no disk failed, the kernel steps of that cluster
 abbrev pub HasStepsOf : Ran → Type 0
@@ -23,6 +24,6 @@ HasCallsOf ran = (n : ℕ) (l : Life) → slice_get ran.lives n ≡ Some l → e
 pub record IsCompleted (system : System) (script : List ScriptWord) (ran : Ran) : Type 0 where
   pub good : IsGoodBuilt system script ran.run
   pub finished : is_spread system script ≡ true → (ran.run).ended ≡ Finished
-  pub lived : LivedBuilt system script (ran.run).log ran.lives
+  pub lived : LivedBuilt system script (ran.run).log (ran.past ++ ran.lives)
   pub steps : HasStepsOf ran
   pub calls : HasCallsOf ran

@@ -1,64 +1,18 @@
 -- The clusters that did the work of a run: each followed the log for as long as it lived.
-use Rattle.std.specs.Prelude.{position, ℕ, zero, suc, ◌+◌, ◌-◌, ◌≤◌, ◌<◌, ◌≡◌, ◌⊎◌, Bool, true, false, not, ◌&&◌, ◌||◌, ◌==◌, if◌then◌else◌, List, [], ◌∷◌, length, take, drop, slice_get, Option, Some, None, option_and_then, ⊤}
+use Rattle.std.specs.Prelude.{ℕ, ◌+◌, ◌≤◌, ◌<◌, ◌≡◌, ◌⊎◌, Bool, true, false, not, ◌&&◌, ◌||◌, ◌==◌, List, [], ◌∷◌, length, take, slice_get, Option, Some, None, ⊤}
 use Rattle.std.specs.List.{list_any}
-use Rattle.std.specs.Option.{option_map_or}
 use Rattle.t32_base.specs.declared.process.ClusterNo.{ClusterNo}
 use Rattle.sys_text.specs.declared.system.System.{System}
-use Rattle.bus_msg.specs.declared.entry.What.{What}
-use Rattle.bus_msg.specs.declared.entry.What.TheVariants.{Crash, Return}
 use Rattle.bus_msg.specs.declared.entry.Cause.{Cause}
 use Rattle.bus_msg.specs.declared.entry.Cause.TheVariants.{Place, Step, Disk}
 use Rattle.bus_msg.specs.declared.entry.Entry.{Entry}
 use Rattle.bus_msg.specs.Places.{same_cluster}
-use Rattle.bus_msg.specs.PlacedAfter.{what}
 use Rattle.cert_sched.specs.declared.script.ScriptWord.{ScriptWord}
-use Rattle.cert_sched.specs.Losses.{is_by_cluster, is_crash_of, is_disk_word}
-use Rattle.cert_sched.specs.Scripted.{is_done}
+use Rattle.cert_sched.specs.Losses.{is_disk_word}
 use Rattle.cluster_core.specs.View.{ClusterView}
 use Rattle.cluster_core.specs.Follows.{Follows, FollowsBuilt, StandsBetween}
+use Rattle.cluster_turns.specs.Lives.{EndsBy, begins_at, end_cause, end_of_life, ends_at_done, has_sent}
 use Rattle.cluster_run.specs.declared.life.Life.{Life}
-
--- ---- lives
-
-abbrev pub is_return_of : ClusterNo → What → Bool
-is_return_of k (Return j) = same_cluster j k
-is_return_of k _ = false
-
--- a life of k begins at the boot, or directly after a return of k
-abbrev pub begins_at : List Entry → ClusterNo → ℕ → Bool
-begins_at log k zero = true
-begins_at log k (suc n) = option_map_or (λ (e : Entry). is_return_of k (what e)) (slice_get log n) false
-
--- it ends at the next crash of k, or else at the last entry
-abbrev pub end_of_life : List Entry → ClusterNo → ℕ → ℕ
-end_of_life log k from = option_map_or (λ i. from + i) (position (λ (e : Entry). is_crash_of k (what e)) (drop from log)) (length log - 1)
-
-abbrev pub last_entry : List Entry → ClusterNo → ℕ → Option Entry
-last_entry log k from = slice_get log (end_of_life log k from)
-
--- k sent an entry at a place from `from` on and below `upto`
-abbrev pub has_sent : List Entry → ClusterNo → ℕ → ℕ → Bool
-has_sent log k from upto = list_any (is_by_cluster k) (take (upto - from) (drop from log))
-
-abbrev pub ends_at_done : List Entry → ClusterNo → ℕ → Bool
-ends_at_done log k from = option_map_or (λ (e : Entry). is_done (what e)) (last_entry log k from) false
-
--- the cause of the crash of k that ends a life, where one does
-abbrev pub cause_in : ClusterNo → What → Option Cause
-cause_in k (Crash j cause) = if same_cluster j k then Some cause else None
-cause_in k _ = None
-
-abbrev pub end_cause : List Entry → ClusterNo → ℕ → Option Cause
-end_cause log k from = option_and_then (λ (e : Entry). cause_in k (what e)) (last_entry log k from)
-
--- ---- what holds of each
-
--- a cluster that was lost at a kernel step has made that many; one that was lost by its disk has failed at that call
-abbrev pub EndsBy : Option Cause → ClusterView → Type 0
-EndsBy None c = ⊤
-EndsBy (Some Place) c = ⊤
-EndsBy (Some (Step n)) c = (c.failed ≡ None) × (c.steps ≡ n)
-EndsBy (Some (Disk n)) c = c.failed ≡ Some n
 
 -- it followed the log up to a place, and sent nothing later
 pub record FollowedUpto (Follow : System → List Entry → ClusterView → Type 0) (system : System) (log : List Entry) (l : Life) : Type 0 where

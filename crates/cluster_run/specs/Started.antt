@@ -5,13 +5,13 @@ use Rattle.cert_sched.specs.declared.script.ScriptWord.{ScriptWord}
 use Rattle.cluster_core.specs.View.{ClusterView}
 use Rattle.cluster_core.specs.Follows.{FollowsBuilt}
 use Rattle.cluster_core.specs.Calls.{IsFirst}
-use Rattle.cluster_run.specs.Disks.{HasFailed, IsDiskOf}
+use Rattle.cluster_turns.specs.Disks.{HasFailed, IsDiskOf}
 
 -- the cluster with a number has done nothing yet, and follows the empty log, or a call of its disk failed that a word of the script names
 pub record IsStarted (system : System) (script : List ScriptWord) (number : ℕ) (c : ClusterView) : Type 0 where
   pub number_is : (c.number).0 ≡ number
   pub first : IsFirst system c.number c
-  pub disk : IsDiskOf script c
+  pub disk : IsDiskOf script [] c
   pub stands : ((c.failed ≡ None) × FollowsBuilt system [] c) ⊎ HasFailed script c
 
 -- so many clusters, each at the place of its number

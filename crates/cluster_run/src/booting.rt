@@ -3,16 +3,14 @@ ghost use Rattle.std.specs.Prelude.{◌≡◌, ◌<◌, ◌++◌, IfOk, IfSome, 
 ghost use Rattle.std.specs.Option.{option_to_list};
 ghost use Rattle.std.specs.Arc.{arc_value};
 ghost use Rattle.sys_text.specs.Valid.{is_system};
-ghost use Rattle.std.specs.List.{list_all};
-ghost use Rattle.cert_sched.specs.Built.{is_built_word};
 ghost use Rattle.cert_sched.specs.Scripted.{is_server};
-ghost use Rattle.cluster_run.specs.Along.{AllAlong, IsOwned};
-ghost use Rattle.cluster_run.specs.Disks.{call_of, calls_for};
+ghost use Rattle.cluster_turns.specs.Along.{AllAlong, IsOwned};
+ghost use Rattle.cluster_turns.specs.Disks.{call_of, calls_for};
 ghost use Rattle.cluster_run.specs.Started.{AllStarted};
 
-use crate::member::Member;
 use bus_order::bus::Bus;
 use cert_sched::script::ScriptWord;
+use cluster_turns::member::Member;
 use page_server::mem_disk::MemDisk;
 use std::alloc::Global;
 use std::sync::Arc;
@@ -28,7 +26,6 @@ pub fn start(
     script: &[ScriptWord],
 ) -> Result<(Bus, Vec<Member>), NoMemory>
     requires valid { is_system (arc_value system.now) ≡ true }
-    requires words { list_all is_built_word script.now ≡ true }
     ensures owned { IfOk result (λ started. IsOwned started.0) }
     ensures along { IfOk result (λ started. AllAlong started.0 started.1.items) }
     ensures started { IfOk result (λ started. AllStarted (arc_value system.now) script.now (arc_value system.now).clusters started.1.items) }

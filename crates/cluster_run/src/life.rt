@@ -1,5 +1,5 @@
 //! The clusters that did the work of a run.
-use crate::member::Member;
+use cluster_turns::member::Member;
 use report_text::run::Run;
 use t32_base::lists::List;
 use t32_base::process::ClusterNo;
@@ -14,9 +14,11 @@ pub struct Life {
     pub value: Member,
 }
 
-/// A run, and the clusters that did its work, as they stood when they were lost or when the log was over.
+/// A run, and the clusters that did its work, as they stood when they were lost or when the log was over: in their last lives, and in the
+/// lives before those, each of which a loss ended.
 #[derive(Drop)]
 pub struct Ran {
     pub run: Run,
+    pub past: List<Life>,
     pub lives: List<Life>,
 }

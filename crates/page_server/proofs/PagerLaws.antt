@@ -15,7 +15,7 @@ use Rattle.page_server.specs.Disk.{Slots, written}
 use Rattle.std.proofs.lemmas.Bool.{false≢true}
 use Rattle.page_server.specs.Account.{Account, no_pages, page_in, with_page, pid_cmp, PagerState, AccountsAfterPut}
 use Rattle.page_server.specs.Slots.{slot, absent, spare, content, account_at, grown, put_in, settled, restored}
-use Rattle.page_server.specs.Places.{Processes, account_of, accounts_of, account_in, Owned, IsThere, AllThere, EachThere, Becomes, Admits, Puts, with_rows, ChangesRows, slot_held, kept_slot}
+use Rattle.page_server.specs.Places.{Processes, account_of, accounts_of, account_in, Owned, IsThere, AllThere, EachThere, Becomes, Admits, Puts, with_rows, ChangesRows, slot_held, kept_slot, now_slot}
 use Rattle.page_server.proofs.AccountLaws.{was_written, still_there, account_put, account_grown, account_elsewhere, row_grown, has_row, find_page}
 use Rattle.page_server.proofs.Owners.{in_owners}
 
@@ -344,6 +344,23 @@ slot_is_there slots m there pid i = by_found (get nat_cmp m pid) (there pid)
     by_found : (o : Option Pages) → ((pages : Pages) → o ≡ Some pages → AllThere slots pages.place pages.table) → is_some (at_slot slots (kept_slot o i)) ≡ is_some (kept_slot o i)
     by_found None h = refl
     by_found (Some pages) h = there_is slots pages.place i (get_or pages.table i absent).kept (h pages refl i).1
+
+-- so it is with the uncommitted page
+now_page : (slots : Slots) (o : Option Pages) (i : ℕ) → page_in (account_in slots o).now i ≡ at_slot slots (now_slot o i)
+now_page slots None i = refl
+now_page slots (Some pages) i =
+    find_page slots pages.place (λ (h : Held). h.now) 0 i i pages.table refl (omega arith) ∙ slot_content slots pages.place i (get_or pages.table i absent).now
+
+pub uncommitted_page : (slots : Slots) (m : Processes) (accounts : List (Pid × Account)) → accounts ≡ accounts_of slots m.entries → (p : Pid) (i : ℕ)
+    → page_in (unwrap_or (find pid_cmp p accounts) no_pages).now i ≡ at_slot slots (now_slot (get nat_cmp m p.0) i)
+uncommitted_page slots m accounts e p i = ap (λ (a : Account). page_in a.now i) (account_from slots m accounts e p) ∙ now_page slots (get nat_cmp m p.0) i
+
+pub now_is_there : (slots : Slots) (m : Processes) → EachThere slots m → (pid i : ℕ) → is_some (at_slot slots (now_slot (get nat_cmp m pid) i)) ≡ is_some (now_slot (get nat_cmp m pid) i)
+now_is_there slots m there pid i = by_found (get nat_cmp m pid) (there pid)
+  where
+    by_found : (o : Option Pages) → ((pages : Pages) → o ≡ Some pages → AllThere slots pages.place pages.table) → is_some (at_slot slots (now_slot o i)) ≡ is_some (now_slot o i)
+    by_found None h = refl
+    by_found (Some pages) h = there_is slots pages.place i (get_or pages.table i absent).now (h pages refl i).0
 
 pub not_nothing : (slots : Slots) (o : Option (List ℕ)) (s : Option ℕ) → o ≡ at_slot slots s → s ≡ None → IsSome o → ⊥
 not_nothing slots o s e none h = false≢true (subst IsSome (e ∙ ap (at_slot slots) none) h)

@@ -88,3 +88,8 @@ slot_held place i (Some which) = Some (slot place i which)
 abbrev pub kept_slot : Option Pages → ℕ → Option ℕ
 kept_slot None i = None
 kept_slot (Some pages) i = slot_held pages.place i (get_or pages.table i absent).kept
+
+-- and the one that its uncommitted account holds
+abbrev pub now_slot : Option Pages → ℕ → Option ℕ
+now_slot None i = None
+now_slot (Some pages) i = slot_held pages.place i (get_or pages.table i absent).now

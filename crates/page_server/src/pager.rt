@@ -6,7 +6,7 @@ ghost use Rattle.page_server.specs.Account.{account, page_in, committed, reverte
 use crate::disk::{DiskFault, DiskRefused, PageDisk};
 use crate::fetches::Fetches;
 use crate::pages::Pages;
-use crate::processes::{admit, commit_at, kept_at, leave, put_if_there, revert_at};
+use crate::processes::{admit, commit_at, kept_at, leave, now_at, put_if_there, revert_at};
 use std::alloc::Global;
 use std::collections::BTreeMap;
 use std::marker::Model;
@@ -162,6 +162,28 @@ impl<D: PageDisk> Pager<D> {
         ensures counts { CountsAfterGet self.old.counts self.new.counts result }
     {
         match kept_at(&self.processes, pid.0, i) {
+            Some(slot) => self.disk.get(slot),
+            None => unreachable!(),
+        }
+    }
+
+    /// Whether the uncommitted account of a process has a page. No memory, no disk call.
+    pub fn has_uncommitted(&self, pid: Pid, i: u16) -> bool
+        ensures { result ≡ is_some (page_in (account self.now pid).now i) }
+    {
+        now_at(&self.processes, pid.0, i).is_some()
+    }
+
+    /// A page of the uncommitted account of a process, which has it, by one call of the disk. No account and
+    /// no fetch changes. Takes no memory.
+    pub fn uncommitted(&mut self, pid: Pid, i: u16) -> Result<[u8; 256], DiskFault>
+        requires { IsSome (page_in (account self.old pid).now i) }
+        ensures page { IfOk result (λ page. page_in (account self.old pid).now i ≡ Some page) }
+        ensures accounts { SameAccounts self.old self.new }
+        ensures fetches { self.new.fetches ≡ self.old.fetches }
+        ensures counts { CountsAfterGet self.old.counts self.new.counts result }
+    {
+        match now_at(&self.processes, pid.0, i) {
             Some(slot) => self.disk.get(slot),
             None => unreachable!(),
         }

@@ -4,7 +4,7 @@ ghost use Rattle.std.specs.BTreeMap.{get};
 ghost use Rattle.std.specs.Ordering.{nat_cmp};
 ghost use Rattle.page_server.specs.Disk.{CountsAfterPut};
 ghost use Rattle.page_server.specs.Slots.{settled, restored};
-ghost use Rattle.page_server.specs.Places.{Owned, Becomes, Admits, Enters, SameProcesses, Puts, ChangesRows, kept_slot};
+ghost use Rattle.page_server.specs.Places.{Owned, Becomes, Admits, Enters, SameProcesses, Puts, ChangesRows, kept_slot, now_slot};
 ghost use Rattle.page_server.specs.declared.pages.Pages.{Pages};
 
 use crate::disk::{DiskRefused, PageDisk};
@@ -138,6 +138,20 @@ pub fn kept_at(processes: &BTreeMap<u32, Pages>, pid: u32, i: u16) -> Option<u32
 {
     match processes.get(&pid) {
         Some(pages) => match pages.table.kept(i) {
+            Some(which) => Some(slot_of(pages.place, i, which)),
+            None => None,
+        },
+        None => None,
+    }
+}
+
+/// The slot of a page that the uncommitted account of a process has.
+pub fn now_at(processes: &BTreeMap<u32, Pages>, pid: u32, i: u16) -> Option<u32>
+    requires { (pages : Pages) → get nat_cmp processes.now pid ≡ Some pages → pages.place < 4194304 }
+    ensures { result ≡ now_slot (get nat_cmp processes.now pid) i }
+{
+    match processes.get(&pid) {
+        Some(pages) => match pages.table.uncommitted(i) {
             Some(which) => Some(slot_of(pages.place, i, which)),
             None => None,
         },

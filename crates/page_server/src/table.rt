@@ -139,6 +139,17 @@ impl PageTable {
             None => None,
         }
     }
+
+    /// The slot that the uncommitted account holds of a page.
+    pub fn uncommitted(&self, i: u16) -> Option<Which>
+        ensures slot { result ≡ (get_or self.now i absent).now }
+        ensures number { IfSome result (λ _. i < 256) }
+    {
+        match self.rows.get(usize::from(i)) {
+            Some(held) => held.now,
+            None => None,
+        }
+    }
 }
 
 // A slot that the committed account does not hold.

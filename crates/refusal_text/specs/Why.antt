@@ -62,7 +62,7 @@ why_of status =
 -- ---- the texts
 
 abbrev pub usage_text : List ℕ
-usage_text = codes "t32: the words are no command\n\n    t32 WORD [OPTION]..\n\nplain                            runs a system without clusters, by the schedule behind its text or by the default one\nsim [--log] [--pick N] [LOSS]..  runs its clusters in turns on one thread; N, 0 to 2147483647, is another order\nrun [--log] [LOSS]..             runs its clusters, each on a thread of its own\ncheck                            prints a system text in canonical form\nasm                              assembles a program and prints its words\nload N [LOSS]..                  runs, as run does, a ring of processes round which a token goes N times, 1 to 1000\n                                 and writes a line that counts what came of it; with --text it prints its text alone\n\nLOSS is crash:K@bus:N, by which cluster K is lost at place N of the log; crash:K@step:N, by which it is lost directly\nbefore its kernel step N; or disk:K@N, by which it is lost since call N of its page disk fails, where it is one of the\ntwo page servers. Clusters, places, steps and calls are counted from 0.\nThere are 32 such words at most. A loss is not covered where a process loses both its clusters, or no page server is left.\n\nThe text is read from standard input, as in: t32 sim --log < examples/hi.t32\nThe status is 0 done, 1 no such command or cluster, 2 the text is refused, 3 an item of the schedule is refused, 4 the\ninput failed, 5 the output failed, 6 memory was refused, 7 a loss was not covered, 8 the input is too long.\n"
+usage_text = codes "t32: the words are no command\n\n    t32 WORD [OPTION]..\n\nplain                            runs a system without clusters, by the schedule behind its text or by the default one\nsim [--log] [--pick N] [LOSS]..  runs its clusters in turns on one thread; N, 0 to 2147483647, is another order\nrun [--log] [LOSS]..             runs its clusters, each on a thread of its own\ncheck                            prints a system text in canonical form\nasm                              assembles a program and prints its words\nload N [LOSS]..                  runs, as run does, a ring of processes round which a token goes N times, 1 to 1000\n                                 and writes a line that counts what came of it; with --text it prints its text alone\n\nLOSS is crash:K@bus:N, by which cluster K is lost at place N of the log; crash:K@step:N, by which it is lost directly\nbefore its kernel step N; disk:K@N, by which it is lost since call N of its page disk fails, where it is one of the two\npage servers; or return:K@bus:N, by which it comes back at place N. All of these are counted from 0.\nThere are 32 such words at most. A loss is not covered where a process loses both its clusters, or no page server is left.\n\nThe text is read from standard input, as in: t32 sim --log < examples/hi.t32\nThe status is 0 done, 1 no such command or cluster, 2 the text is refused, 3 an item of the schedule is refused, 4 the\ninput failed, 5 the output failed, 6 memory was refused, 7 a loss was not covered, 8 the input is too long.\n"
 
 -- what is said where no memory is left for more
 abbrev pub headline : Why → List ℕ

@@ -6,6 +6,7 @@ pub mod ChildrenFirst
 pub mod ForkingAgain
 pub mod Held
 pub mod Quantum
+pub mod Records
 pub mod Resident
 pub mod Residents
 pub mod Slots

@@ -1,5 +1,6 @@
 //! A process at home in a cluster: it runs, or it rolls forward, or it waits for its pages.
 ghost use Rattle.std.specs.Prelude.{◌≡◌, ◌≤◌, ◌<◌, ◌^◌, ◌-◌, ◌+◌, true, false, OnOk, OnErr, IfOk, Some, is_some, if◌then◌else◌};
+ghost use Rattle.std.specs.Option.{option_copied};
 ghost use Rattle.proc_state.specs.State.{state_of};
 ghost use Rattle.roll_forward.specs.RunsOut.{RunsOut, nothing_left};
 ghost use Rattle.page_waits.specs.Waiting.{next_page};
@@ -8,9 +9,11 @@ ghost use Rattle.residents.specs.ChildrenFirst.{comes_after_children, is_running
 ghost use Rattle.residents.specs.Quantum.{ActsOn, RunsQuantum, SyncsNow};
 ghost use Rattle.residents.specs.Bearing.{CanForkNow, HasForked};
 ghost use Rattle.residents.specs.ForkingAgain.{begun_with, born_by, child_again, is_rolling, waits_for_fork, CanBeginWith, HasForkedAgain, HasRolled, StandsAtForkAgain};
+ghost use Rattle.residents.specs.Records.{record_told};
 ghost use Rattle.residents.specs.Resident.{gone_on, held_standing, running_on, CanComeTo, CanGoOnFrom, HasCaughtUp, StandsSo};
 
 use crate::quantum::{Quantum, tell};
+use backup_queue::record::Record;
 use bus_msg::entry::Post;
 use page_waits::waiting::Waiting;
 use proc_state::process::Process;
@@ -203,6 +206,16 @@ impl Resident {
         match &self.standing {
             Some(Standing::Waits(waiting)) => waiting.kept().state().is_none(),
             _ => false,
+        }
+    }
+
+    /// The record of one that waits, with the letters that have arrived meanwhile. Takes no memory.
+    pub fn kept(&self) -> Option<&Record>
+        ensures { option_copied result ≡ record_told self.now }
+    {
+        match &self.standing {
+            Some(Standing::Waits(waiting)) => Some(waiting.kept()),
+            _ => None,
         }
     }
 

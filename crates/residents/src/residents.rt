@@ -12,6 +12,7 @@ ghost use Rattle.residents.specs.Arriving.{with_letter, with_page_come};
 ghost use Rattle.residents.specs.Bearing.{CanBear, CanForkAt, ForksAt, with_born};
 ghost use Rattle.residents.specs.ForkingAgain.{child_again, rolls_at, waits_for_fork_at, with_begun, BearsAgain, CanBeginWith, CanForkAgain, CanForkAgainAt, CanForkAgainNow, ForksAgain, RollsPartAt, RollsQuantum, RollsStepsAt, StandsThere};
 ghost use Rattle.residents.specs.ChildrenFirst.{child_before, comes_after_at, is_free, is_hindered, runs_at};
+ghost use Rattle.residents.specs.Records.{record_at};
 ghost use Rattle.residents.specs.Residents.{AsksOf, GivenTurnIs, HasRoom, NextAble, RunsAt, RunsOnAt, SyncsAt, TurnIs, are_rising, are_settled, is_settled, is_stuck_at, lacks_none_at, next_ready, none_has_turn, pids_in};
 ghost use Rattle.residents.specs.Changed.{with_more};
 ghost use Rattle.residents.specs.Resident.{CanComeTo};
@@ -20,6 +21,7 @@ ghost use Rattle.residents.specs.Asking.{AsksNext, any_lacks, any_waits, is_lowe
 
 use crate::quantum::Quantum;
 use crate::resident::Resident;
+use backup_queue::record::Record;
 use birth_notice::family::Family;
 use bus_msg::entry::Post;
 use bus_msg::shared::Shared;
@@ -488,6 +490,16 @@ impl Residents {
         match self.resident(pid.0) {
             Some(resident) => resident.waits_for_fork(),
             None => false,
+        }
+    }
+
+    /// The record of a process that is here and waits for its pages or for its parent's fork. Takes no memory.
+    pub fn kept(&self, pid: Pid) -> Option<&Record>
+        ensures { option_copied result ≡ record_at self.now.here pid }
+    {
+        match self.resident(pid.0) {
+            Some(resident) => resident.kept(),
+            None => None,
         }
     }
 

@@ -33,10 +33,6 @@ take_within zero m xs = refl
 take_within (suc n) m [] = let on : suc n + m ≡ suc (n + m) = omega arith in ap (λ j. take (suc n) (take j [])) on
 take_within (suc n) m (x ∷ xs) = let on : suc n + m ≡ suc (n + m) = omega arith in ap (λ j. take (suc n) (take j (x ∷ xs))) on ∙ ap (λ l. x ∷ l) (take_within n m xs)
 
-is_nothing : {X : Type 0} (o : Option X) → is_some o ≡ false → o ≡ None
-is_nothing None h = refl
-is_nothing (Some x) h = absurd (true≢false h)
-
 -- an entry of a legal log stands behind those before it
 pub stood_at : (May : System → List Entry → Entry → Type 0) (system : System) (log : List Entry) (n : ℕ) (e : Entry) → IsLegalBy May system log → slice_get log n ≡ Some e → IsLegalBy May system (take n log) × May system (take n log) e
 stood_at May system log n e legal at =

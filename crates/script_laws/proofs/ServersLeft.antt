@@ -133,41 +133,6 @@ log_served system log valid legal =
     (λ log e before stands goes.
     ap is_served (placement-snoc system log e) ∙ more_served (placement system log) (what e) (sym (is_over-snoc system log e) ∙ goes) (before (stands.placed).2)) log legal
 
--- ---- one that was never lost
-
-lost_was : (places : Places) (k : ClusterNo) (cause : Cause) → never_lost (placed_after places (Crash k cause)) k ≡ false
-lost_was places k cause = by_cluster (slice_get places.clusters k.0) refl
-  where
-    by_cluster : (o : Option ClusterPlace) → slice_get places.clusters k.0 ≡ o → option_map_or (λ (c : ClusterPlace). not c.was_lost) (slice_get (changed_at k.0 lost_cluster o places.clusters) k.0) false ≡ false
-    by_cluster None there = ap (λ o. option_map_or (λ (c : ClusterPlace). not c.was_lost) o false) there
-    by_cluster (Some c) there = ap (λ o. option_map_or (λ (c : ClusterPlace). not c.was_lost) o false) (put_here places.clusters k.0 (lost_cluster c) c there)
-
-never_before : (places : Places) (k : ClusterNo) (w : What) → never_lost (placed_after places w) k ≡ true → (never_lost places k ≡ true) × (is_crash_of k w ≡ false)
-never_before places k (Birth parent at child end) never = (sym (birth_keeps (λ (c : ClusterPlace). not c.was_lost) (λ c. refl) places child (placed_at places parent) k) ∙ never, refl)
-never_before places k (Crash j cause) never = by_test (same_cluster j k) refl
-  where
-    other_kept : same_cluster j k ≡ false → (o : Option ClusterPlace)
-        → option_map_or (λ (c : ClusterPlace). not c.was_lost) (slice_get (changed_at j.0 lost_cluster o places.clusters) k.0) false ≡ never_lost places k
-    other_kept apart None = refl
-    other_kept apart (Some c) =
-        ap (λ o. option_map_or (λ (c : ClusterPlace). not c.was_lost) o false) (kept_elsewhere places.clusters j.0 k.0 (lost_cluster c) (λ same. true≢false (sym (eq-eqb j.0 k.0 (sym same)) ∙ apart)))
-
-    by_test : (b : Bool) → same_cluster j k ≡ b → (never_lost places k ≡ true) × (same_cluster j k ≡ false)
-    by_test true same =
-        let it : j ≡ k = λ i. record { 0 = eqb-true j.0 k.0 same i } in
-        absurd (true≢false (sym never ∙ subst (λ c. never_lost (placed_after places (Crash j cause)) c ≡ false) it (lost_was places j cause)))
-    by_test false apart = (sym (other_kept apart (slice_get places.clusters j.0)) ∙ never, apart)
-never_before places k (Return j) never = (sym (return_keeps (λ (c : ClusterPlace). not c.was_lost) (λ c. refl) places j k) ∙ never, refl)
-never_before places k _ never = (never, refl)
-
--- no entry of the log loses it
-pub never_unlost : (system : System) (log : List Entry) (k : ClusterNo) → IsLegalBy Stands system log → never_lost (placement system log) k ≡ true → was_lost_in log k ≡ false
-never_unlost system log k legal =
-    legal_induction Stands system (λ log. never_lost (placement system log) k ≡ true → was_lost_in log k ≡ false) (λ never. refl)
-    (λ log e before stands never.
-    let was = never_before (placement system log) k (what e) (ap (λ (p : Places). never_lost p k) (sym (placement-snoc system log e)) ∙ never) in
-    list_any-append (λ (e : Entry). is_crash_of k (what e)) log (e ∷ []) ∙ (λ i. before was.0 i || (was.1 i || false))) log legal
-
 -- ---- the first of them
 
 -- a cluster that was never lost is there

@@ -3,9 +3,10 @@ use Rattle.std.proofs.Common.{◌≡◌, ℕ, ◌≤◌, ◌<◌, Bool, true, fa
 use Rattle.std.specs.Prelude.{is_some}
 use Rattle.std.specs.Io.KnownBytes.{Consumes, Appends}
 use Rattle.t32_base.specs.Streams.{Rose}
+use Rattle.command_words.specs.Command.{command_of}
 use Rattle.command_words.specs.declared.command.Command.{Command}
 use Rattle.cluster_run.specs.declared.life.Ran.{Ran}
-use Rattle.targon_cli.specs.Built.{built_command_of, makes_run, reads_input}
+use Rattle.targon_cli.specs.Commands.{makes_run, reads_input}
 use Rattle.targon_cli.specs.Reply.{Makes, usage_line}
 use Rattle.targon_cli.specs.Answer.{In, Out, Says, Wrote, WriteFault, IsAll, ReadsTooMany, Answers, Replied, TooLong, ReadFault, OutOfMemory, LeavesInput, Offers, IsReplied, Completes, IsCutOff, IsOfRun, AppendsPart, IsStatus, AnswersFound, SaysUsage, Answered}
 use Rattle.targon_cli.proofs.Handing.{takes_all, takes_left}
@@ -28,7 +29,7 @@ status_5_said wanted text status old new n (WriteFault e r a) f = r
 -- ---- what is answered, by its status
 
 -- a status of a reply: the whole text was written under it
-replied : (words : List (List ℕ)) (command : Command) (status : ℕ) (old new : In) (ended : Bool) (before after : Out) (ran : Option Ran) → built_command_of words ≡ Some command
+replied : (words : List (List ℕ)) (command : Command) (status : ℕ) (old new : In) (ended : Bool) (before after : Out) (ran : Option Ran) → command_of words ≡ Some command
     → (4 ≡ status → ⊥) → (5 ≡ status → ⊥) → (6 ≡ status → ⊥) → (8 ≡ status → ⊥)
     → Answers command status old new ended before after ran → IsReplied words status old new ended before after ran
 replied words command status old new ended before after ran w n4 n5 n6 n8 (Replied bytes wanted text r m says) =
@@ -116,7 +117,7 @@ run_reply command bytes wanted text ran m h (inl (inr (inr (inl z)))) = none_the
 run_reply command bytes wanted text ran m h (inl (inr (inr (inr z)))) = none_there ran (no_run_made command bytes wanted text ran m (λ e. absurd (omega (arith, z, e))) (λ e. absurd (omega (arith, z, e)))) h
 run_reply command bytes wanted text ran m h (inr z) = inr z
 
-cut_off : (words : List (List ℕ)) (command : Command) (status : ℕ) (old new : In) (ended : Bool) (before after : Out) (ran : Option Ran) → built_command_of words ≡ Some command
+cut_off : (words : List (List ℕ)) (command : Command) (status : ℕ) (old new : In) (ended : Bool) (before after : Out) (ran : Option Ran) → command_of words ≡ Some command
     → Answers command status old new ended before after ran → status ≡ 5 → is_some ran ≡ true → IsCutOff words old new ended before after ran
 cut_off words command status old new ended before after ran w (Replied bytes wanted text r m says) e h = record {
   command = command;
@@ -133,7 +134,7 @@ cut_off words command status old new ended before after ran w (TooLong bytes rea
 cut_off words command status old new ended before after ran w (ReadFault reads r says none) e h = none_there ran none h
 cut_off words command status old new ended before after ran w (OutOfMemory left z keeps none) e h = none_there ran none h
 
-run_there : (words : List (List ℕ)) (old new : In) (ended : Bool) (before after : Out) (ran : Option Ran) → IsReplied words 0 old new ended before after ran → is_some ran ≡ makes_run (built_command_of words)
+run_there : (words : List (List ℕ)) (old new : In) (ended : Bool) (before after : Out) (ran : Option Ran) → IsReplied words 0 old new ended before after ran → is_some ran ≡ makes_run (command_of words)
 run_there words old new ended before after ran replied = rw replied.words_are (run_made replied.command replied.bytes replied.text ran replied.made)
 
 lost_there : (words : List (List ℕ)) (old new : In) (ended : Bool) (before after : Out) (ran : Option Ran) → IsReplied words 7 old new ended before after ran → is_some ran ≡ true
@@ -193,9 +194,9 @@ is_status_usage status before after (inr h) = subst IsStatus (sym h.0) (grind ar
 
 -- all of it follows from what is answered by cases
 answered : (words : List (List ℕ)) (status : ℕ) (old new : In) (ended : Bool) (before after : Out) (ran : Option Ran)
-    → (built_command_of words ≡ None → SaysUsage status before after) → (built_command_of words ≡ None → ran ≡ None)
-    → LeavesInput (built_command_of words) old new
-    → ((command : Command) → built_command_of words ≡ Some command → Answers command status old new ended before after ran) → Answered words status old new ended before after ran
+    → (command_of words ≡ None → SaysUsage status before after) → (command_of words ≡ None → ran ≡ None)
+    → LeavesInput (command_of words) old new
+    → ((command : Command) → command_of words ≡ Some command → Answers command status old new ended before after ran) → Answered words status old new ended before after ran
 answered words status old new ended before after ran usage unran left command = record {
   usage = usage;
   left = left;
@@ -216,39 +217,39 @@ answered words status old new ended before after ran usage unran left command = 
   no_run = λ n0 n5 n7. by_words (λ n. unran n) (λ c w. no_run c status old new ended before after ran (command c w) n0 n5 n7);
 }
   where
-    by_option : {X : Type 0} (found : Option Command) → found ≡ built_command_of words → (built_command_of words ≡ None → X) → ((c : Command) → built_command_of words ≡ Some c → X) → X
+    by_option : {X : Type 0} (found : Option Command) → found ≡ command_of words → (command_of words ≡ None → X) → ((c : Command) → command_of words ≡ Some c → X) → X
     by_option None e f g = f (sym e)
     by_option (Some c) e f g = g c (sym e)
 
-    by_words : {X : Type 0} → (built_command_of words ≡ None → X) → ((c : Command) → built_command_of words ≡ Some c → X) → X
-    by_words f g = by_option (built_command_of words) refl f g
+    by_words : {X : Type 0} → (command_of words ≡ None → X) → ((c : Command) → command_of words ≡ Some c → X) → X
+    by_words f g = by_option (command_of words) refl f g
 
-    no_usage_at : {X : Type 0} (k : ℕ) → (1 ≡ k → ⊥) → (5 ≡ k → ⊥) → (6 ≡ k → ⊥) → built_command_of words ≡ None → status ≡ k → X
+    no_usage_at : {X : Type 0} (k : ℕ) → (1 ≡ k → ⊥) → (5 ≡ k → ⊥) → (6 ≡ k → ⊥) → command_of words ≡ None → status ≡ k → X
     no_usage_at k n1 n5 n6 n e = not_usage status k before after n1 n5 n6 (usage n) e
 
-    at_reply : status ≡ 0 → (c : Command) → built_command_of words ≡ Some c → IsReplied words status old new ended before after ran
+    at_reply : status ≡ 0 → (c : Command) → command_of words ≡ Some c → IsReplied words status old new ended before after ran
     at_reply e c w = replied words c status old new ended before after ran w (λ f. omega arith) (λ f. omega arith) (λ f. omega arith) (λ f. omega arith) (command c w)
 
-    at_reply_1 : status ≡ 1 → (c : Command) → built_command_of words ≡ Some c → IsReplied words status old new ended before after ran
+    at_reply_1 : status ≡ 1 → (c : Command) → command_of words ≡ Some c → IsReplied words status old new ended before after ran
     at_reply_1 e c w = replied words c status old new ended before after ran w (λ f. omega arith) (λ f. omega arith) (λ f. omega arith) (λ f. omega arith) (command c w)
 
-    at_reply_2 : status ≡ 2 → (c : Command) → built_command_of words ≡ Some c → IsReplied words status old new ended before after ran
+    at_reply_2 : status ≡ 2 → (c : Command) → command_of words ≡ Some c → IsReplied words status old new ended before after ran
     at_reply_2 e c w = replied words c status old new ended before after ran w (λ f. omega arith) (λ f. omega arith) (λ f. omega arith) (λ f. omega arith) (command c w)
 
-    at_reply_3 : status ≡ 3 → (c : Command) → built_command_of words ≡ Some c → IsReplied words status old new ended before after ran
+    at_reply_3 : status ≡ 3 → (c : Command) → command_of words ≡ Some c → IsReplied words status old new ended before after ran
     at_reply_3 e c w = replied words c status old new ended before after ran w (λ f. omega arith) (λ f. omega arith) (λ f. omega arith) (λ f. omega arith) (command c w)
 
-    at_reply_7 : status ≡ 7 → (c : Command) → built_command_of words ≡ Some c → IsReplied words status old new ended before after ran
+    at_reply_7 : status ≡ 7 → (c : Command) → command_of words ≡ Some c → IsReplied words status old new ended before after ran
     at_reply_7 e c w = replied words c status old new ended before after ran w (λ f. omega arith) (λ f. omega arith) (λ f. omega arith) (λ f. omega arith) (command c w)
 
     lost_at : (k : ℕ) → k ≡ 7 → (k ≡ 7 → IsReplied words k old new ended before after ran) → is_some ran ≡ true
     lost_at k e at = lost_there words old new ended before after ran (subst (λ k. IsReplied words k old new ended before after ran) e (at e))
 
-    run_at : (k : ℕ) → k ≡ 0 → (k ≡ 0 → IsReplied words k old new ended before after ran) → is_some ran ≡ makes_run (built_command_of words)
+    run_at : (k : ℕ) → k ≡ 0 → (k ≡ 0 → IsReplied words k old new ended before after ran) → is_some ran ≡ makes_run (command_of words)
     run_at k e at = run_there words old new ended before after ran (subst (λ k. IsReplied words k old new ended before after ran) e (at e))
 
 -- and from what is answered to the command that the words are, or to no command
-pub answered_found : (words : List (List ℕ)) (found : Option Command) (status : ℕ) (old new : In) (ended : Bool) (before after : Out) (ran : Option Ran) → found ≡ built_command_of words
+pub answered_found : (words : List (List ℕ)) (found : Option Command) (status : ℕ) (old new : In) (ended : Bool) (before after : Out) (ran : Option Ran) → found ≡ command_of words
     → AnswersFound found status old new ended before after ran → Answered words status old new ended before after ran
 answered_found words None status old new ended before after ran is found =
     answered words status old new ended before after ran (λ none. inl found.0) (λ none. found.1) (λ unread. found.2) (λ other w. cc)

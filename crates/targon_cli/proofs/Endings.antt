@@ -6,6 +6,7 @@ use Rattle.std.specs.declared.sync.Arc.{Arc}
 use Rattle.t32_base.specs.declared.streams.NoMemory.{NoMemory}
 use Rattle.cluster_run.specs.declared.life.Ran.{Ran}
 use Rattle.cert_sched.specs.declared.script.ScriptWord.{ScriptWord}
+use Rattle.command_words.specs.Command.{command_of}
 use Rattle.command_words.specs.declared.command.Command.{Command}
 use Rattle.refusal_text.specs.Why.{why_of}
 use Rattle.refusal_text.specs.declared.why.Why.{Why}
@@ -19,7 +20,6 @@ use Rattle.targon_cli.specs.Sections.{items_of_lines}
 use Rattle.targon_cli.specs.Explained.{Explains, ExplainsRun, ExplainsSection, ExplainsRunBy, IsByStatus, HandsWhy, ExplainsEnd, ByInput, ByStatus, ExplainsFound, Explained}
 use Rattle.std.specs.Arc.{arc_value}
 use Rattle.targon_cli.specs.Noted.{HandsNotes, MayNoteRun, Noted, NotedEnd, NotedFound, Notes, NotesRun, NotesRunBy, NotesSection, NotesSystem}
-use Rattle.targon_cli.specs.Built.{built_command_of}
 use Rattle.report_text.specs.declared.run.Ended.{Ended}
 use Rattle.report_text.specs.declared.run.Ended.TheVariants.{Finished, Lost}
 
@@ -56,13 +56,13 @@ hands_why wanted text status old new reason why says is = by_test (status == wan
 
 -- want of memory before anything was read: this is told, whatever the words are
 pub explained_6 : (words : List (List ℕ)) (old new : In) (ended : Bool) (why : Option Why) → why ≡ why_of 6 → Explained words 6 old new ended why
-explained_6 words old new ended why is = by_found (built_command_of words)
+explained_6 words old new ended why is = by_found (command_of words)
   where
     by_found : (found : Option Command) → ExplainsFound found 6 old new ended why
     by_found None = record { tells = refl; told = is }
     by_found (Some command) = ByStatus (record { tells = refl; told = is })
 
-pub explained_found : (words : List (List ℕ)) (found : Option Command) (status : ℕ) (old new : In) (ended : Bool) (why : Option Why) → found ≡ built_command_of words
+pub explained_found : (words : List (List ℕ)) (found : Option Command) (status : ℕ) (old new : In) (ended : Bool) (why : Option Why) → found ≡ command_of words
     → ExplainsFound found status old new ended why → Explained words status old new ended why
 explained_found words found status old new ended why is explains = subst (λ (o : Option Command). ExplainsFound o status old new ended why) is explains
 
@@ -102,13 +102,13 @@ noted_by command bytes (Err e) ran old new ended notes reads noted none = inr no
 pub noted_same : (command other : Command) (old new : In) (ended : Bool) (ran : Option Ran) (notes : Option (List ℕ)) → command ≡ other → NotedEnd command old new ended ran notes → NotedEnd other old new ended ran notes
 noted_same command other old new ended ran notes same noted = subst (λ (c : Command). NotedEnd c old new ended ran notes) same noted
 
-pub noted_found : (words : List (List ℕ)) (found : Option Command) (old new : In) (ended : Bool) (ran : Option Ran) (notes : Option (List ℕ)) → found ≡ built_command_of words
+pub noted_found : (words : List (List ℕ)) (found : Option Command) (old new : In) (ended : Bool) (ran : Option Ran) (notes : Option (List ℕ)) → found ≡ command_of words
     → NotedFound words found old new ended ran notes → Noted words old new ended ran notes
 noted_found words found old new ended ran notes is noted = subst (λ (o : Option Command). NotedFound words o old new ended ran notes) is noted
 
 -- nothing is noted, whatever the words are
 pub none_noted : (words : List (List ℕ)) (old new : In) (ended : Bool) (ran : Option Ran) (notes : Option (List ℕ)) → notes ≡ None → Noted words old new ended ran notes
-none_noted words old new ended ran notes none = by_found (built_command_of words)
+none_noted words old new ended ran notes none = by_found (command_of words)
   where
     by_found : (found : Option Command) → NotedFound words found old new ended ran notes
     by_found None = inr none

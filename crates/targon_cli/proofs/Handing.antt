@@ -7,7 +7,7 @@ use Rattle.cert_sched.specs.declared.script.ScriptWord.{ScriptWord}
 use Rattle.command_words.specs.declared.command.Command.{Command}
 use Rattle.command_words.specs.declared.command.Command.TheVariants as commands
 use Rattle.targon_cli.specs.declared.reply.Reply.{Reply}
-use Rattle.targon_cli.specs.Built.{reads_input}
+use Rattle.targon_cli.specs.Commands.{reads_input}
 use Rattle.targon_cli.specs.Reply.{Makes}
 use Rattle.targon_cli.specs.Answer.{In, Out, ReadsAll, Takes, TakesBy, LeavesInput, IsUnread, HandsOut, Answers, Replied, OutOfMemory}
 

@@ -1,7 +1,7 @@
-mod BuiltWords
 mod Causes
 mod Endings
 mod Handing
+mod Limits
 mod Parts
 mod Replies
 mod Streams

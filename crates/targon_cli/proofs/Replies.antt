@@ -16,7 +16,7 @@ use Rattle.text_parts.specs.Lines.{lines_of}
 use Rattle.cluster_run.specs.declared.life.Ran.{Ran}
 use Rattle.refusal_text.specs.declared.why.Why.{Why}
 use Rattle.workload.specs.Ring.{workload}
-use Rattle.targon_cli.specs.Built.{makes_run, needs_threads, reads_input}
+use Rattle.targon_cli.specs.Commands.{makes_run, needs_threads, reads_input}
 use Rattle.targon_cli.specs.Noted.{Notes, NotesRan}
 use Rattle.targon_cli.specs.Explained.{Explains, ExplainsLoad}
 use Rattle.t32_base.specs.declared.streams.NoMemory.{NoMemory}

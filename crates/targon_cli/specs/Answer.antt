@@ -3,9 +3,10 @@ use Rattle.std.specs.Prelude.{ℕ, ◌≡◌, ◌≤◌, ◌<◌, ◌⊎◌, Boo
 use Rattle.std.specs.Io.KnownBytes.{Consumes, Keeps, Appends}
 use Rattle.t32_base.specs.Streams.{Rose}
 use Rattle.t32_base.specs.declared.streams.NoMemory.{NoMemory}
+use Rattle.command_words.specs.Command.{command_of}
 use Rattle.command_words.specs.declared.command.Command.{Command}
 use Rattle.targon_cli.specs.declared.reply.Reply.{Reply}
-use Rattle.targon_cli.specs.Built.{built_command_of, makes_run, reads_input}
+use Rattle.targon_cli.specs.Commands.{makes_run, reads_input}
 use Rattle.cluster_run.specs.declared.life.Ran.{Ran}
 use Rattle.targon_cli.specs.Reply.{Makes, usage_line}
 
@@ -88,7 +89,7 @@ HandsOut (Err e) status before after ran = (status ≡ 6) × Keeps before.holds 
 -- A command made this of what it took, under its status, and the whole text was written.
 pub record IsReplied (words : List (List ℕ)) (status : ℕ) (old new : In) (ended : Bool) (before after : Out) (ran : Option Ran) : Type 0 where
   pub command : Command
-  pub words_are : built_command_of words ≡ Some command
+  pub words_are : command_of words ≡ Some command
   pub bytes : List ℕ
   pub text : List ℕ
   pub read : Takes command old new ended bytes
@@ -108,7 +109,7 @@ IsOfRun status = (status ≡ 0) ⊎ (status ≡ 7)
 -- A command made a run and its report of what it took, and a front of the report was written.
 pub record IsCutOff (words : List (List ℕ)) (old new : In) (ended : Bool) (before after : Out) (ran : Option Ran) : Type 0 where
   pub command : Command
-  pub words_are : built_command_of words ≡ Some command
+  pub words_are : command_of words ≡ Some command
   pub bytes : List ℕ
   pub text : List ℕ
   pub read : Takes command old new ended bytes
@@ -125,27 +126,27 @@ Offers command old bytes = reads_input (Some command) ≡ true → (old.left ≡
 abbrev pub IsStatus : ℕ → Type 0
 IsStatus status = (status ≡ 0) ⊎ (status ≡ 1) ⊎ (status ≡ 2) ⊎ (status ≡ 3) ⊎ (status ≡ 4) ⊎ (status ≡ 5) ⊎ (status ≡ 6) ⊎ (status ≡ 7) ⊎ (status ≡ 8)
 
--- What is answered where the words are this command, or no command that is built.
+-- What is answered where the words are this command, or no command.
 abbrev pub AnswersFound : Option Command → (status : ℕ) → (old new : In) → (ended : Bool) → (before after : Out) → Option Ran → Type 0
 AnswersFound None status old new ended before after ran = Says 1 usage_line status before after × (ran ≡ None) × (new ≡ old)
 AnswersFound (Some command) status old new ended before after ran = Answers command status old new ended before after ran
 
--- The words are no command that is built. That is said; or memory was refused while they were read, and nothing was written.
+-- The words are no command. That is said; or memory was refused while they were read, and nothing was written.
 abbrev pub SaysUsage : (status : ℕ) → (before after : Out) → Type 0
 SaysUsage status before after = Says 1 usage_line status before after ⊎ ((status ≡ 6) × Keeps before.holds after.holds)
 
 -- What the top call answers. Want of memory, 6, is the one status without a cause.
 pub record Answered (words : List (List ℕ)) (status : ℕ) (old new : In) (ended : Bool) (before after : Out) (ran : Option Ran) : Type 0 where
-  -- the words are no command that is built
-  pub usage : built_command_of words ≡ None → SaysUsage status before after
+  -- the words are no command
+  pub usage : command_of words ≡ None → SaysUsage status before after
   -- words by which no input is read leave it as it was
-  pub left : LeavesInput (built_command_of words) old new
+  pub left : LeavesInput (command_of words) old new
   -- the words are one
-  pub command : (command : Command) → built_command_of words ≡ Some command → Answers command status old new ended before after ran
-  -- each status has its cause: 0 that a command was carried out, 7 that its run was ended by a loss that is not covered, 1 that the words are no command that is built or name a cluster that the system
+  pub command : (command : Command) → command_of words ≡ Some command → Answers command status old new ended before after ran
+  -- each status has its cause: 0 that a command was carried out, 7 that its run was ended by a loss that is not covered, 1 that the words are no command or name a cluster that the system
   -- lacks, and 2 and 3 that the command refuses its input
   pub status_0 : status ≡ 0 → IsReplied words status old new ended before after ran
-  pub status_1 : status ≡ 1 → (built_command_of words ≡ None) ⊎ IsReplied words status old new ended before after ran
+  pub status_1 : status ≡ 1 → (command_of words ≡ None) ⊎ IsReplied words status old new ended before after ran
   pub status_2 : status ≡ 2 → IsReplied words status old new ended before after ran
   pub status_3 : status ≡ 3 → IsReplied words status old new ended before after ran
   pub status_4 : status ≡ 4 → Rose old.faults new.faults
@@ -154,10 +155,10 @@ pub record Answered (words : List (List ℕ)) (status : ℕ) (old new : In) (end
   pub status_8 : status ≡ 8 → (bytes : List ℕ) × ReadsTooMany old new bytes
   pub no_other : IsStatus status
   -- where neither side fails, what a command makes of its input is written, unless memory is refused
-  pub complete : (command : Command) → built_command_of words ≡ Some command → (Rose old.faults new.faults → ⊥) → (Rose before.faults after.faults → ⊥)
+  pub complete : (command : Command) → command_of words ≡ Some command → (Rose old.faults new.faults → ⊥) → (Rose before.faults after.faults → ⊥)
       → (bytes : List ℕ) → Offers command old bytes → Completes command bytes status before after ran ⊎ (status ≡ 6)
   -- a run is handed out exactly where all was done and it was `sim`, `run` or `load` without `--text` that did it, and besides at most where a front of its report was written
-  pub ran_0 : status ≡ 0 → is_some ran ≡ makes_run (built_command_of words)
+  pub ran_0 : status ≡ 0 → is_some ran ≡ makes_run (command_of words)
   pub ran_7 : status ≡ 7 → is_some ran ≡ true
   pub ran_5 : status ≡ 5 → is_some ran ≡ true → IsCutOff words old new ended before after ran
   pub no_run : (status ≡ 0 → ⊥) → (status ≡ 5 → ⊥) → (status ≡ 7 → ⊥) → ran ≡ None

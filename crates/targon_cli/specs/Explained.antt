@@ -1,5 +1,6 @@
 -- Why the program ended as it did, by its words and its input.
 use Rattle.std.specs.Prelude.{ℕ, ◌≡◌, ◌⊎◌, Bool, true, false, List, [], ◌∷◌, Option, Some, None, is_some, Result, Ok, Err}
+use Rattle.command_words.specs.Command.{command_of}
 use Rattle.command_words.specs.declared.command.Command.{Command}
 use Rattle.command_words.specs.declared.command.Command.TheVariants as commands
 use Rattle.plain_kernel.specs.Answers.{BadAt}
@@ -25,7 +26,6 @@ use Rattle.targon_cli.specs.declared.reply.Reply.{Reply}
 use Rattle.t32_base.specs.declared.streams.NoMemory.{NoMemory}
 use Rattle.cluster_run.specs.declared.life.Ran.{Ran}
 use Rattle.targon_cli.specs.Answer.{In, Out, Takes, Says as Writes}
-use Rattle.targon_cli.specs.Built.{built_command_of}
 use Rattle.targon_cli.specs.Reply.{has_clusters_of}
 use Rattle.targon_cli.specs.Sections.{system_part, section_part, items_of_lines}
 
@@ -105,14 +105,14 @@ pub data ExplainsEnd (command : Command) (status : ℕ) (old new : In) (ended : 
   ByInput : (bytes : List ℕ) → Takes command old new ended bytes → Explains command bytes status why → ExplainsEnd command status old new ended why
   ByStatus : IsByStatus status why → ExplainsEnd command status old new ended why
 
--- the same where the words are this command, or no command that is built
+-- the same where the words are this command, or no command
 abbrev pub ExplainsFound : Option Command → (status : ℕ) → (old new : In) → (ended : Bool) → Option Why → Type 0
 ExplainsFound None status old new ended why = IsByStatus status why
 ExplainsFound (Some command) status old new ended why = ExplainsEnd command status old new ended why
 
 -- why the top call ended with its status
 abbrev pub Explained : List (List ℕ) → (status : ℕ) → (old new : In) → (ended : Bool) → Option Why → Type 0
-Explained words status old new ended why = ExplainsFound (built_command_of words) status old new ended why
+Explained words status old new ended why = ExplainsFound (command_of words) status old new ended why
 
 -- what is said of it was written, whole or by its headline, or a front of that where the sink failed; nothing where there is nothing to say
 abbrev pub TellsWhy : Option Why → (before after : Out) → Type 0

@@ -1,5 +1,5 @@
 pub mod Answer
-pub mod Built
+pub mod Commands
 pub mod Explained
 pub mod Input
 pub mod Noted

@@ -1,5 +1,6 @@
 -- What is noted for a person beside why the program ended.
 use Rattle.std.specs.Prelude.{ℕ, ◌≡◌, ◌⊎◌, Bool, List, [], ◌∷◌, Option, Some, None, Result, Ok, Err}
+use Rattle.command_words.specs.Command.{command_of}
 use Rattle.command_words.specs.declared.command.Command.{Command}
 use Rattle.command_words.specs.declared.command.Command.TheVariants as commands
 use Rattle.cert_sched.specs.declared.script.ScriptWord.{ScriptWord}
@@ -19,7 +20,6 @@ use Rattle.text_parts.specs.Lines.{lines_of}
 use Rattle.word_faults.specs.Fault.{word_hint}
 use Rattle.workload.specs.Ring.{workload}
 use Rattle.targon_cli.specs.Answer.{In, Out, Takes, Says as Writes}
-use Rattle.targon_cli.specs.Built.{built_command_of}
 use Rattle.targon_cli.specs.Sections.{system_part, section_part, items_of_lines}
 use Rattle.targon_cli.specs.declared.reply.Reply.{Reply}
 use Rattle.targon_cli.specs.declared.runs.Read.{Read}
@@ -94,13 +94,13 @@ HandsNotes (Err e) ran notes = notes ≡ None
 abbrev pub NotedEnd : Command → (old new : In) → (ended : Bool) → Option Ran → Option (List ℕ) → Type 0
 NotedEnd command old new ended ran notes = ((bytes : List ℕ) × Takes command old new ended bytes × Notes command bytes ran notes) ⊎ (notes ≡ None)
 
--- the same where the words are this command; where they are none that is built, the first of them that is wrong
+-- the same where the words are this command; where they are none, the first of them that is wrong
 abbrev pub NotedFound : List (List ℕ) → Option Command → (old new : In) → (ended : Bool) → Option Ran → Option (List ℕ) → Type 0
 NotedFound words None old new ended ran notes = MayNote (word_hint words) notes
 NotedFound words (Some command) old new ended ran notes = NotedEnd command old new ended ran notes
 
 abbrev pub Noted : List (List ℕ) → (old new : In) → (ended : Bool) → Option Ran → Option (List ℕ) → Type 0
-Noted words old new ended ran notes = NotedFound words (built_command_of words) old new ended ran notes
+Noted words old new ended ran notes = NotedFound words (command_of words) old new ended ran notes
 
 -- the notes were written behind what the sink held, or a front of them where it failed
 abbrev pub TellsNotes : Option (List ℕ) → (before after : Out) → Type 0

@@ -1,7 +1,6 @@
 //! The program: its words, its input and what it answers.
 #![tactic(auto)]
 
-mod built;
 mod input;
 mod load;
 mod notes;

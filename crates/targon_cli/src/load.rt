@@ -5,7 +5,6 @@ ghost use Rattle.cert_sched.specs.Legal.{IsLegalBy};
 ghost use Rattle.cert_sched.specs.Schedule.{schedule_of};
 ghost use Rattle.sys_text.specs.declared.system.System.{System as ASystem};
 ghost use Rattle.sys_text.specs.Valid.{is_system};
-ghost use Rattle.targon_cli.specs.Built.{is_built_script};
 ghost use Rattle.targon_cli.specs.Explained.{ExplainsLoad};
 ghost use Rattle.targon_cli.specs.Noted.{MayNoteRun, NotesRan};
 ghost use Rattle.targon_cli.specs.Reply.{IsTextOf, MakesLoad, load_text, status_of};
@@ -16,7 +15,7 @@ use crate::reply::{DONE, Reply, no_cluster};
 use crate::runs::{Read, status_of, with_clusters};
 use cert_sched::script::{Script, ScriptWord};
 use cluster_run::life::Ran;
-use cluster_run::running::run;
+use cluster_threads::running::run;
 use command_words::allowed;
 use report_text::load::load_report;
 use report_text::run::Run;
@@ -49,8 +48,8 @@ pub fn print_load(alloc: Global, size: u32, script: &Script) -> Result<Reply, No
     no_cluster(alloc)
 }
 
-/// Runs the workload of a size, each cluster on a thread of its own, and loses them by the script. The reply is one
-/// line that counts what came of it.
+/// Runs the workload of a size, each cluster on a thread of its own, and loses them and brings them back by the script. The
+/// reply is one line that counts what came of it.
 pub fn run_load<R: Threads + Wait + Sync, G: Gate + Sync>(
     rt: &R,
     alloc: Global,
@@ -59,7 +58,6 @@ pub fn run_load<R: Threads + Wait + Sync, G: Gate + Sync>(
     gate: &G,
 ) -> Result<(Reply, Option<Ran>), NoMemory>
     requires size { is_size size ≡ true }
-    requires built { is_built_script script.now ≡ true }
     ensures makes { IfOk result (λ r. (system : ASystem) → system ≡ workload_of size → MakesLoad false size system script.now r.0.status r.0.text r.1) }
     ensures why { IfOk result (λ r. (system : ASystem) → system ≡ workload_of size → ExplainsLoad system script.now r.0.status r.0.why) }
     ensures notes { IfOk result (λ r. (system : ASystem) → system ≡ workload_of size → NotesRan [] system script.now r.1 r.0.notes) }
@@ -78,7 +76,6 @@ fn run_ring<R: Threads + Wait + Sync, G: Gate + Sync>(
     gate: &G,
 ) -> Result<(Reply, Option<Ran>), NoMemory>
     requires valid { is_system ring ≡ true }
-    requires built { is_built_script script.now ≡ true }
     ensures makes { IfOk result (λ r. MakesLoad false size ring script.now r.0.status r.0.text r.1) }
     ensures why { IfOk result (λ r. ExplainsLoad ring script.now r.0.status r.0.why) }
     ensures notes { IfOk result (λ r. NotesRan [] ring script.now r.1 r.0.notes) }

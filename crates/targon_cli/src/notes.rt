@@ -29,7 +29,7 @@ pub fn hint(alloc: Global, text: &[u8], line: u64, rule: u8) -> Option<Text>
     }
 }
 
-/// What is noted of words that are no command that is built.
+/// What is noted of words that are no command.
 pub fn word_notes(alloc: Global, words: &[Text]) -> Option<Text>
     ensures { MayNote (word_hint_of words.now) result }
 {

@@ -5,7 +5,7 @@ ghost use Rattle.sys_text.specs.Reading.{reading_of as system_reading, system_of
 ghost use Rattle.text_parts.specs.Lines.{lines_of};
 ghost use Rattle.targon_cli.specs.Sections.{section_part, system_part};
 ghost use Rattle.sys_text.specs.Valid.{is_system};
-ghost use Rattle.targon_cli.specs.Built.{is_built, keeps_limits, needs_threads};
+ghost use Rattle.targon_cli.specs.Commands.{keeps_limits, needs_threads};
 ghost use Rattle.refusal_text.specs.Why.{asm_why as asm_why_of, item_why as item_why_of, system_why as system_why_of, unreadable_why as unreadable_why_of};
 ghost use Rattle.refusal_text.specs.declared.why.ItemFault.TheVariants.{Inapplicable};
 ghost use Rattle.hints.specs.Said.{system_hint as system_hint_of};
@@ -66,7 +66,6 @@ pub fn carry_out(
     bytes: &[u8],
 ) -> Result<(Reply, Option<Ran>), NoMemory>
     requires limits { keeps_limits command ≡ true }
-    requires built { is_built command ≡ true }
     requires alone { needs_threads (Some command) ≡ false }
     ensures makes { IfOk result (λ r. Makes command bytes.now r.0.status r.0.text r.1) }
     ensures why { IfOk result (λ r. Explains command bytes.now r.0.status r.0.why) }

@@ -8,7 +8,6 @@ ghost use Rattle.sys_text.specs.Valid.{is_system};
 ghost use Rattle.report_text.specs.Good.{EndsAs};
 ghost use Rattle.report_text.specs.RunReport.{report_of};
 ghost use Rattle.text_parts.specs.Lines.{lines_of};
-ghost use Rattle.targon_cli.specs.Built.{is_built_script};
 ghost use Rattle.targon_cli.specs.Explained.{ExplainsRead, ExplainsRun};
 ghost use Rattle.targon_cli.specs.Noted.{MayNoteRun, NotesRead, NotesRun};
 ghost use Rattle.targon_cli.specs.Reply.{IsRead, IsTextOf, MakesRun, run_text as run_text_of, status_of};
@@ -17,8 +16,8 @@ use crate::notes::run_notes;
 use crate::reply::{DONE, LOST, Reply, no_cluster, refused_system};
 use cert_sched::script::{Script, ScriptWord};
 use cluster_run::life::Ran;
-use cluster_run::running::run;
 use cluster_run::sim::sim;
+use cluster_threads::running::run;
 use command_words::allowed;
 use report_text::run::{Ended, Run};
 use report_text::whole::{finished_report, log_text, replayed_report};
@@ -31,7 +30,7 @@ use t32_base::gate::Gate;
 use t32_base::lists::Text;
 use t32_base::streams::NoMemory;
 
-/// Runs the clusters of a system text on one thread, and loses them by the script. The reply tells of the run, also
+/// Runs the clusters of a system text on one thread, and loses them and brings them back by the script. The reply tells of the run, also
 /// of its log where that is asked for.
 pub fn simulate(
     alloc: Global,
@@ -41,7 +40,6 @@ pub fn simulate(
     script: &Script,
 ) -> Result<(Reply, Option<Ran>), NoMemory>
     requires seed { pick < 2 ^ 31 }
-    requires built { is_built_script script.now ≡ true }
     ensures makes { IfOk result (λ r. MakesRun (system_reading bytes.now) script.now (run_text_of log) r.0.status r.0.text r.1) }
     ensures why { IfOk result (λ r. ExplainsRun (system_reading bytes.now) script.now (lines_of bytes.now) r.0.status r.0.why) }
     ensures notes { IfOk result (λ r. NotesRun (system_reading bytes.now) script.now (lines_of bytes.now) r.1 r.0.notes) }
@@ -56,8 +54,8 @@ pub fn simulate(
     }
 }
 
-/// Runs the clusters of a system text, each on a thread of its own, and loses them by the script. The reply tells of
-/// the run, also of its log where that is asked for.
+/// Runs the clusters of a system text, each on a thread of its own, and loses them and brings them back by the script. The
+/// reply tells of the run, also of its log where that is asked for.
 pub fn run_threads<R: Threads + Wait + Sync, G: Gate + Sync>(
     rt: &R,
     alloc: Global,
@@ -66,7 +64,6 @@ pub fn run_threads<R: Threads + Wait + Sync, G: Gate + Sync>(
     script: &Script,
     gate: &G,
 ) -> Result<(Reply, Option<Ran>), NoMemory>
-    requires { is_built_script script.now ≡ true }
     ensures makes { IfOk result (λ r. MakesRun (system_reading bytes.now) script.now (run_text_of log) r.0.status r.0.text r.1) }
     ensures why { IfOk result (λ r. ExplainsRun (system_reading bytes.now) script.now (lines_of bytes.now) r.0.status r.0.why) }
     ensures notes { IfOk result (λ r. NotesRun (system_reading bytes.now) script.now (lines_of bytes.now) r.1 r.0.notes) }

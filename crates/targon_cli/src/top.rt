@@ -1,16 +1,16 @@
 //! The top call: what the program does with its words, its input and its output.
 ghost use Rattle.std.specs.Prelude.{ℕ, List, Bool, ◌≡◌, ◌==◌, None, Option, Some, false, if◌then◌else◌, true, IfErr, IfOk, OnOk, is_some};
 ghost use Rattle.targon_cli.specs.Answer.{In, Out, Says, AnswersFound, Answers, Answered, HandsOut, IsUnread, ReadsAll, Takes};
-ghost use Rattle.targon_cli.specs.Built.{built_command_of, is_built, is_built_script, is_ready, keeps_limits, needs_threads as needs_threads_of, reads_input as reads_input_of};
+ghost use Rattle.targon_cli.specs.Commands.{is_ready, keeps_limits, needs_threads as needs_threads_of, reads_input as reads_input_of};
 ghost use Rattle.targon_cli.specs.Explained.{Explained, ExplainsEnd, ExplainsFound, HandsWhy, IsByStatus, TellsWhy};
 ghost use Rattle.targon_cli.specs.Noted.{HandsNotes, MayNote, Noted, NotedEnd, TellsNotes};
 ghost use Rattle.targon_cli.specs.Reply.{usage_line};
 ghost use Rattle.workload.specs.Ring.{is_size};
 ghost use Rattle.refusal_text.specs.Why.{why_of as why_of_status};
 ghost use Rattle.refusal_text.specs.declared.why.Why.{Why as AWhy};
+ghost use Rattle.command_words.specs.Command.{command_of as command_of_words};
 ghost use Rattle.command_words.specs.declared.command.Command.{Command as ACommand};
 
-use crate::built::built_command;
 use crate::input::{Input, read_input};
 use crate::load::run_load;
 use crate::notes::word_notes;
@@ -19,7 +19,7 @@ use crate::reply::{Reply, USAGE, carry_out};
 use crate::runs::run_threads;
 use cert_sched::script::Script;
 use cluster_run::life::Ran;
-use command_words::Command;
+use command_words::{Command, command_of};
 use refusal_text::why::{Why, why_of};
 use std::alloc::Global;
 use std::sync::Wait;
@@ -36,10 +36,11 @@ const NO_MEMORY: u8 = 6;
 const TOO_LONG: u8 = 8;
 
 /// What the program does with its words, its input and its output, and the status with which it ends: 0
-/// where a command was carried out, 1 where the words are no command that is built, or name a cluster that the
+/// where a command was carried out, 1 where the words are no command, or name a cluster that the
 /// system lacks, 2 where the command refuses its input, 3 where an item of the schedule cannot be read
 /// or applied, 4 where the input could not be read, 5 where the output could not be written, 6 where memory was
-/// refused and nothing was written, 7 where the run was ended by a loss that is not covered, and 8 where the input is longer than is read. After 0 and 7 `ran` is the run that `sim`, `run` or `load` made, and after 5 the
+/// refused and nothing was written, 7 where the run was ended by a loss that is not covered, and 8 where the input
+/// is longer than is read. After 0 and 7 `ran` is the run that `sim`, `run` or `load` made, and after 5 the
 /// run whose report was being written; else it is none. For `run` and `load` each cluster has a thread, which calls the
 /// gate before it tries to send; it may wait, so that no return is promised.
 pub fn targon<R: Threads + Wait + Sync, S: Source, K: Sink, G: Gate + Sync>(
@@ -113,7 +114,7 @@ fn targon_noted<R: Threads + Wait + Sync, S: Source, K: Sink, G: Gate + Sync>(
         (record { left = S.left input.old; faults = S.fault_count input.old })
         (record { left = S.left input.new; faults = S.fault_count input.new }) (S.ended input.new) ran.new notes.new }
 {
-    let Ok(command) = built_command(alloc, words) else {
+    let Ok(command) = command_of(alloc, words) else {
         *why = why_of(NO_MEMORY);
         *notes = None;
         return NO_MEMORY;
@@ -137,14 +138,14 @@ pub fn targon_alone<S: Source, K: Sink>(
     ran: &mut Option<Ran>,
 ) -> u8
     requires unran { ran.old ≡ None }
-    requires alone { needs_threads_of (built_command_of words.now) ≡ false }
+    requires alone { needs_threads_of (command_of_words words.now) ≡ false }
     ensures { Answered words.now result
         (record { left = S.left input.old; faults = S.fault_count input.old })
         (record { left = S.left input.new; faults = S.fault_count input.new }) (S.ended input.new)
         (record { holds = K.holds output.old; faults = K.fault_count output.old })
         (record { holds = K.holds output.new; faults = K.fault_count output.new }) ran.new }
 {
-    let Ok(command) = built_command(alloc, words) else {
+    let Ok(command) = command_of(alloc, words) else {
         return NO_MEMORY;
     };
     let mut why = None;
@@ -227,7 +228,6 @@ fn answer<S: Source, K: Sink>(
     notes: &mut Option<Text>,
 ) -> u8
     requires limits { keeps_limits command ≡ true }
-    requires built { is_built command ≡ true }
     requires alone { needs_threads_of (Some command) ≡ false }
     requires unran { ran.old ≡ None }
     ensures answered { Answers command result
@@ -364,7 +364,6 @@ fn answer_run<R: Threads + Wait + Sync, S: Source, K: Sink, G: Gate + Sync>(
     why: &mut Option<Why>,
     notes: &mut Option<Text>,
 ) -> u8
-    requires built { is_built_script script.now ≡ true }
     requires unran { ran.old ≡ None }
     ensures answered { Answers (ACommand.Run log script.now) result
         (record { left = S.left input.old; faults = S.fault_count input.old })
@@ -404,7 +403,6 @@ fn answer_load<R: Threads + Wait + Sync, K: Sink, G: Gate + Sync>(
     notes: &mut Option<Text>,
 ) -> u8
     requires size { is_size size ≡ true }
-    requires built { is_built_script script.now ≡ true }
     requires unran { ran.old ≡ None }
     ensures answered { (command : ACommand) → command ≡ ACommand.Load size false script.now → (input : In) (ended : Bool) → Answers command result input input ended
         (record { holds = K.holds output.old; faults = K.fault_count output.old })

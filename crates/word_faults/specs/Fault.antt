@@ -1,16 +1,15 @@
 -- The first word that is wrong.
-use Rattle.std.specs.Prelude.{ℕ, ◌+◌, ◌-◌, Bool, true, false, List, [], ◌∷◌, ◌++◌, codes, Option, Some, None, option_map, Result, Ok, Err, slice_get, unwrap_or, if◌then◌else◌}
+use Rattle.std.specs.Prelude.{ℕ, ◌+◌, ◌-◌, List, [], ◌∷◌, ◌++◌, codes, Option, Some, None, option_map, Result, Ok, Err, slice_get, unwrap_or, if◌then◌else◌}
 use Rattle.std.specs.Fmt.{decimal}
-use Rattle.std.specs.Str.{bytes_eq, is_utf8}
+use Rattle.std.specs.Str.{is_utf8}
 use Rattle.text_parts.specs.Table.{lookup}
 use Rattle.refusal_text.specs.Shown.{shown}
-use Rattle.command_words.specs.Options.{is_end}
 use Rattle.word_faults.specs.declared.fault.Name.{Name}
 use Rattle.word_faults.specs.declared.fault.Name.TheVariants as names
 use Rattle.word_faults.specs.declared.fault.WordFault.{WordFault}
 use Rattle.word_faults.specs.declared.seen.Form.TheVariants as forms
 use Rattle.word_faults.specs.declared.seen.Reason.{Reason}
-use Rattle.word_faults.specs.declared.seen.Reason.TheVariants.{NoText, NoCommand, TakesNone, NoOption, Twice, NoPick, LacksSize, NoSize, NoScriptWord, TooMany, NotBuilt}
+use Rattle.word_faults.specs.declared.seen.Reason.TheVariants.{NoText, NoCommand, TakesNone, NoOption, Twice, NoPick, LacksSize, NoSize, NoScriptWord, TooMany}
 use Rattle.word_faults.specs.declared.seen.Seen.{Seen}
 use Rattle.word_faults.specs.Seen.{missing, nothing_of, with_word}
 
@@ -18,11 +17,6 @@ abbrev pub names_by_text : List (List ℕ × Name)
 names_by_text =
     (codes "plain", names.Alone) ∷ (codes "check", names.Alone) ∷ (codes "asm", names.Alone) ∷ (codes "sim", names.Sim) ∷ (codes "run", names.Run)
     ∷ (codes "load", names.Load) ∷ (codes "help", names.Help) ∷ (codes "--help", names.Help) ∷ (codes "-h", names.Help) ∷ []
-
--- `--text` stands among the words before any `--`
-abbrev pub prints_in : List (List ℕ) → Bool
-prints_in [] = false
-prints_in (word ∷ words) = if is_end word then false else if bytes_eq word (codes "--text") then true else prints_in words
 
 abbrev pub word_after : Seen → List ℕ → Result Seen Reason
 word_after seen word = if is_utf8 word then with_word seen word else Err NoText
@@ -55,7 +49,7 @@ fault_of_name None words = Some (record { place = 1; reason = NoCommand })
 fault_of_name (Some names.Alone) words = nothing_behind words
 fault_of_name (Some names.Sim) words = fault_from (nothing_of forms.Sim) 2 words
 fault_of_name (Some names.Run) words = fault_from (nothing_of forms.Run) 2 words
-fault_of_name (Some names.Load) words = fault_from (nothing_of (forms.Load (prints_in words))) 2 words
+fault_of_name (Some names.Load) words = fault_from (nothing_of forms.Load) 2 words
 fault_of_name (Some names.Help) words = None
 
 abbrev pub fault_by : List ℕ → List (List ℕ) → Option WordFault
@@ -77,7 +71,6 @@ reason_text LacksSize = codes "load takes its size, 1 to 1000, before any other 
 reason_text NoSize = codes "the size of load is a number, 1 to 1000\n"
 reason_text NoScriptWord = codes "it is none of crash:K@bus:N, crash:K@step:N, disk:K@N and return:K@bus:N, where K and N are 1 to 10 digits and N is at most 4294967295\n"
 reason_text TooMany = codes "a script has 32 words at most\n"
-reason_text NotBuilt = codes "it is read, but not built yet\n"
 
 abbrev pub fault_text : List (List ℕ) → WordFault → List ℕ
 fault_text words fault = codes "t32: word " ++ decimal fault.place ++ codes ": " ++ shown (unwrap_or (slice_get words (fault.place - 1)) []) ++ codes ": " ++ reason_text fault.reason

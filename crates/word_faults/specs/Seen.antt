@@ -3,14 +3,13 @@ use Rattle.std.specs.Prelude.{ℕ, ◌+◌, ◌&&◌, Bool, true, false, not, Li
 use Rattle.std.specs.Str.{bytes_eq}
 use Rattle.text_parts.specs.Numbers.{number_of}
 use Rattle.cert_sched.specs.declared.script.ScriptWord.{ScriptWord}
-use Rattle.cert_sched.specs.declared.script.ScriptWord.TheVariants.{ReturnAt}
 use Rattle.command_words.specs.Options.{begins_with_hyphen, is_end}
 use Rattle.command_words.specs.Script.{behind, script_word}
 use Rattle.word_faults.specs.declared.seen.Form.{Form}
 use Rattle.word_faults.specs.declared.seen.Form.TheVariants.{Sim, Run, Load}
 use Rattle.word_faults.specs.declared.seen.Seen.{Seen}
 use Rattle.word_faults.specs.declared.seen.Reason.{Reason}
-use Rattle.word_faults.specs.declared.seen.Reason.TheVariants.{NoOption, Twice, NoPick, LacksSize, NoSize, NoScriptWord, TooMany, NotBuilt}
+use Rattle.word_faults.specs.declared.seen.Reason.TheVariants.{NoOption, Twice, NoPick, LacksSize, NoSize, NoScriptWord, TooMany}
 
 abbrev pub nothing_of : Form → Seen
 nothing_of form = record { form = form; flag = false; pick = false; awaits = false; size = false; words = 0; ended = false }
@@ -18,23 +17,17 @@ nothing_of form = record { form = form; flag = false; pick = false; awaits = fal
 abbrev pub flag_of : Form → List ℕ
 flag_of Sim = codes "--log"
 flag_of Run = codes "--log"
-flag_of (Load prints) = codes "--text"
+flag_of Load = codes "--text"
 
 abbrev pub is_sim : Form → Bool
 is_sim Sim = true
 is_sim Run = false
-is_sim (Load prints) = false
-
--- nothing is run
-abbrev pub prints_alone : Form → Bool
-prints_alone Sim = false
-prints_alone Run = false
-prints_alone (Load prints) = prints
+is_sim Load = false
 
 abbrev pub is_load : Form → Bool
 is_load Sim = false
 is_load Run = false
-is_load (Load prints) = true
+is_load Load = true
 
 abbrev pub lacks_size : Seen → Bool
 lacks_size seen = is_load seen.form && not seen.size
@@ -73,13 +66,8 @@ with_option seen word =
 abbrev pub with_one : Seen → Result Seen Reason
 with_one seen = if nat_lt seen.words 32 then Ok (record seen { words = seen.words + 1 }) else Err TooMany
 
--- a return is built where nothing is run
-abbrev pub with_return : Seen → Result Seen Reason
-with_return seen = if prints_alone seen.form then with_one seen else Err NotBuilt
-
 abbrev pub with_word_of : Seen → Option ScriptWord → Result Seen Reason
 with_word_of seen None = Err NoScriptWord
-with_word_of seen (Some (ReturnAt k place)) = with_return seen
 with_word_of seen (Some word) = with_one seen
 
 abbrev pub with_script_word : Seen → List ℕ → Result Seen Reason

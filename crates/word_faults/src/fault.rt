@@ -2,7 +2,7 @@
 ghost use Rattle.std.specs.Prelude.{◌≡◌, IfOk};
 ghost use Rattle.std.specs.Str.{is_utf8};
 ghost use Rattle.text_parts.specs.Table.{lookup as lookup_in};
-ghost use Rattle.word_faults.specs.Fault.{fault_by as fault_by_name, fault_from, fault_of as fault_of_words, missing_at, names_by_text, nothing_behind as nothing_behind_of, prints_in as prints_in_words, word_after as word_after_of, word_hint as word_hint_of};
+ghost use Rattle.word_faults.specs.Fault.{fault_by as fault_by_name, fault_from, fault_of as fault_of_words, missing_at, names_by_text, nothing_behind as nothing_behind_of, word_after as word_after_of, word_hint as word_hint_of};
 ghost use Rattle.word_faults.specs.Seen.{nothing_of};
 
 use crate::said::fault_text;
@@ -68,12 +68,7 @@ fn fault_by(first: &[u8], words: &[Text]) -> Option<WordFault>
         Some(Name::Alone) => nothing_behind(words),
         Some(Name::Sim) => fault_in(Form::Sim, words),
         Some(Name::Run) => fault_in(Form::Run, words),
-        Some(Name::Load) => fault_in(
-            Form::Load {
-                prints: prints_in(words),
-            },
-            words,
-        ),
+        Some(Name::Load) => fault_in(Form::Load, words),
         Some(Name::Help) => None,
         None => Some(WordFault {
             place: 1,
@@ -92,23 +87,6 @@ fn nothing_behind(words: &[Text]) -> Option<WordFault>
         }),
         None => None,
     }
-}
-
-// Does `--text` stand among the words before any `--`?
-fn prints_in(words: &[Text]) -> bool
-    ensures { result ≡ prints_in_words words.now }
-{
-    let mut rest = words;
-    'words: while let Some((word, after)) = rest.split_first() {
-        if word.as_slice() == b"--".as_slice() {
-            return false;
-        }
-        if word.as_slice() == b"--text".as_slice() {
-            return true;
-        }
-        rest = after;
-    }
-    false
 }
 
 // The first of the words behind that of their command that is wrong.

@@ -1,4 +1,4 @@
-//! Which of the program's words is wrong, and why, where they are no command that is built.
+//! Which of the program's words is wrong, and why, where they are no command.
 #![tactic(auto)]
 
 pub mod fault;

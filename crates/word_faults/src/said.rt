@@ -65,6 +65,5 @@ fn reason_said(reason: Reason) -> &'static str
             "it is none of crash:K@bus:N, crash:K@step:N, disk:K@N and return:K@bus:N, where K and N are 1 to 10 digits and N is at most 4294967295\n"
         }
         Reason::TooMany => "a script has 32 words at most\n",
-        Reason::NotBuilt => "it is read, but not built yet\n",
     }
 }

@@ -2,21 +2,20 @@
 ghost use Rattle.std.specs.Prelude.{◌≡◌};
 ghost use Rattle.text_parts.specs.Numbers.{number_of};
 ghost use Rattle.command_words.specs.Options.{begins_with_hyphen as begins_with_hyphen_of};
-ghost use Rattle.word_faults.specs.Seen.{flag_of, is_below, is_sim, lacks_size, missing, nothing_of, prints_alone, with_flag, with_one, with_option, with_pick, with_pick_in, with_pick_value, with_plain, with_return, with_script_word, with_word};
+ghost use Rattle.word_faults.specs.Seen.{flag_of, is_below, is_sim, lacks_size, missing, nothing_of, with_flag, with_one, with_option, with_pick, with_pick_in, with_pick_value, with_plain, with_script_word, with_word};
 
-use cert_sched::script::ScriptWord;
 use command_words::script_word;
 use text_parts::number;
 
 // The most words of a script.
 const MOST_WORDS: u8 = 32;
 
-/// A command that takes words. `prints` says that `--text` stands among them before any `--`.
+/// A command that takes words.
 #[derive(Clone, Copy, PartialEq, Eq, Debug)]
 pub enum Form {
     Sim,
     Run,
-    Load { prints: bool },
+    Load,
 }
 
 /// What the words of a command have given so far: its flag, `--pick`, whether its value is next, the size, how many script words,
@@ -45,7 +44,6 @@ pub enum Reason {
     NoSize,
     NoScriptWord,
     TooMany,
-    NotBuilt,
 }
 
 impl Seen {
@@ -170,7 +168,7 @@ impl Seen {
         ensures { result ≡ lacks_size self }
     {
         match self.form {
-            Form::Load { .. } => !self.size,
+            Form::Load => !self.size,
             _ => false,
         }
     }
@@ -183,7 +181,6 @@ impl Seen {
         }
         match script_word(word) {
             None => Err(Reason::NoScriptWord),
-            Some(ScriptWord::ReturnAt { .. }) => self.with_return(),
             Some(_) => self.with_one(),
         }
     }
@@ -199,16 +196,6 @@ impl Seen {
             })
         } else {
             Err(Reason::TooMany)
-        }
-    }
-
-    fn with_return(self) -> Result<Seen, Reason>
-        ensures { result ≡ with_return self }
-    {
-        if self.form.prints() {
-            self.with_one()
-        } else {
-            Err(Reason::NotBuilt)
         }
     }
 
@@ -232,7 +219,7 @@ impl Form {
     {
         match self {
             Form::Sim | Form::Run => b"--log",
-            Form::Load { .. } => b"--text",
+            Form::Load => b"--text",
         }
     }
 
@@ -240,15 +227,6 @@ impl Form {
         ensures { result ≡ is_sim self }
     {
         matches!(self, Form::Sim)
-    }
-
-    fn prints(self) -> bool
-        ensures { result ≡ prints_alone self }
-    {
-        match self {
-            Form::Load { prints } => prints,
-            _ => false,
-        }
     }
 }
 

@@ -33,18 +33,27 @@ fn withholds(counts: &mut Counts, letter: &Letter) -> bool {
     letter.out < 32 && withhold(counts, letter)
 }
 
+// The text of a line by its number.
+fn text_of(number: u8) -> &'static [u8] {
+    match number {
+        0 => b"a\n",
+        1 => b"b\n",
+        _ => b"c\n",
+    }
+}
+
 // A line that the process 16 writes to its terminal.
-fn line(alloc: Global, text: &[u8]) -> Result<Letter, NoMemory> {
+fn line(alloc: Global, number: u8) -> Result<Letter, NoMemory> {
     Ok(Letter {
         from: Pid(16),
         out: 0,
         to: To::Tty(0),
-        body: Body::Said(SharedBytes::copy_of(alloc, text)?),
+        body: Body::Said(SharedBytes::copy_of(alloc, text_of(number))?),
     })
 }
 
-fn count_line(alloc: Global, left: &mut Counts, text: &[u8]) -> Result<(), NoMemory> {
-    let sent = line(alloc, text)?;
+fn count_line(alloc: Global, left: &mut Counts, number: u8) -> Result<(), NoMemory> {
+    let sent = line(alloc, number)?;
     count_small(left, &sent);
     Ok(())
 }
@@ -52,56 +61,54 @@ fn count_line(alloc: Global, left: &mut Counts, text: &[u8]) -> Result<(), NoMem
 // Whether nothing is left to withhold before a line, and whether the line is withheld.
 type Line = (bool, bool);
 
-fn line_again(alloc: Global, left: &mut Counts, text: &[u8]) -> Result<Line, NoMemory> {
+fn line_again(alloc: Global, left: &mut Counts, number: u8) -> Result<Line, NoMemory> {
     let none_left = is_zero(left);
-    let again = line(alloc, text)?;
+    let again = line(alloc, number)?;
     Ok((none_left, withholds(left, &again)))
 }
 
-static LINES: [&[u8]; 3] = [b"a\n", b"b\n", b"c\n"];
-
-fn count_lines(alloc: Global, left: &mut Counts, written: usize) -> Result<(), NoMemory> {
-    for text in LINES.iter().take(written) {
-        count_line(alloc, left, text)?;
+fn count_lines(alloc: Global, left: &mut Counts, written: u8) -> Result<(), NoMemory> {
+    for number in 0..written {
+        count_line(alloc, left, number)?;
     }
     Ok(())
 }
 
-fn lines_again(alloc: Global, left: &mut Counts) -> Result<(Line, Line, Line), NoMemory> {
-    let first = line_again(alloc, left, LINES[0])?;
-    let second = line_again(alloc, left, LINES[1])?;
-    let third = line_again(alloc, left, LINES[2])?;
-    Ok((first, second, third))
-}
+type Lines = (Line, Line, Line);
 
-// How many lines are counted; what each of the three is when it comes again; and whether nothing is left then.
-type Again = (u64, (Line, Line, Line), bool);
-
-fn written_again(alloc: Global, written: usize) -> Result<Again, NoMemory> {
-    let mut left = NONE;
-    count_lines(alloc, &mut left, written)?;
-    let counted = total(&left);
-    let lines = lines_again(alloc, &mut left)?;
-    Ok((counted, lines, is_zero(&left)))
+fn lines_again(alloc: Global, left: &mut Counts) -> Result<Lines, NoMemory> {
+    Ok((
+        line_again(alloc, left, 0)?,
+        line_again(alloc, left, 1)?,
+        line_again(alloc, left, 2)?,
+    ))
 }
 
 const WITHHELD: Line = (false, true);
 
 const NEW: Line = (true, false);
 
-// After no line that was written, after one and after two.
-static AGAIN: [Again; 3] = [
-    (0, (NEW, NEW, NEW), true),
-    (1, (WITHHELD, NEW, NEW), true),
-    (2, (WITHHELD, WITHHELD, NEW), true),
+// How many lines were written and are counted, and what each of the three is when it comes again.
+static AGAIN: [(u8, u64, Lines); 3] = [
+    (0, 0, (NEW, NEW, NEW)),
+    (1, 1, (WITHHELD, NEW, NEW)),
+    (2, 2, (WITHHELD, WITHHELD, NEW)),
 ];
+
+fn assert_again(alloc: Global, written: u8, counted: u64, wanted: &Lines) -> Result<(), Fail> {
+    let mut left = NONE;
+    count_lines(alloc, &mut left, written)?;
+    same("how many are counted", &total(&left), &counted)?;
+    same("the lines", &lines_again(alloc, &mut left)?, wanted)?;
+    same("whether nothing is left", &is_zero(&left), &true)
+}
 
 #[test]
 fn two_lines_that_were_written_are_withheld_and_the_next_is_not(
     rt: HostRuntime,
 ) -> Result<(), Fail> {
-    for (written, wanted) in AGAIN.iter().enumerate() {
-        same("the lines", &written_again(rt.alloc(), written)?, wanted)?;
+    for row in &AGAIN {
+        assert_again(rt.alloc(), row.0, row.1, &row.2)?;
     }
     Ok(())
 }

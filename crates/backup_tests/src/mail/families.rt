@@ -54,28 +54,33 @@ fn go_in_order(family: &mut Family) -> Result<(), Fail> {
     Ok(())
 }
 
+fn assert_order(family: &mut Family) -> Result<(), Fail> {
+    go_in_order(family)?;
+    same(
+        "the first of 16 and of 17",
+        &[next_of(family, 16), next_of(family, 17)],
+        &[None, Some(Pid(18))],
+    )
+}
+
 #[test]
 fn children_of_children_are_first_and_of_children_the_lowest(rt: HostRuntime) -> Result<(), Fail> {
     let mut family = family_of(rt.alloc(), &BIRTHS)?;
-    go_in_order(&mut family)?;
+    assert_order(&mut family)
+}
+
+fn assert_rest(family: &mut Family) -> Result<(), Fail> {
+    family.gone(Pid(32));
     same(
-        "the first of 16 and of 17",
-        &(next_of(&family, 16), next_of(&family, 17)),
-        &(None, Some(Pid(18))),
-    )
+        "the first of 16 and of 32",
+        &[next_of(family, 16), next_of(family, 32)],
+        &[None, Some(Pid(48))],
+    )?;
+    same("whether 32 is known", &family.knows(Pid(32)), &true)
 }
 
 #[test]
 fn a_child_that_ends_leaves_its_own_children(rt: HostRuntime) -> Result<(), Fail> {
     let mut family = family_of(rt.alloc(), &[(16, 32), (32, 48)])?;
-    family.gone(Pid(32));
-    same(
-        "the first of 16 and of 32, and whether 32 is known",
-        &(
-            next_of(&family, 16),
-            next_of(&family, 32),
-            family.knows(Pid(32)),
-        ),
-        &(None, Some(Pid(48)), true),
-    )
+    assert_rest(&mut family)
 }

@@ -107,15 +107,14 @@ fn receive_late(mailbox: &mut Mailbox) -> Result<(), NoMemory> {
     receive(mailbox, To::Proc(Pid(16), 5))
 }
 
-// Three takes from linked ends and one from end 0, and how many letters are left then.
-fn read_late(mailbox: &mut Mailbox, linked: &[EndState; 32]) -> ([Option<u64>; 4], usize) {
-    let taken = [
+// Three takes from linked ends and one from end 0.
+fn read_late(mailbox: &mut Mailbox, linked: &[EndState; 32]) -> [Option<u64>; 4] {
+    [
         take_linked(mailbox, linked),
         take_linked(mailbox, linked),
         take_linked(mailbox, linked),
         take_on(mailbox, 0),
-    ];
-    (taken, mailbox.len())
+    ]
 }
 
 // A take from end 200, whether no letter is left then, and the number of the next one.
@@ -124,43 +123,38 @@ fn read_last(mailbox: &mut Mailbox) -> (Option<u64>, bool, u64) {
     (taken, mailbox.is_empty(), mailbox.next())
 }
 
-type Read = (Early, ([Option<u64>; 4], usize), (Option<u64>, bool, u64));
-
-fn read_all(mailbox: &mut Mailbox) -> Result<Read, NoMemory> {
-    let linked = ends_with(&[2, 5]);
-    let early = read_early(mailbox, &linked);
-    receive_late(mailbox)?;
-    let late = read_late(mailbox, &linked);
-    Ok((early, late, read_last(mailbox)))
-}
-
 const EARLY: Early = ([Some(0), Some(0), Some(2), None], [Some(1), Some(1)]);
+
+static LATE: [Option<u64>; 4] = [Some(4), Some(6), None, Some(5)];
+
+fn assert_reads(mailbox: &mut Mailbox) -> Result<(), Fail> {
+    let linked = ends_with(&[2, 5]);
+    let early = EARLY;
+    same("the early letters", &read_early(mailbox, &linked), &early)?;
+    receive_late(mailbox)?;
+    same("the late letters", &read_late(mailbox, &linked), &LATE)?;
+    same("how many are left", &mailbox.len(), &1)?;
+    same("the last", &read_last(mailbox), &(Some(3), true, 7))
+}
 
 #[test]
 fn letters_are_read_by_end_in_order_of_arrival(rt: HostRuntime) -> Result<(), Fail> {
     let mut mailbox = mailbox_of(rt.alloc(), &[1, 2, 1, 200, 2])?;
-    let late = ([Some(4), Some(6), None, Some(5)], 1);
-    same(
-        "the letters",
-        &read_all(&mut mailbox)?,
-        &(EARLY, late, (Some(3), true, 7)),
-    )
+    assert_reads(&mut mailbox)
 }
 
-// Whether the letters that are taken from linked ends have just these numbers, in this order.
-fn gives(mailbox: &mut Mailbox, ends: &[EndState; 32], numbers: &[u64]) -> bool {
+// The letters that are taken from linked ends have just these numbers, in this order.
+fn assert_gives(mailbox: &mut Mailbox, ends: &[EndState; 32], numbers: &[u64]) -> Result<(), Fail> {
     for number in numbers {
-        if take_linked(mailbox, ends) != Some(*number) {
-            return false;
-        }
+        same("a letter", &take_linked(mailbox, ends), &Some(*number))?;
     }
-    take_linked(mailbox, ends).is_none()
+    same("no further letter", &take_linked(mailbox, ends), &None)
 }
 
-fn gives_linked(alloc: Global, linked: &[u8], numbers: &[u64]) -> Result<bool, NoMemory> {
+fn assert_linked(alloc: Global, linked: &[u8], numbers: &[u64]) -> Result<(), Fail> {
     let ends = ends_with(linked);
     let mut mailbox = mailbox_of(alloc, &[3, 1, 2, 1, 31, 0, 2, 32])?;
-    Ok(gives(&mut mailbox, &ends, numbers))
+    assert_gives(&mut mailbox, &ends, numbers)
 }
 
 // The linked ends, and the numbers of the letters that are taken, one after the other.
@@ -177,8 +171,7 @@ static TAKEN: [(&[u8], &[u64]); 7] = [
 #[test]
 fn the_first_letter_of_several_linked_ends_is_taken(rt: HostRuntime) -> Result<(), Fail> {
     for row in TAKEN.iter() {
-        let shown = gives_linked(rt.alloc(), row.0, row.1)?;
-        same("whether it gives these", &(row.1, shown), &(row.1, true))?;
+        assert_linked(rt.alloc(), row.0, row.1)?;
     }
     Ok(())
 }
@@ -224,17 +217,18 @@ fn takes_rest(mailbox: &mut Mailbox) -> bool {
     true
 }
 
+// What the first half shows, what the rest, and whether none is left.
+fn read_many(mailbox: &mut Mailbox) -> (Option<u64>, bool, bool) {
+    let wrong = first_wrong(mailbox);
+    let rest = takes_rest(mailbox);
+    (wrong, rest, mailbox.is_empty())
+}
+
 #[test]
 fn many_letters_are_read_in_time_linear_in_them(rt: HostRuntime) -> Result<(), Fail> {
     let mut mailbox = Mailbox::new(rt.alloc());
     receive_many(&mut mailbox)?;
-    let wrong = first_wrong(&mut mailbox);
-    let rest = takes_rest(&mut mailbox);
-    same(
-        "the first half, the rest, and whether none is left",
-        &(wrong, rest, mailbox.is_empty()),
-        &(None, true, true),
-    )
+    same("the letters", &read_many(&mut mailbox), &(None, true, true))
 }
 
 // Letters came for the ends 5, 1, 5, 2 and 1, and the first for end 1 was taken out.
@@ -251,23 +245,31 @@ fn four_numbers(letters: &[Arrived]) -> Option<[u64; 4]> {
     }
 }
 
-// Its letters in order; those of a mailbox that is made of them; and the number that the next letter gets there.
-type Listed = (Option<[u64; 4]>, Option<[u64; 4]>, u64);
-
-fn listed(alloc: Global) -> Result<Listed, NoMemory> {
-    let mailbox = four_left(alloc)?;
+// Its letters in order, and the number that the next letter gets.
+fn listed(alloc: Global, mailbox: &Mailbox) -> Result<(Option<[u64; 4]>, u64), NoMemory> {
     let letters = mailbox.listed(alloc)?;
-    let again = Mailbox::of(alloc, letters.as_slice(), mailbox.next())?;
-    let same = again.listed(alloc)?;
-    Ok((
-        four_numbers(letters.as_slice()),
-        four_numbers(same.as_slice()),
-        again.next(),
-    ))
+    Ok((four_numbers(letters.as_slice()), mailbox.next()))
+}
+
+fn assert_listed(alloc: Global, mailbox: &Mailbox) -> Result<(), Fail> {
+    let left = (Some([0, 2, 3, 4]), 5);
+    same("the letters", &listed(alloc, mailbox)?, &left)
+}
+
+// A mailbox that is made of them.
+fn made_of_listed(alloc: Global, mailbox: &Mailbox) -> Result<Mailbox, NoMemory> {
+    let letters = mailbox.listed(alloc)?;
+    Mailbox::of(alloc, letters.as_slice(), mailbox.next())
+}
+
+fn assert_made(alloc: Global, mailbox: &Mailbox) -> Result<(), Fail> {
+    assert_listed(alloc, mailbox)?;
+    let made = made_of_listed(alloc, mailbox)?;
+    assert_listed(alloc, &made)
 }
 
 #[test]
 fn letters_are_listed_in_order_and_make_an_equal_mailbox(rt: HostRuntime) -> Result<(), Fail> {
-    let left = Some([0, 2, 3, 4]);
-    same("the letters", &listed(rt.alloc())?, &(left, left, 5))
+    let mailbox = four_left(rt.alloc())?;
+    assert_made(rt.alloc(), &mailbox)
 }

@@ -62,29 +62,36 @@ fn split(alloc: Global, before: &Placement) -> Result<(List<Record>, List<Record
     }
 }
 
-// Whether the records are those of these processes, in this order.
-fn has_pids(recs: &List<Record>, pids: &[u32]) -> bool {
-    recs.len() == pids.len()
-        && recs
-            .as_slice()
-            .iter()
-            .zip(pids)
-            .all(|(rec, pid)| rec.pid().0 == *pid)
+// The processes of two records, and of four.
+fn two_pids(recs: &[Record]) -> Option<[u32; 2]> {
+    match recs {
+        [a, b] => Some([a.pid().0, b.pid().0]),
+        _ => None,
+    }
 }
 
-// Whether just 64 and 16 move, and just 17, 48, 32 and 96 stay.
-fn is_split(alloc: Global) -> Result<(bool, bool), NoMemory> {
-    let before = placement(alloc)?;
-    let (moved, stay) = split(alloc, &before)?;
-    let moves = has_pids(&moved, &[64, 16]);
-    Ok((moves, has_pids(&stay, &[17, 48, 32, 96])))
+fn four_pids(recs: &[Record]) -> Option<[u32; 4]> {
+    match recs {
+        [a, b, c, d] => Some([a.pid().0, b.pid().0, c.pid().0, d.pid().0]),
+        _ => None,
+    }
+}
+
+fn assert_pids(moved: &[Record], stay: &[Record]) -> Result<(), Fail> {
+    same(
+        "what moves and stays",
+        &(two_pids(moved), four_pids(stay)),
+        &(Some([64, 16]), Some([17, 48, 32, 96])),
+    )
+}
+
+fn assert_split(alloc: Global, before: &Placement) -> Result<(), Fail> {
+    let (moved, stay) = split(alloc, before)?;
+    assert_pids(moved.as_slice(), stay.as_slice())
 }
 
 #[test]
 fn the_records_of_processes_that_move_here_are_taken_in_order(rt: HostRuntime) -> Result<(), Fail> {
-    same(
-        "what moves and stays",
-        &is_split(rt.alloc())?,
-        &(true, true),
-    )
+    let before = placement(rt.alloc())?;
+    assert_split(rt.alloc(), &before)
 }

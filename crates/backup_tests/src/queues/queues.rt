@@ -72,21 +72,21 @@ fn save_each(queue: &mut List<Arrived>, numbers: &[u64]) -> Result<(), NoMemory>
     Ok(())
 }
 
-// Whether the letters of a queue have just these arrival numbers, in this order.
-fn has_numbers(queue: &[Arrived], numbers: &[u64]) -> bool {
-    queue.len() == numbers.len()
-        && queue
-            .iter()
-            .zip(numbers)
-            .all(|(arrived, number)| arrived.number == *number)
+// The letters of a queue have just these arrival numbers, in this order.
+fn assert_numbers(queue: &[Arrived], numbers: &[u64]) -> Result<(), Fail> {
+    same("how many letters are left", &queue.len(), &numbers.len())?;
+    for (arrived, number) in queue.iter().zip(numbers) {
+        same("the number of a letter", &arrived.number, number)?;
+    }
+    Ok(())
 }
 
-// Whether just these are left of a queue with the letters saved, once those read are dropped.
-fn leaves(alloc: Global, saved: &[u64], read: &[u64], left: &[u64]) -> Result<bool, NoMemory> {
+// Just these are left of a queue with the letters saved, once those read are dropped.
+fn assert_left(alloc: Global, saved: &[u64], read: &[u64], left: &[u64]) -> Result<(), Fail> {
     let mut queue = List::new(alloc);
     save_each(&mut queue, saved)?;
     drop_read(&mut queue, read);
-    Ok(has_numbers(queue.as_slice(), left))
+    assert_numbers(queue.as_slice(), left)
 }
 
 // The numbers saved, those read, and those left.
@@ -102,8 +102,7 @@ static DROPPED: [(&[u64], &[u64], &[u64]); 6] = [
 #[test]
 fn the_letters_that_were_read_are_dropped_wherever_they_stand(rt: HostRuntime) -> Result<(), Fail> {
     for row in DROPPED.iter() {
-        let shown = leaves(rt.alloc(), row.0, row.1, row.2)?;
-        same("whether these are left", &(row.2, shown), &(row.2, true))?;
+        assert_left(rt.alloc(), row.0, row.1, row.2)?;
     }
     Ok(())
 }

@@ -3,13 +3,14 @@ ghost use Rattle.std.specs.Prelude.{◌≡◌, [], ◌∷◌, OnOk, IfOk};
 ghost use Rattle.t32_base.specs.declared.letter.To.TheVariants.{Proc};
 ghost use Rattle.t32_base.specs.declared.letter.Body.TheVariants.{EndOf};
 ghost use Rattle.backup_queue.specs.Fronts.{AreFronts, AreOnEnds};
+ghost use Rattle.proc_state.specs.Mail.{RiseTo};
 
 use backup_queue::record::{Record, RecordParts};
 use proc_state::mailbox::Mailbox;
 use proc_state::process::Process;
 use std::alloc::Global;
 use std::test::Fail;
-use t32_base::letter::{Body, Letter, To};
+use t32_base::letter::{BackRec, Body, Letter, To};
 use t32_base::process::{Pid, Small};
 use t32_base::streams::NoMemory;
 use test_asserts::same;
@@ -100,13 +101,18 @@ fn two_counted(alloc: Global) -> Record
     ensures none { result.saved ≡ [] }
     ensures first { result.next ≡ 0 }
 {
+    let letter = sent();
     let mut rec = Record::new(alloc, Pid(16), None);
-    rec.count(&sent());
-    rec.count(&sent());
+    rec.count(&letter);
+    rec.count(&letter);
     rec
 }
 
-fn bear_two(rec: &mut Record) -> Result<(), NoMemory> {
+fn tell_rest(rec: &mut Record) -> Result<(), NoMemory>
+    requires none { rec.old.saved ≡ [] }
+    requires first { rec.old.next ≡ 0 }
+{
+    save_three(rec)?;
     rec.add_birth(Pid(32))?;
     rec.add_birth(Pid(48))
 }
@@ -114,8 +120,7 @@ fn bear_two(rec: &mut Record) -> Result<(), NoMemory> {
 // Two letters that were sent, three that arrived, and two births.
 fn all_told(alloc: Global) -> Result<Record, NoMemory> {
     let mut rec = two_counted(alloc);
-    save_three(&mut rec)?;
-    bear_two(&mut rec)?;
+    tell_rest(&mut rec)?;
     Ok(rec)
 }
 
@@ -150,7 +155,9 @@ fn take_all(saved: &mut Mailbox) -> Taken {
 }
 
 // What the parts of a record show: its letters, those that were sent from end 2, and two children.
-fn handed_over(rec: Record) -> (Taken, u32, Option<(Pid, Pid)>) {
+type HandedOver = (Taken, u32, Option<(Pid, Pid)>);
+
+fn handed_over(rec: Record) -> HandedOver {
     let RecordParts {
         mut saved,
         counts,
@@ -163,32 +170,36 @@ fn handed_over(rec: Record) -> (Taken, u32, Option<(Pid, Pid)>) {
 
 const BIRTHS: Option<(Pid, Pid)> = Some((Pid(32), Pid(48)));
 
+const ALL: HandedOver = ((3, [Some(0), Some(2), Some(1)], true), 2, BIRTHS);
+
+fn assert_handed_over(rec: Record) -> Result<(), Fail> {
+    let all = ALL;
+    same("what it hands over", &handed_over(rec), &all)
+}
+
 #[test]
 fn what_a_record_is_told_is_handed_over(rt: HostRuntime) -> Result<(), Fail> {
     let rec = all_told(rt.alloc())?;
-    let seen = seen(&rec);
-    let letters = (3, [Some(0), Some(2), Some(1)], true);
-    same(
-        "what it is told, and what it hands over",
-        &(seen, handed_over(rec)),
-        &((3, 2, BIRTHS), (letters, 2, BIRTHS)),
-    )
+    same("what it is told", &seen(&rec), &(3, 2, BIRTHS))?;
+    assert_handed_over(rec)
 }
 
-// What a record hands over that is made of the record that another tells.
-fn told_and_handed_over(alloc: Global) -> Result<(Taken, u32, Option<(Pid, Pid)>), NoMemory> {
-    let told = all_told(alloc)?.told()?;
-    Ok(handed_over(Record::of(&told)?))
+// The record that is made of what another tells.
+fn told(alloc: Global) -> Result<BackRec, NoMemory>
+    ensures { IfOk result (λ rec. RiseTo 0 rec.saved rec.next) }
+{
+    let rec = all_told(alloc)?;
+    rec.told()
+}
+
+fn made_of_told(alloc: Global) -> Result<Record, NoMemory> {
+    let told = told(alloc)?;
+    Record::of(&told)
 }
 
 #[test]
 fn a_record_that_is_told_makes_an_equal_one(rt: HostRuntime) -> Result<(), Fail> {
-    let letters = (3, [Some(0), Some(2), Some(1)], true);
-    same(
-        "what it hands over",
-        &told_and_handed_over(rt.alloc())?,
-        &(letters, 2, BIRTHS),
-    )
+    assert_handed_over(made_of_told(rt.alloc())?)
 }
 
 // A record with three letters and a birth.

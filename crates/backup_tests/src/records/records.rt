@@ -67,12 +67,21 @@ fn can_count(records: &Records, letter: &Letter) -> bool
     }
 }
 
+fn can_note(records: &Records, what: &What) -> bool
+    ensures { IsTrue result → CanNote what.now records.now }
+{
+    match what {
+        What::Mail { letter, .. } => can_save(records, letter) && can_count(records, letter),
+        _ => false,
+    }
+}
+
 // Notes a letter where it may be noted, which it may in these tests.
-fn note(records: &mut Records, letter: Letter) -> Result<(), Fail> {
-    if !can_save(records, &letter) || !can_count(records, &letter) {
+fn note(records: &mut Records, what: &What) -> Result<(), Fail> {
+    if !can_note(records, what) {
         return Err("the letter may not be noted".into());
     }
-    records.note(ClusterNo(1), &What::Mail { at: 1, letter })?;
+    records.note(ClusterNo(1), what)?;
     Ok(())
 }
 
@@ -86,8 +95,16 @@ fn told(records: &Records, pid: u32) -> Told {
 }
 
 // The same of the processes 16, 17 and 32.
-fn each_told(records: &Records) -> [Told; 3] {
-    [told(records, 16), told(records, 17), told(records, 32)]
+type Each = (Told, Told, Told);
+
+fn each_told(records: &Records) -> Each {
+    (told(records, 16), told(records, 17), told(records, 32))
+}
+
+// A line of a process, or a signal of 17 to itself.
+enum Sent {
+    Line(u32, To),
+    Signal,
 }
 
 fn line(alloc: Global, from: u32, to: To) -> Result<Letter, NoMemory> {
@@ -99,56 +116,65 @@ fn line(alloc: Global, from: u32, to: To) -> Result<Letter, NoMemory> {
     })
 }
 
-fn note_line(alloc: Global, records: &mut Records, from: u32, to: To) -> Result<[Told; 3], Fail> {
-    let letter = line(alloc, from, to)?;
-    note(records, letter)?;
-    Ok(each_told(records))
-}
-
-fn note_signal(records: &mut Records) -> Result<[Told; 3], Fail> {
-    let signal = Letter {
+fn signal() -> Letter {
+    Letter {
         from: Pid(17),
         out: 0,
         to: To::Proc(Pid(17), 0),
         body: Body::Signal(11),
+    }
+}
+
+fn letter_of(alloc: Global, sent: &Sent) -> Result<Letter, NoMemory> {
+    match sent {
+        Sent::Line(from, to) => line(alloc, *from, *to),
+        Sent::Signal => Ok(signal()),
+    }
+}
+
+fn note_sent(alloc: Global, records: &mut Records, sent: &Sent) -> Result<(), Fail> {
+    let what = What::Mail {
+        at: 1,
+        letter: letter_of(alloc, sent)?,
     };
-    note(records, signal)?;
-    Ok(each_told(records))
+    note(records, &what)
 }
 
 // What is told after each of four lines and a signal.
-fn note_all(alloc: Global, records: &mut Records) -> Result<[[Told; 3]; 5], Fail> {
-    let to_other = note_line(alloc, records, 16, To::Proc(Pid(17), 1))?;
-    let to_tty = note_line(alloc, records, 16, To::Tty(0))?;
-    let to_unknown = note_line(alloc, records, 16, To::Proc(Pid(32), 1))?;
-    let by_unknown = note_line(alloc, records, 32, To::Proc(Pid(17), 1))?;
-    let signal = note_signal(records)?;
-    Ok([to_other, to_tty, to_unknown, by_unknown, signal])
-}
-
-fn all_noted(alloc: Global) -> Result<(usize, [[Told; 3]; 5]), Fail> {
-    let mut kept = records(alloc, &[17, 16])?;
-    let told = note_all(alloc, &mut kept)?;
-    Ok((kept.len(), told))
-}
-
-const NOTED: [[Told; 3]; 5] = [
-    [Some((0, 1, 0)), Some((1, 0, 0)), None],
-    [Some((0, 2, 0)), Some((1, 0, 0)), None],
-    [Some((0, 3, 0)), Some((1, 0, 0)), None],
-    [Some((0, 3, 0)), Some((2, 0, 0)), None],
-    [Some((0, 3, 0)), Some((3, 0, 1)), None],
+static NOTED: [(Sent, Each); 5] = [
+    (
+        Sent::Line(16, To::Proc(Pid(17), 1)),
+        (Some((0, 1, 0)), Some((1, 0, 0)), None),
+    ),
+    (
+        Sent::Line(16, To::Tty(0)),
+        (Some((0, 2, 0)), Some((1, 0, 0)), None),
+    ),
+    (
+        Sent::Line(16, To::Proc(Pid(32), 1)),
+        (Some((0, 3, 0)), Some((1, 0, 0)), None),
+    ),
+    (
+        Sent::Line(32, To::Proc(Pid(17), 1)),
+        (Some((0, 3, 0)), Some((2, 0, 0)), None),
+    ),
+    (Sent::Signal, (Some((0, 3, 0)), Some((3, 0, 1)), None)),
 ];
+
+fn assert_noted(alloc: Global, records: &mut Records) -> Result<(), Fail> {
+    for (sent, wanted) in &NOTED {
+        note_sent(alloc, records, sent)?;
+        same("what is told", &each_told(records), wanted)?;
+    }
+    same("how many records there are", &records.len(), &2)
+}
 
 #[test]
 fn a_letter_is_saved_by_its_receiver_and_counted_by_its_sender(
     rt: HostRuntime,
 ) -> Result<(), Fail> {
-    same(
-        "what is told after each letter",
-        &all_noted(rt.alloc())?,
-        &(2, NOTED),
-    )
+    let mut kept = records(rt.alloc(), &[17, 16])?;
+    assert_noted(rt.alloc(), &mut kept)
 }
 
 // How many records there are, and whether there is one of 16, 17 and 32.
@@ -213,30 +239,45 @@ const LAST: Placed = Placed {
     ..FIRST
 };
 
-fn placed(alloc: Global) -> Result<Placement, NoMemory> {
-    let roots = [FIRST, AWAY, SAVED_AWAY, LAST];
-    Placement::boot(alloc, 3, (ClusterNo(0), ClusterNo(1)), &roots)
+const CHILD: Placed = Placed {
+    pid: Pid(80),
+    ..FIRST
+};
+
+static FOUR: [Placed; 4] = [FIRST, AWAY, SAVED_AWAY, LAST];
+
+static FAMILY: [Placed; 3] = [FIRST, AWAY, CHILD];
+
+// The records that move at the loss of cluster 0.
+fn take_moved(
+    alloc: Global,
+    kept: &mut Records,
+    before: &Placement,
+) -> Result<List<Record>, NoMemory> {
+    kept.take_moved(alloc, ClusterNo(0), ClusterNo(1), before)
 }
 
-// The records of cluster 1, with a letter of 17 to 64.
-fn with_letter(alloc: Global) -> Result<Records, Fail> {
-    let mut kept = records(alloc, &[64, 17, 16])?;
-    let letter = line(alloc, 17, To::Proc(Pid(64), 1))?;
-    note(&mut kept, letter)?;
-    Ok(kept)
+fn moved_of_four(alloc: Global, kept: &mut Records) -> Result<List<Record>, NoMemory> {
+    let before = Placement::boot(alloc, 3, (ClusterNo(0), ClusterNo(1)), &FOUR)?;
+    take_moved(alloc, kept, &before)
 }
 
-// The records that move at the loss of cluster 0; how many stay, and what is told of 17, which stays.
-fn moved(alloc: Global) -> Result<(List<Record>, (usize, Told)), Fail> {
-    let before = placed(alloc)?;
-    let mut kept = with_letter(alloc)?;
-    let moved = kept.take_moved(alloc, ClusterNo(0), ClusterNo(1), &before)?;
-    Ok((moved, (kept.len(), told(&kept, 17))))
+fn moved_of_family(alloc: Global, kept: &mut Records) -> Result<List<Record>, NoMemory> {
+    let before = Placement::boot(alloc, 3, (ClusterNo(0), ClusterNo(1)), &FAMILY)?;
+    take_moved(alloc, kept, &before)
 }
 
-fn two_pids(records: &List<Record>) -> Option<(u32, u32)> {
-    match records.as_slice() {
+fn two_pids(records: &[Record]) -> Option<(u32, u32)> {
+    match records {
         [first, second] => Some((first.pid().0, second.pid().0)),
+        _ => None,
+    }
+}
+
+// The only child that the first of these records has.
+fn first_birth(records: &[Record]) -> Option<u32> {
+    match records.first()?.births() {
+        [child] => Some(child.0),
         _ => None,
     }
 }
@@ -249,7 +290,9 @@ fn saved_last(records: List<Record>) -> Option<Arrived> {
 }
 
 // The number of a letter, and the three bytes that it says.
-fn said(letter: &Arrived) -> (u64, Option<[u8; 3]>) {
+type Said = (u64, Option<[u8; 3]>);
+
+fn said(letter: &Arrived) -> Said {
     let bytes = match &letter.letter.body {
         Body::Said(bytes) => bytes.as_slice().try_into().ok(),
         _ => None,
@@ -257,29 +300,45 @@ fn said(letter: &Arrived) -> (u64, Option<[u8; 3]>) {
     (letter.number, bytes)
 }
 
-// What stays, the two that moved, and the letter of the last.
-type Moved = (
-    (usize, Told),
-    Option<(u32, u32)>,
-    Option<(u64, Option<[u8; 3]>)>,
-);
-
-fn shown(alloc: Global) -> Result<Moved, Fail> {
-    let (moved, stays) = moved(alloc)?;
-    let pids = two_pids(&moved);
-    let letter = saved_last(moved);
-    Ok((stays, pids, letter.as_ref().map(said)))
+fn said_last(records: List<Record>) -> Option<Said> {
+    let letter = saved_last(records)?;
+    Some(said(&letter))
 }
 
-const MOVED: Moved = (
-    (1, Some((0, 1, 0))),
-    Some((16, 64)),
-    Some((0, Some(*b"ok\n"))),
-);
+fn assert_pids(moved: &[Record], pids: (u32, u32), child: Option<u32>) -> Result<(), Fail> {
+    same(
+        "the two that move, and the child of the first",
+        &(two_pids(moved), first_birth(moved)),
+        &(Some(pids), child),
+    )
+}
 
+// Two records move, of which the last has saved a line.
+fn assert_moved(moved: List<Record>, pids: (u32, u32), child: Option<u32>) -> Result<(), Fail> {
+    assert_pids(moved.as_slice(), pids, child)?;
+    same(
+        "the letter of the last",
+        &said_last(moved),
+        &Some((0, Some(*b"ok\n"))),
+    )
+}
+
+fn assert_loss(alloc: Global, kept: &mut Records) -> Result<(), Fail> {
+    note_sent(alloc, kept, &Sent::Line(17, To::Proc(Pid(64), 1)))?;
+    let moved = moved_of_four(alloc, kept)?;
+    assert_moved(moved, (16, 64), None)?;
+    same(
+        "how many stay, and what is told of 17",
+        &(kept.len(), told(kept, 17)),
+        &(1, Some((0, 1, 0))),
+    )
+}
+
+// The records of cluster 1, with a letter of 17 to 64.
 #[test]
 fn a_loss_takes_the_records_that_move_here_with_their_letters(rt: HostRuntime) -> Result<(), Fail> {
-    same("what moved and what stays", &shown(rt.alloc())?, &MOVED)
+    let mut kept = records(rt.alloc(), &[64, 17, 16])?;
+    assert_loss(rt.alloc(), &mut kept)
 }
 
 // An end letter to end 1 of the process 16.
@@ -326,12 +385,22 @@ fn state_told(records: &Records) -> Option<(u32, u64, u32)> {
     Some((record.state()?.left, record.next(), record.counts().ends[2]))
 }
 
+fn assert_state(kept: &Records) -> Result<(), Fail> {
+    same("the record", &state_told(kept), &Some((1000, 2, 0)))
+}
+
+fn assert_cut(kept: &mut Records, state: &Small) -> Result<(), Fail>
+    requires { CanCut (record { 0 = 16 }) (0 ∷ []) kept.old }
+{
+    kept.cut(Pid(16), state, &[0]);
+    assert_state(kept)
+}
+
 #[test]
 fn a_cut_gives_the_record_its_state(rt: HostRuntime) -> Result<(), Fail> {
-    let alloc = rt.alloc();
-    let mut kept = one_kept(alloc)?;
-    kept.cut(Pid(16), &fresh_state(alloc)?, &[0]);
-    same("the record", &state_told(&kept), &Some((1000, 2, 0)))
+    let state = fresh_state(rt.alloc())?;
+    let mut kept = one_kept(rt.alloc())?;
+    assert_cut(&mut kept, &state)
 }
 
 // The synchronisation of the process 16, which has read the letter 0.
@@ -348,26 +417,31 @@ fn first_read(alloc: Global) -> Result<What, NoMemory>
     })
 }
 
-// What is told of the record after it, and the number of the first letter that is still saved.
-type Cut = (Option<(u32, u64, u32)>, Option<u64>);
-
-fn cut_by_entry(alloc: Global) -> Result<Cut, Fail> {
+fn note_cut(alloc: Global, kept: &mut Records) -> Result<(), NoMemory>
+    requires { CanCut (record { 0 = 16 }) (0 ∷ []) kept.old }
+{
     let what = first_read(alloc)?;
-    let mut kept = one_kept(alloc)?;
-    kept.note(ClusterNo(1), &what)?;
-    let told = state_told(&kept);
-    let before = placed(alloc)?;
-    let moved = kept.take_moved(alloc, ClusterNo(0), ClusterNo(1), &before)?;
-    Ok((told, saved_last(moved).map(|letter| letter.number)))
+    kept.note(ClusterNo(1), &what)
+}
+
+// The number of the first letter that is still saved.
+fn first_left(records: List<Record>) -> Option<u64> {
+    Some(saved_last(records)?.number)
+}
+
+fn assert_noted_cut(alloc: Global, kept: &mut Records) -> Result<(), Fail>
+    requires { CanCut (record { 0 = 16 }) (0 ∷ []) kept.old }
+{
+    note_cut(alloc, kept)?;
+    assert_state(kept)?;
+    let moved = moved_of_four(alloc, kept)?;
+    same("the letter that is left", &first_left(moved), &Some(1))
 }
 
 #[test]
 fn a_synchronisation_that_is_noted_cuts_the_record(rt: HostRuntime) -> Result<(), Fail> {
-    same(
-        "the record and the letter that is left",
-        &cut_by_entry(rt.alloc())?,
-        &(Some((1000, 2, 0)), Some(1)),
-    )
+    let mut kept = one_kept(rt.alloc())?;
+    assert_noted_cut(rt.alloc(), &mut kept)
 }
 
 // The process 16 bears 80, which may be noted in these tests.
@@ -407,70 +481,52 @@ fn child_told(records: &Records) -> Option<(bool, u64)> {
     Some((record.state().is_some(), record.next()))
 }
 
-// Records of 17 and 16, of which 16 bears 80; 17 sends 80 a letter, and 80 synchronises.
-fn with_child(alloc: Global) -> Result<(Records, [Option<(bool, u64)>; 3]), Fail> {
-    let mut kept = records(alloc, &[17, 16])?;
-    note_birth(&mut kept)?;
-    let born = child_told(&kept);
-    let letter = line(alloc, 17, To::Proc(Pid(80), 1))?;
-    note(&mut kept, letter)?;
-    let sent = child_told(&kept);
-    kept.note(ClusterNo(1), &none_read(alloc)?)?;
-    let told = [born, sent, child_told(&kept)];
-    Ok((kept, told))
+fn note_sync(alloc: Global, records: &mut Records) -> Result<(), NoMemory> {
+    let what = none_read(alloc)?;
+    records.note(ClusterNo(1), &what)
 }
 
-const CHILD: Placed = Placed {
-    pid: Pid(80),
-    ..FIRST
-};
-
-// The records that move at the loss of cluster 0, the home of 16 and 80.
-fn family_moved(alloc: Global, kept: &mut Records) -> Result<List<Record>, NoMemory> {
-    let before = Placement::boot(
-        alloc,
-        3,
-        (ClusterNo(0), ClusterNo(1)),
-        &[FIRST, AWAY, CHILD],
-    )?;
-    kept.take_moved(alloc, ClusterNo(0), ClusterNo(1), &before)
+// 16 bears 80, 17 sends 80 a letter, or 80 synchronises.
+enum Step {
+    Birth,
+    Letter,
+    Sync,
 }
 
-// The only child that the first of these records has.
-fn first_birth(records: &List<Record>) -> Option<u32> {
-    match records.as_slice().first()?.births() {
-        [child] => Some(child.0),
-        _ => None,
+fn note_step(alloc: Global, records: &mut Records, step: &Step) -> Result<(), Fail> {
+    match step {
+        Step::Birth => note_birth(records),
+        Step::Letter => note_sent(alloc, records, &Sent::Line(17, To::Proc(Pid(80), 1))),
+        Step::Sync => Ok(note_sync(alloc, records)?),
     }
 }
 
-// What is told of the child as it goes on; the two that move, the child of the first, and the letter of the last.
-type Family = (
-    [Option<(bool, u64)>; 3],
-    Option<(u32, u32)>,
-    Option<u32>,
-    Option<(u64, Option<[u8; 3]>)>,
-);
+// What is told of the child as it goes on.
+static CHILDHOOD: [(Step, Option<(bool, u64)>); 3] = [
+    (Step::Birth, Some((false, 0))),
+    (Step::Letter, Some((false, 1))),
+    (Step::Sync, Some((true, 1))),
+];
 
-fn family(alloc: Global) -> Result<Family, Fail> {
-    let (mut kept, told) = with_child(alloc)?;
-    let moved = family_moved(alloc, &mut kept)?;
-    let pids = two_pids(&moved);
-    let child = first_birth(&moved);
-    let letter = saved_last(moved);
-    Ok((told, pids, child, letter.as_ref().map(said)))
+fn assert_childhood(alloc: Global, records: &mut Records) -> Result<(), Fail> {
+    for (step, wanted) in &CHILDHOOD {
+        note_step(alloc, records, step)?;
+        same("the child", &child_told(records), wanted)?;
+    }
+    Ok(())
 }
 
-const FAMILY: Family = (
-    [Some((false, 0)), Some((false, 1)), Some((true, 1))],
-    Some((16, 80)),
-    Some(80),
-    Some((0, Some(*b"ok\n"))),
-);
+// The records that move at the loss of cluster 0, the home of 16 and 80.
+fn assert_family(alloc: Global, records: &mut Records) -> Result<(), Fail> {
+    assert_childhood(alloc, records)?;
+    let moved = moved_of_family(alloc, records)?;
+    assert_moved(moved, (16, 80), Some(80))
+}
 
 #[test]
 fn a_child_that_is_born_has_a_record_and_moves_with_its_parent(
     rt: HostRuntime,
 ) -> Result<(), Fail> {
-    same("the child and its parent", &family(rt.alloc())?, &FAMILY)
+    let mut kept = records(rt.alloc(), &[17, 16])?;
+    assert_family(rt.alloc(), &mut kept)
 }

@@ -1,5 +1,5 @@
 //! The record of a process comes with its new backup, to the cluster where that is.
-ghost use Rattle.std.specs.Prelude.{[], IfOk};
+ghost use Rattle.std.specs.Prelude.{◌≡◌, [], IfOk};
 ghost use Rattle.proc_state.specs.Mail.{RiseTo};
 ghost use Rattle.backup_records.specs.Records.{CanBring, CanNote};
 
@@ -27,10 +27,17 @@ fn alone(alloc: Global, rec: BackRec) -> Result<List<BackRec>, NoMemory>
 }
 
 // The record of process 16.
+fn begun(alloc: Global) -> Result<BackRec, NoMemory>
+    ensures { IfOk result (λ rec. RiseTo 0 rec.saved rec.next) }
+{
+    Record::new(alloc, Pid(16), None).told()
+}
+
 fn told(alloc: Global) -> Result<List<BackRec>, NoMemory>
     ensures { IfOk result (λ recs. CanBring recs []) }
 {
-    alone(alloc, Record::new(alloc, Pid(16), None).told()?)
+    let rec = begun(alloc)?;
+    alone(alloc, rec)
 }
 
 // Its new backup in a cluster.
@@ -44,10 +51,17 @@ fn new_backup(alloc: Global, to: ClusterNo) -> Result<What, NoMemory>
     })
 }
 
+fn note_backup(alloc: Global, records: &mut Records, to: ClusterNo) -> Result<(), NoMemory>
+    requires { records.old ≡ [] }
+{
+    let what = new_backup(alloc, to)?;
+    records.note(ClusterNo(1), &what)
+}
+
 // The records that cluster 1 has after it, and whether that of process 16 is one.
 fn kept(alloc: Global, to: ClusterNo) -> Result<(usize, bool), NoMemory> {
     let mut records = Records::none(alloc);
-    records.note(ClusterNo(1), &new_backup(alloc, to)?)?;
+    note_backup(alloc, &mut records, to)?;
     Ok((records.len(), records.get(Pid(16)).is_some()))
 }
 

@@ -70,64 +70,60 @@ fn told_of(post: &Post) -> (By, Shown) {
     (post.by, told)
 }
 
-fn one_shown(posts: &[Post]) -> Option<(By, Shown)> {
-    match posts {
-        [one] => Some(told_of(one)),
-        _ => None,
-    }
-}
+// What one post is told by, or two; or nothing, where there are none or more.
+type Sent = [Option<(By, Shown)>; 2];
 
-fn two_shown(posts: &[Post]) -> Option<[(By, Shown); 2]> {
+fn sent_of(posts: &[Post]) -> Sent {
     match posts {
-        [first, second] => Some([told_of(first), told_of(second)]),
-        _ => None,
+        [one] => [Some(told_of(one)), None],
+        [first, second] => [Some(told_of(first)), Some(told_of(second))],
+        _ => [None, None],
     }
 }
 
 const BY: By = By::Cluster(ClusterNo(1));
 
-// What it sends at its start.
-fn sent_at_start(alloc: Global) -> Result<Option<(By, Shown)>, NoMemory> {
-    let mut p = begun(alloc)?;
-    let posts = fresh(alloc, &mut p, ClusterNo(0), ClusterNo(1))?;
-    Ok(one_shown(posts.as_slice()))
+fn sent(alloc: Global, p: &mut Process, to: ClusterNo) -> Result<Sent, NoMemory> {
+    let posts = fresh(alloc, p, to, ClusterNo(1))?;
+    Ok(sent_of(posts.as_slice()))
+}
+
+static AT_START: Sent = [
+    Some((BY, Shown::Backup(0, true, 1, Some((16, Some(0), 0, 0))))),
+    None,
+];
+
+fn assert_start(alloc: Global, p: &mut Process) -> Result<(), Fail> {
+    same("the post", &sent(alloc, p, ClusterNo(0))?, &AT_START)
 }
 
 #[test]
 fn a_process_without_changed_pages_sends_one_post(rt: HostRuntime) -> Result<(), Fail> {
-    same(
-        "the post",
-        &sent_at_start(rt.alloc())?,
-        &Some((BY, Shown::Backup(0, true, 1, Some((16, Some(0), 0, 0))))),
-    )
+    let mut p = begun(rt.alloc())?;
+    assert_start(rt.alloc(), &mut p)
 }
 
-// What it sends, and then again, and the letters that it has then.
-type Sent = (Option<[(By, Shown); 2]>, Option<(By, Shown)>, usize);
+static CHANGED: Sent = [
+    Some((BY, Shown::Page(1, 7))),
+    Some((BY, Shown::Backup(0, true, 1, Some((16, Some(0), 1, 1))))),
+];
 
-fn sent_twice(alloc: Global) -> Result<Sent, NoMemory> {
-    let mut p = written(alloc)?;
-    let posts = fresh(alloc, &mut p, ClusterNo(0), ClusterNo(1))?;
-    let first = two_shown(posts.as_slice());
-    let again = fresh(alloc, &mut p, ClusterNo(2), ClusterNo(1))?;
-    Ok((first, one_shown(again.as_slice()), p.mail.len()))
+static AGAIN: Sent = [
+    Some((BY, Shown::Backup(2, true, 1, Some((16, Some(0), 1, 1))))),
+    None,
+];
+
+// What it sends, and then again, and the letters that it has then.
+fn assert_twice(alloc: Global, p: &mut Process) -> Result<(), Fail> {
+    same("the posts", &sent(alloc, p, ClusterNo(0))?, &CHANGED)?;
+    same("the next ones", &sent(alloc, p, ClusterNo(2))?, &AGAIN)?;
+    same("how many letters it has", &p.mail.len(), &1)
 }
 
 #[test]
 fn it_sends_its_changed_page_once_and_keeps_its_letter(rt: HostRuntime) -> Result<(), Fail> {
-    let record = Some((16, Some(0), 1, 1));
-    same(
-        "its posts",
-        &sent_twice(rt.alloc())?,
-        &(
-            Some([
-                (BY, Shown::Page(1, 7)),
-                (BY, Shown::Backup(0, true, 1, record)),
-            ]),
-            Some((BY, Shown::Backup(2, true, 1, record))),
-            1,
-        ),
-    )
+    let mut p = written(rt.alloc())?;
+    assert_twice(rt.alloc(), &mut p)
 }
 
 // The records of a process, which has a state, and of its child.

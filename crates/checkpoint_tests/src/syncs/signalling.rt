@@ -16,7 +16,7 @@ use t32_base::streams::NoMemory;
 use test_asserts::same;
 
 // li a7, 9 / ecall / j .
-const RETURNER: [u8; 12] = [147, 8, 144, 0, 115, 0, 0, 0, 111, 0, 0, 0];
+static RETURNER: [u8; 12] = [147, 8, 144, 0, 115, 0, 0, 0, 111, 0, 0, 0];
 
 // A letter arrives for an end of process 16.
 fn arrive(p: &mut Process, end: u8, body: Body) -> Result<(), NoMemory>
@@ -49,18 +49,14 @@ fn signalled(alloc: Global, handler: u32) -> Result<Process, NoMemory> {
     Ok(p)
 }
 
-// What a batch says at its end: the signal, the numbers of the letters that were read, and of the state the status, a0, the
+// What a batch says at its end: the signal, how many letters were read and the number of the last, and of the state the status, a0, the
 // pc and the pc that was kept.
-#[derive(Clone, Copy, PartialEq, Debug)]
-struct LastPost {
-    took: Option<u8>,
-    reads: usize,
-    last: Option<u64>,
-    status: Status,
-    a0: u32,
-    pc: u32,
-    kept: Option<u32>,
-}
+type LastPost = (
+    Option<u8>,
+    (usize, Option<u64>),
+    Status,
+    (u32, u32, Option<u32>),
+);
 
 fn last_number(numbers: &[u64]) -> Option<u64> {
     Some(*numbers.last()?)
@@ -73,6 +69,10 @@ fn kept(small: &Small) -> Option<u32> {
     }
 }
 
+fn state(small: &Small) -> (u32, u32, Option<u32>) {
+    (small.regs.x[10], small.regs.pc, kept(small))
+}
+
 fn told(posts: &[Post]) -> Option<LastPost> {
     match &posts.last()?.what {
         What::Sync {
@@ -80,96 +80,76 @@ fn told(posts: &[Post]) -> Option<LastPost> {
             read,
             took,
             ..
-        } => Some(LastPost {
-            took: *took,
-            reads: read.len(),
-            last: last_number(read.as_slice()),
-            status: small.get().status,
-            a0: small.get().regs.x[10],
-            pc: small.get().regs.pc,
-            kept: kept(small.get()),
-        }),
+        } => {
+            let small = small.get();
+            let read = read.as_slice();
+            let reads = (read.len(), last_number(read));
+            Some((*took, reads, small.status, state(small)))
+        }
         _ => None,
     }
 }
 
 // What it synchronises by, and the letters that are left.
-type Sent = (Option<LastPost>, usize);
-
-fn synced(alloc: Global, p: &mut Process) -> Result<Sent, NoMemory> {
+fn synced(alloc: Global, p: &mut Process) -> Result<(Option<LastPost>, usize), NoMemory> {
     let posts = build(alloc, p, ClusterNo(1))?;
     Ok((told(posts.as_slice()), p.mail.len()))
 }
 
-// Twice in turn.
-fn synced_twice(alloc: Global, handler: u32) -> Result<[Sent; 2], NoMemory> {
-    let mut p = signalled(alloc, handler)?;
-    let first = synced(alloc, &mut p)?;
-    let second = synced(alloc, &mut p)?;
-    Ok([first, second])
+// Twice in turn: the next has the same state, and takes nothing.
+fn assert_twice(alloc: Global, p: &mut Process, told: &LastPost) -> Result<(), Fail> {
+    same("the first", &synced(alloc, p)?, &(Some(*told), 2))?;
+    let again = (None, (0, None), told.2, told.3);
+    same("the second", &synced(alloc, p)?, &(Some(again), 2))
 }
 
-const HANDLED: LastPost = LastPost {
-    took: Some(11),
-    reads: 1,
-    last: Some(1),
-    status: Status::Live,
-    a0: 11,
-    pc: 65600,
-    kept: Some(65536),
-};
+static HANDLED: LastPost = (
+    Some(11),
+    (1, Some(1)),
+    Status::Live,
+    (11, 65600, Some(65536)),
+);
 
-const CLOSED: LastPost = LastPost {
-    took: Some(11),
-    reads: 1,
-    last: Some(1),
-    status: Status::Closing(End::Killed(11)),
-    a0: 0,
-    pc: 65536,
-    kept: None,
-};
-
-// The next has the same state, and takes nothing.
-fn again(told: LastPost) -> LastPost {
-    LastPost {
-        took: None,
-        reads: 0,
-        last: None,
-        ..told
-    }
-}
+static CLOSED: LastPost = (
+    Some(11),
+    (1, Some(1)),
+    Status::Closing(End::Killed(11)),
+    (0, 65536, None),
+);
 
 #[test]
 fn a_handler_runs_by_the_first_signal(rt: HostRuntime) -> Result<(), Fail> {
-    same(
-        "twice",
-        &synced_twice(rt.alloc(), 65600)?,
-        &[(Some(HANDLED), 2), (Some(again(HANDLED)), 2)],
-    )
+    let mut p = signalled(rt.alloc(), 65600)?;
+    assert_twice(rt.alloc(), &mut p, &HANDLED)
 }
 
 #[test]
 fn a_process_without_a_handler_closes(rt: HostRuntime) -> Result<(), Fail> {
-    same(
-        "twice",
-        &synced_twice(rt.alloc(), 0)?,
-        &[(Some(CLOSED), 2), (Some(again(CLOSED)), 2)],
-    )
+    let mut p = signalled(rt.alloc(), 0)?;
+    assert_twice(rt.alloc(), &mut p, &CLOSED)
+}
+
+// With signals or without.
+fn process(alloc: Global, signals: bool) -> Result<Process, NoMemory> {
+    if signals {
+        signalled(alloc, 0)
+    } else {
+        begun(alloc, 0)
+    }
+}
+
+// Whether a signal may be taken, where nothing is left and where something is.
+fn takes(alloc: Global, signals: bool) -> Result<[bool; 2], NoMemory> {
+    let p = process(alloc, signals)?;
+    Ok([may_take(&p, false), may_take(&p, true)])
 }
 
 #[test]
 fn a_signal_is_taken_where_nothing_is_left(rt: HostRuntime) -> Result<(), Fail> {
-    let can = signalled(rt.alloc(), 0)?;
-    let cannot = begun(rt.alloc(), 0)?;
     same(
-        "with a signal and without, by what is left",
-        &[
-            may_take(&can, false),
-            may_take(&can, true),
-            may_take(&cannot, false),
-            may_take(&cannot, true),
-        ],
-        &[true, false, false, false],
+        "with a signal and without",
+        &[takes(rt.alloc(), true)?, takes(rt.alloc(), false)?],
+        &[[true, false], [false, false]],
     )
 }
 
@@ -192,20 +172,26 @@ fn handling(p: &mut Process) {
     p.small.frame = Some(Regs::new(65536));
 }
 
+// Whether signals wait and a handler runs; what a quantum makes.
+fn quantum(alloc: Global, signals: bool, handler: bool) -> Result<(bool, u64), NoMemory> {
+    let mut p = process(alloc, signals)?;
+    if handler {
+        handling(&mut p);
+    }
+    moved(alloc, &mut p, 1)
+}
+
+// At once, by the handler's return, at the end of the quantum.
+static QUANTA: [(bool, bool, (bool, u64)); 3] = [
+    (true, false, (true, 0)),
+    (true, true, (true, 2)),
+    (false, true, (true, 63)),
+];
+
 #[test]
 fn a_quantum_ends_where_a_signal_can_be_taken(rt: HostRuntime) -> Result<(), Fail> {
-    let mut waits = signalled(rt.alloc(), 0)?;
-    let mut waits_for_handler = signalled(rt.alloc(), 0)?;
-    handling(&mut waits_for_handler);
-    let mut none_waits = begun(rt.alloc(), 0)?;
-    handling(&mut none_waits);
-    same(
-        "at once, by the handler's return, at the end of the quantum",
-        &[
-            moved(rt.alloc(), &mut waits, 1)?,
-            moved(rt.alloc(), &mut waits_for_handler, 1)?,
-            moved(rt.alloc(), &mut none_waits, 1)?,
-        ],
-        &[(true, 0), (true, 2), (true, 63)],
-    )
+    for row in &QUANTA {
+        same("a quantum", &quantum(rt.alloc(), row.0, row.1)?, &row.2)?;
+    }
+    Ok(())
 }

@@ -1,6 +1,5 @@
 //! A process of three pages that has changed two of them and read two letters by ten steps.
-ghost use Rattle.std.specs.Prelude.{◌≡◌, ◌<◌, ◌+◌, OnOk};
-
+use crate::syncs::reader::begun;
 use bus_msg::entry::{By, Post, What};
 use proc_state::process::Process;
 use rv_mem::Ram;
@@ -9,41 +8,9 @@ use std::test::Fail;
 use sync_point::batch::build;
 use sync_point::due::due;
 use sys_calls::stepping::run_on;
-use t32_base::letter::{Body, Letter, To};
-use t32_base::process::{ClusterNo, Pid};
-use t32_base::shared_bytes::SharedBytes;
+use t32_base::process::ClusterNo;
 use t32_base::streams::NoMemory;
 use test_asserts::same;
-
-// lui a1, 16 / addi a1, a1, 512 / li a7, 3 / li a2, 2 / li a0, 2 / ecall / li a0, 1 / ecall / sw a0, -256(a1) / li a0, 1 /
-// ecall
-const READER: [u8; 44] = [
-    183, 5, 1, 0, 147, 133, 5, 32, 147, 8, 48, 0, 19, 6, 32, 0, 19, 5, 32, 0, 115, 0, 0, 0, 19, 5,
-    16, 0, 115, 0, 0, 0, 35, 160, 165, 240, 19, 5, 16, 0, 115, 0, 0, 0,
-];
-
-// Bytes arrive for an end of process 16.
-fn arrive(alloc: Global, p: &mut Process, end: u8, bytes: &[u8]) -> Result<(), NoMemory>
-    requires { p.old.mail.next < 100 }
-    ensures { OnOk result (p.new.mail.next ≡ p.old.mail.next + 1) }
-{
-    p.deliver(Letter {
-        from: Pid(17),
-        out: 1,
-        to: To::Proc(Pid(16), end),
-        body: Body::Said(SharedBytes::copy_of(alloc, bytes)?),
-    })
-}
-
-// Ends 1 and 2 are linked, and a letter has come for each.
-fn begun(alloc: Global) -> Result<Process, NoMemory> {
-    let mut p = Process::root(alloc, Pid(16), 0x10000, 3, &READER, 1000, 0, 0)?;
-    arrive(alloc, &mut p, 1, b"a\n")?;
-    arrive(alloc, &mut p, 2, b"b\n")?;
-    p.link(Pid(17), 1);
-    p.link(Pid(17), 2);
-    Ok(p)
-}
 
 // It has read the letter of end 2 and then that of end 1, and waits for a third.
 fn waiting(alloc: Global) -> Result<Process, NoMemory> {
@@ -126,11 +93,16 @@ const BATCH: Option<[(By, (u32, Shown)); 3]> = Some([
     (BY, (16, Shown::Sync(10, Some((1, 0)), None))),
 ]);
 
+fn assert_batch(alloc: Global, p: &mut Process) -> Result<(), Fail> {
+    let posts = build(alloc, p, ClusterNo(1))?;
+    let batch = BATCH;
+    same("the posts", &each_told(posts.as_slice()), &batch)
+}
+
 #[test]
 fn a_batch_has_the_changed_pages_and_then_the_state(rt: HostRuntime) -> Result<(), Fail> {
     let mut p = waiting(rt.alloc())?;
-    let posts = build(rt.alloc(), &mut p, ClusterNo(1))?;
-    same("the posts", &each_told(posts.as_slice()), &BATCH)
+    assert_batch(rt.alloc(), &mut p)
 }
 
 // Whether a page is marked.
@@ -151,14 +123,13 @@ fn after(alloc: Global, p: &mut Process) -> Result<After, NoMemory> {
     Ok((is_marked(&p.ram), p.read.len(), p.since, posts.len()))
 }
 
+fn assert_twice(alloc: Global, p: &mut Process) -> Result<(), Fail> {
+    same("after the first", &after(alloc, p)?, &(false, 0, 10, 3))?;
+    same("after the second", &after(alloc, p)?, &(false, 0, 10, 1))
+}
+
 #[test]
 fn a_process_that_synchronised_has_nothing_to_send(rt: HostRuntime) -> Result<(), Fail> {
     let mut p = waiting(rt.alloc())?;
-    let first = after(rt.alloc(), &mut p)?;
-    let second = after(rt.alloc(), &mut p)?;
-    same(
-        "after each",
-        &(first, second),
-        &((false, 0, 10, 3), (false, 0, 10, 1)),
-    )
+    assert_twice(rt.alloc(), &mut p)
 }

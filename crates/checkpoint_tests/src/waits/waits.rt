@@ -124,24 +124,29 @@ fn letters(rolling: &Rolling) -> (usize, u64) {
 }
 
 // It gets its pages, and a signal before and after them.
+fn get_all(waiting: &mut Waiting) -> Result<(), NoMemory> {
+    signal_comes(waiting, 10)?;
+    four_come(waiting);
+    signal_comes(waiting, 11)
+}
+
 fn got_all(alloc: Global) -> Result<Option<Rolling>, NoMemory> {
     let mut waiting = three_pages(alloc)?;
-    signal_comes(&mut waiting, 10)?;
-    four_come(&mut waiting);
-    signal_comes(&mut waiting, 11)?;
+    get_all(&mut waiting)?;
     Ok(rolls(alloc, waiting))
+}
+
+fn assert_whole(rolling: &Rolling) -> Result<(), Fail> {
+    same("the pages", &first_bytes(rolling)?, &[7, 6, 5])?;
+    same("the letters", &letters(rolling), &(2, 2))
 }
 
 #[test]
 fn it_has_its_pages_and_the_letters_that_came_meanwhile(rt: HostRuntime) -> Result<(), Fail> {
-    let Some(rolling) = got_all(rt.alloc())? else {
-        return Err("not all pages came".into());
-    };
-    same(
-        "the pages and the letters",
-        &(first_bytes(&rolling)?, letters(&rolling)),
-        &([7, 6, 5], (2, 2)),
-    )
+    match got_all(rt.alloc())? {
+        Some(rolling) => assert_whole(&rolling),
+        None => Err("not all pages came".into()),
+    }
 }
 
 // A line that process 16 wrote to its terminal.

@@ -30,7 +30,7 @@ use Rattle.residents.specs.Held.{Held, Runs, Waits, held_of}
 use Rattle.cluster_core.specs.Parts.{AllOwn}
 use Rattle.cluster_core.specs.Recovered.{moved_by, CanWait, with_all_waiting}
 use Rattle.cluster_core.specs.Follows.{FollowsBuilt, IsOpen, StandsBetween}
-use Rattle.cluster_core.specs.Queue.{AreTogether, IsQueued, Queued, Nothing, One, falls, is_lone, left_queued, posts_of}
+use Rattle.cluster_core.specs.Queue.{AreTogether, IsQueued, Queued, Nothing, One, falls, is_lone, is_rebackup, left_queued, posts_of}
 use Rattle.cluster_core.specs.Syncing.{Synchronises}
 use Rattle.cluster_core.specs.Calls.{Absorbs, IsReady, ReadyFor, absorbed, with_entry, here_after}
 use Rattle.cluster_core.proofs.absorbing.ByKind.{IsLoss, OneOf, by_kind, by_page, by_sync, is_of_page, is_of_sync}
@@ -47,11 +47,14 @@ use Rattle.cluster_core.proofs.here.Owning.{own_after, own_later, own_page}
 use Rattle.cluster_core.proofs.absorbing.Following.{Left, apart, follows_foreign, follows_own, found_stays, left_of, next_of, told_taken}
 use Rattle.cluster_core.proofs.here.Beside.{FollowsBeside, all_of, beside_of, built_of}
 use Rattle.cluster_core.proofs.absorbing.AfterSent.{sent_is}
-use Rattle.cluster_core.proofs.absorbing.Fallen.{IsComing, NoneFalls, batch_left, empty_falls_none, fallen_comes, left_falls_none, own_left}
+use Rattle.cluster_core.proofs.absorbing.Fallen.{IsComing, NoneFalls, batch_left, empty_falls_none, fallen_comes, handed_is, left_falls_none, own_left}
 use Rattle.cluster_core.proofs.absorbing.Renewed.{follows_renewed, renewal_taken, home_same as home_same_renewed}
 use Rattle.cluster_core.proofs.absorbing.Returned.{follows_returned, return_taken, home_same as home_same_returned}
 use Rattle.cluster_core.proofs.paging.WithoutAnswer.{without_answer}
 use Rattle.cluster_core.specs.Bearing.{BearsChild}
+use Rattle.cluster_core.specs.HandingOn.{HandsOver}
+use Rattle.cluster_core.proofs.handing.OwnStanding.{follows_own_standing}
+use Rattle.cluster_core.proofs.handing.Queued.{hands_left, without_standing}
 use Rattle.cluster_core.proofs.births.BirthQueued.{birth_is, without_birth}
 use Rattle.cluster_core.proofs.births.BirthTaken.{follows_beside_birth, follows_own_birth}
 use Rattle.cluster_core.proofs.births.OwningBirths.{own_born}
@@ -157,10 +160,11 @@ follows_entry c e server valid own order serves left log now later ready = by_re
     unfallen : c.places ≡ placement c.system log → NoneFalls (placement c.system log) (what e) c.queue
     unfallen same = subst (λ before. NoneFalls before (what e) c.queue) same (left_falls_none c.places (what e) c.queue left)
 
-    foreign : (f : FollowsBuilt c.system log c) → is_by_cluster c.number e ≡ false → is_crash_of c.number (what e) ≡ false → IsQueued c.queue ⊎ Synchronises c.system log c ⊎ BearsChild c.system log c → FollowsBuilt c.system (log ++ e ∷ []) (with_server server (with_entry c e))
+    foreign : (f : FollowsBuilt c.system log c) → is_by_cluster c.number e ≡ false → is_crash_of c.number (what e) ≡ false → IsQueued c.queue ⊎ Synchronises c.system log c ⊎ BearsChild c.system log c ⊎ HandsOver c → FollowsBuilt c.system (log ++ e ∷ []) (with_server server (with_entry c e))
     foreign f other spared (inl alone) =
         built_of c.system (log ++ e ∷ []) (with_server server (with_entry c e)) (beside_next all_of c log e server valid own order now later (serves_there (f.log).places) (beside_of c.system log c f alone) other spared (unfallen (f.log).places))
-    foreign f other spared (inr (inr b)) =
+    foreign f other spared (inr (inr (inr h))) = let none : ◌≡◌ {A = List Post} [] (h.post ∷ []) = sym (hands_left c.places (what e) c h) ∙ left ∙ h.posts in cc
+    foreign f other spared (inr (inr (inl b))) =
         follows_beside_birth c log e b valid now later f other spared server
         (beside_next all_of (unqueued c) log e server valid own order now later (serves_there (f.log).places) (without_birth c.system log c b valid now f) other spared (empty_falls_none (placement c.system log) (what e)))
         (same_home c log e b.pid b.process b.there valid now later f other spared order) (stays c log e b.pid b.process b.there valid now later f other spared order)
@@ -183,9 +187,10 @@ follows_entry c e server valid own order serves left log now later ready = by_re
     sent s l (inr (inr (inr (inr (inr (inl y)))))) = absurd (true≢false (sym l.lone ∙ ap is_lone y.same))
     sent s l (inr (inr (inr (inr (inr (inr y)))))) = absurd (true≢false (sym l.lone ∙ ap is_lone y.same))
 
-    own_post : (s : StandsBetween FollowsBuilt c.system log e c) → IsQueued (s.before).queue ⊎ Synchronises c.system log s.before ⊎ BearsChild c.system log s.before → FollowsBuilt c.system (log ++ e ∷ []) (with_server server (with_entry c e))
+    own_post : (s : StandsBetween FollowsBuilt c.system log e c) → IsQueued (s.before).queue ⊎ Synchronises c.system log s.before ⊎ BearsChild c.system log s.before ⊎ HandsOver s.before → FollowsBuilt c.system (log ++ e ∷ []) (with_server server (with_entry c e))
     own_post s (inl alone) = sent s (left_of c log e s alone) (one_of c.system log e later)
-    own_post s (inr (inr b)) = follows_own_birth c log e server valid own now later s b (serves_there (ap (λ (d : ClusterView). d.places) (s.sent ∙ sent_is s.before (s.before).queue) ∙ ((s.followed).log).places))
+    own_post s (inr (inr (inr h))) = follows_own_standing c log e server valid own now later s h (serves_there (ap (λ (d : ClusterView). d.places) (s.sent ∙ sent_is s.before (s.before).queue) ∙ ((s.followed).log).places))
+    own_post s (inr (inr (inl b))) = follows_own_birth c log e server valid own now later s b (serves_there (ap (λ (d : ClusterView). d.places) (s.sent ∙ sent_is s.before (s.before).queue) ∙ ((s.followed).log).places))
     own_post s (inr (inl y)) = follows_own_batch c log e server valid own now later s y serves_log
       where
         serves_log : Serves (placement c.system log) e c.server server
@@ -204,6 +209,15 @@ follows_fallen : (c : ClusterView) (log : List Entry) (e : Entry) (server : Opti
 follows_fallen c log e server post posts kind valid own order serves now later f other spared =
     built_of c.system (log ++ e ∷ []) (with_server server (with_entry (unqueued c) e))
     (beside_next all_of (unqueued c) log e server valid own order now later (subst (λ before. Serves before e c.server server) (f.log).places serves) (without_answer c.system log c post posts kind valid now f) other spared
+    (empty_falls_none (placement c.system log) (what e)))
+
+-- so it is where that post is the new backup of a family
+follows_unhanded : (c : ClusterView) (log : List Entry) (e : Entry) (server : Option PagerState) → HandsOver c → is_system c.system ≡ true → AllOwn c.cursor c.here
+    → are_rising (moved_by c.places c.number (what e) (records_after c.number (what e) c.records)) ≡ true → Serves c.places e c.server server → IsOpen MayStand c.system log → IsOpen MayStand c.system (log ++ e ∷ [])
+    → FollowsBuilt c.system log c → is_by_cluster c.number e ≡ false → is_crash_of c.number (what e) ≡ false → FollowsBuilt c.system (log ++ e ∷ []) (with_server server (with_entry (unqueued c) e))
+follows_unhanded c log e server h valid own order serves now later f other spared =
+    built_of c.system (log ++ e ∷ []) (with_server server (with_entry (unqueued c) e))
+    (beside_next all_of (unqueued c) log e server valid own order now later (subst (λ before. Serves before e c.server server) (f.log).places serves) (without_standing c.system log c h f) other spared
     (empty_falls_none (placement c.system log) (what e)))
 
 -- a cluster that takes in an entry for which it is ready
@@ -230,9 +244,11 @@ absorbs c e server valid own order serves log now later ready = by_ready ready
             subst (λ ps. FollowsBuilt c.system (log ++ e ∷ []) (queued ps)) (sym (left ∙ ap (λ b. cond b [] (post ∷ [])) is))
             (follows_fallen c log e server post posts (fallen_comes c.places (what e) post.what together is) valid own order serves now later f other spared)
 
-    foreign : (f : FollowsBuilt c.system log c) → is_by_cluster c.number e ≡ false → is_crash_of c.number (what e) ≡ false → IsQueued c.queue ⊎ Synchronises c.system log c ⊎ BearsChild c.system log c → FollowsBuilt c.system (log ++ e ∷ []) (with_server server (absorbed c e))
+    foreign : (f : FollowsBuilt c.system log c) → is_by_cluster c.number e ≡ false → is_crash_of c.number (what e) ≡ false → IsQueued c.queue ⊎ Synchronises c.system log c ⊎ BearsChild c.system log c ⊎ HandsOver c → FollowsBuilt c.system (log ++ e ∷ []) (with_server server (absorbed c e))
     foreign f other spared (inl alone) = by_post f other spared alone.queued alone.posts alone.together
-    foreign f other spared (inr (inr b)) = whole (ap (left_queued c.places (what e)) b.posts ∙ sym b.posts)
+    foreign f other spared (inr (inr (inr h))) =
+        subst (λ ps. FollowsBuilt c.system (log ++ e ∷ []) (queued ps)) (sym (hands_left c.places (what e) c h)) (follows_unhanded c log e server h valid own order serves now later f other spared)
+    foreign f other spared (inr (inr (inl b))) = whole (ap (left_queued c.places (what e)) b.posts ∙ sym b.posts)
     foreign f other spared (inr (inl y)) = whole (ap (left_queued c.places (what e)) y.posts ∙ batch_left c.places (what e) c.number y.pid (state_of y.process) y.read y.took y.indices ∙ sym y.posts)
 
     by_ready : IsReady log e c → FollowsBuilt c.system (log ++ e ∷ []) (with_server server (absorbed c e))
@@ -285,7 +301,7 @@ may_come c e valid r = by_loss (one_of c.system r.log e r.open_next)
     by_ready p i bytes is (inl f) h there = came c.queue p i bytes is (home p h ((f.0).processes).each_once there) h (((f.0).processes).held p h there)
     by_ready p i bytes is (inr s) h there = by_queue (s.followed).queued
       where
-        by_queue : IsQueued (s.before).queue ⊎ Synchronises c.system r.log s.before ⊎ BearsChild c.system r.log s.before → CanComeTo i bytes h
+        by_queue : IsQueued (s.before).queue ⊎ Synchronises c.system r.log s.before ⊎ BearsChild c.system r.log s.before ⊎ HandsOver s.before → CanComeTo i bytes h
         by_queue (inl alone) =
             let l = left_of c r.log e s alone in
             let here : (l.before).here ≡ c.here = sym (ap (λ (d : ClusterView). d.here) l.same) in
@@ -293,7 +309,8 @@ may_come c e valid r = by_loss (one_of c.system r.log e r.open_next)
             let once = ap (λ hs. rising (pids_in hs)) (sym here) ∙ ((l.followed).processes).each_once ∙ ap (λ k. rising (home_pids c.system r.log k)) number in
             came (l.before).queue p i bytes is (home p h once there) h (((l.followed).processes).held p h (ap (λ hs. held_of hs p) here ∙ there))
         by_queue (inr (inl y)) = absurd (true≢false (sym (batch_head c.system r.log e s.before y s.head) ∙ ap is_of_sync is))
-        by_queue (inr (inr b)) = absurd (true≢false (sym (ap is_of_page is) ∙ ap is_of_page (birth_is c.system r.log e s.before b s.head)))
+        by_queue (inr (inr (inr y))) = absurd (true≢false (sym (ap is_rebackup (handed_is c.system r.log e s.before y s.head)) ∙ ap is_rebackup is))
+        by_queue (inr (inr (inl b))) = absurd (true≢false (sym (ap is_of_page is) ∙ ap is_of_page (birth_is c.system r.log e s.before b s.head)))
 
     page : (w : What) → is_of_page w ≡ true → what e ≡ w → CanCome w c.here
     page = by_page (λ w. what e ≡ w → CanCome w c.here) (λ pid index is. tt) (λ pid index bytes is. by_ready pid index bytes is r.ready)

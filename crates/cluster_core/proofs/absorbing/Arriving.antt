@@ -32,6 +32,8 @@ use Rattle.residents.specs.Held.{Held, arrived_held, held_of}
 use Rattle.cluster_core.specs.Queue.{IsQueued}
 use Rattle.cluster_core.specs.Syncing.{Synchronises}
 use Rattle.cluster_core.specs.Bearing.{BearsChild}
+use Rattle.cluster_core.specs.HandingOn.{HandsOver}
+use Rattle.cluster_core.proofs.absorbing.Fallen.{handed_is}
 use Rattle.cluster_core.proofs.births.BirthQueued.{birth_is}
 use Rattle.cluster_core.proofs.syncs.Batching.{batch_head}
 use Rattle.cluster_core.proofs.absorbing.Following.{Next, left_of, next_of}
@@ -102,13 +104,14 @@ comes_here c e valid r = by_loss (kind_is (what e) (IsLegal-last MayStand c.syst
     by_case n (inl f) = comes_of c.system r.log e c.number c.here valid n ((f.0).processes).each_once
     by_case n (inr s) = by_queue (s.followed).queued
       where
-        by_queue : IsQueued (s.before).queue ⊎ Synchronises c.system r.log s.before ⊎ BearsChild c.system r.log s.before → ComesHere c.number e c.here
+        by_queue : IsQueued (s.before).queue ⊎ Synchronises c.system r.log s.before ⊎ BearsChild c.system r.log s.before ⊎ HandsOver s.before → ComesHere c.number e c.here
         by_queue (inl alone) =
             let l = left_of c r.log e s alone in
             let here_is : (l.before).here ≡ c.here = sym (ap (λ (d : ClusterView). d.here) l.same) in
             let number : (l.before).number ≡ c.number = sym (ap (λ (d : ClusterView). d.number) l.same) in
             comes_of c.system r.log e c.number c.here valid n (ap (λ hs. rising (pids_in hs)) (sym here_is) ∙ ((l.followed).processes).each_once ∙ ap (λ k. rising (home_pids c.system r.log k)) number)
-        by_queue (inr (inr b)) = absurd (true≢false (sym (n.may).built ∙ ap tells_or_closes (birth_is c.system r.log e s.before b s.head)))
+        by_queue (inr (inr (inr h))) = absurd (true≢false (sym (n.may).built ∙ ap tells_or_closes (handed_is c.system r.log e s.before h s.head)))
+        by_queue (inr (inr (inl b))) = absurd (true≢false (sym (n.may).built ∙ ap tells_or_closes (birth_is c.system r.log e s.before b s.head)))
         by_queue (inr (inl y)) =
             let of = batch_head c.system r.log e s.before y s.head in
             absurd (true≢false (sym (n.may).built ∙ by_sync (λ w. tells_or_closes w ≡ false) (λ pid at index bytes. refl) (λ pid small read took. refl) (what e) of))

@@ -12,8 +12,9 @@ use Rattle.bus_msg.specs.declared.entry.Cause.{Cause}
 use Rattle.sys_text.specs.declared.system.System.{System}
 use Rattle.bus_msg.specs.declared.entry.Entry.{Entry}
 use Rattle.bus_msg.specs.PlacedAfter.{what}
-use Rattle.cert_sched.specs.Built.{is_built, is_unlost, tells_or_closes, TellingMayFollow, UnlostMayFollow}
-use Rattle.cert_sched.proofs.UnlostLaws.{telling_sends_no_page, telling_unlost}
+use Rattle.cert_sched.specs.Built.{is_built, tells_or_closes, TellingMayFollow}
+use Rattle.cluster_core.specs.Sent.{is_sent, SentMayFollow}
+use Rattle.cert_sched.proofs.UnlostLaws.{telling_sends_no_page}
 use Rattle.cluster_core.specs.Queue.{is_lone}
 
 pub by_kind : (P : What → Type 0) → ((at : ℕ) (letter : Letter) → P (Mail at letter)) → ((pid : Pid) (at : ℕ) (end : End) → P (Exit pid at end)) → ((rests : List (Pid × ℕ)) → P (Done rests)) → P Stop → (w : What) → tells_or_closes w ≡ true → P w
@@ -94,12 +95,13 @@ lone_is (Fetch pid index) lone = inr refl
 lone_is (PageIs pid index bytes) lone = inr refl
 lone_is _ lone = absurd (true≢false (sym lone))
 
-pub page_unlost : (w : What) → is_of_page w ≡ true → is_unlost w ≡ true
-page_unlost = by_page (λ w. is_unlost w ≡ true) (λ pid index. refl) (λ pid index bytes. refl)
+-- what tells of steps or closes the log is such as clusters send, or a close
+pub telling_sent : (w : What) → tells_or_closes w ≡ true → is_sent w ≡ true
+telling_sent = by_kind (λ w. is_sent w ≡ true) (λ at letter. refl) (λ pid at end. refl) (λ rests. refl) refl
 
 -- a post that may follow and tells of steps, as one that tells
-pub told_may : (system : System) (log : List Entry) (e : Entry) → UnlostMayFollow system log e → tells_or_closes (what e) ≡ true → TellingMayFollow system log e
+pub told_may : (system : System) (log : List Entry) (e : Entry) → SentMayFollow system log e → tells_or_closes (what e) ≡ true → TellingMayFollow system log e
 told_may system log e may tells = record { stands = may.stands; built = tells; limits = may.limits; pages = may.pages }
 
-pub may_told : (system : System) (log : List Entry) (e : Entry) → TellingMayFollow system log e → UnlostMayFollow system log e
-may_told system log e may = record { stands = may.stands; built = telling_unlost (what e) may.built; limits = may.limits; new_page = telling_sends_no_page system log (what e) may.built; pages = may.pages }
+pub may_told : (system : System) (log : List Entry) (e : Entry) → TellingMayFollow system log e → SentMayFollow system log e
+may_told system log e may = record { stands = may.stands; built = telling_sent (what e) may.built; limits = may.limits; new_page = telling_sends_no_page system log (what e) may.built; pages = may.pages }

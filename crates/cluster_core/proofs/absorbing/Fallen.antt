@@ -1,14 +1,14 @@
 -- What an entry leaves of a queue: a page that comes falls at the loss that moves its process, and nothing else that is queued so far falls.
-use Rattle.std.proofs.Common.{◌≡◌, ℕ, zero, suc, ◌+◌, arith, length, refl, sym, ◌∙◌, ap, List, [], ◌∷◌, ◌++◌, Bool, true, false, cond, Option, Some, None, true≢false}
+use Rattle.std.proofs.Common.{◌≡◌, ℕ, zero, suc, ◌+◌, arith, length, refl, sym, ◌∙◌, ap, List, [], ◌∷◌, ◌++◌, Bool, true, false, cond, not, ◌&&◌, Option, Some, None, true≢false, ◌⊎◌, inl, inr}
 use Rattle.std.specs.Prelude.{option_map, slice_index_or}
 use Rattle.std.specs.List.{list_all}
 use Rattle.std.specs.Option.{option_map_or}
-use Rattle.std.proofs.lemmas.Bool.{and_from, and_parts}
+use Rattle.std.proofs.lemmas.Bool.{and_from, and_parts, not-true}
 use Rattle.std.proofs.lemmas.Option.{same_Some}
 use Rattle.t32_base.specs.declared.process.Pid.{Pid}
 use Rattle.t32_base.specs.declared.process.ClusterNo.{ClusterNo}
 use Rattle.sys_text.specs.declared.system.System.{System}
-use Rattle.proc_state.specs.State.{ProcState}
+use Rattle.proc_state.specs.State.{ProcState, state_of}
 use Rattle.bus_msg.specs.declared.entry.What.{What}
 use Rattle.bus_msg.specs.declared.entry.What.TheVariants.{PageIs, Crash, Rebackup}
 use Rattle.bus_msg.specs.declared.entry.Post.{Post}
@@ -16,11 +16,14 @@ use Rattle.bus_msg.specs.declared.entry.Entry.{Entry}
 use Rattle.bus_msg.specs.Places.{Places}
 use Rattle.bus_msg.specs.PlacedAfter.{what}
 use Rattle.cert_sched.specs.Appended.{entry_of}
-use Rattle.cert_sched.specs.Built.{UnlostMayFollow, is_unlost}
+use Rattle.cluster_core.specs.Sent.{SentMayFollow, is_sent}
 use Rattle.cert_sched.specs.Told.{cluster_lost}
 use Rattle.checkpoint_laws.specs.batches.Underway.{page_left, posts_left}
 use Rattle.cluster_core.specs.Follows.{FollowsBuilt, StandsBetween}
-use Rattle.cluster_core.specs.Queue.{IsQueueLegal, falls, is_lone, is_moved_from, left_queued}
+use Rattle.cluster_core.specs.Queue.{AreTogether, IsQueued, IsQueueLegal, Nothing, One, Queued, falls, is_lone, is_moved_from, is_rebackup, left_queued, posts_of}
+use Rattle.cluster_core.specs.Bearing.{BearsChild}
+use Rattle.cluster_core.specs.HandingOn.{HandsOver}
+use Rattle.cluster_core.specs.Syncing.{Synchronises}
 use Rattle.cluster_core.specs.View.{ClusterView, after_sent, head_of}
 use Rattle.cluster_core.proofs.absorbing.ByKind.{by_page, is_of_page}
 
@@ -70,16 +73,21 @@ left_all t before w (post ∷ next ∷ rest) all =
 pub page_stays_queued : (before : Places) (w queued : What) → is_of_page queued ≡ true → cluster_lost w ≡ None → falls before w queued ≡ false
 page_stays_queued before w queued of none = by_page (λ x. falls before w x ≡ false) (λ pid index. refl) (λ pid index bytes. ap (λ o. option_map_or (is_moved_from before pid) o false) none) queued of
 
-unlost_stays : (before : Places) (w queued : What) → is_unlost queued ≡ true → cluster_lost w ≡ None → falls before w queued ≡ false
-unlost_stays before w (Rebackup to fresh recs) unlost none = absurd (true≢false (sym unlost))
-unlost_stays before w (PageIs pid index bytes) unlost none = ap (λ o. option_map_or (is_moved_from before pid) o false) none
-unlost_stays before w _ unlost none = refl
+plain_stays : (before : Places) (w queued : What) → is_rebackup queued ≡ false → cluster_lost w ≡ None → falls before w queued ≡ false
+plain_stays before w (Rebackup to fresh recs) plain none = absurd (true≢false plain)
+plain_stays before w (PageIs pid index bytes) plain none = ap (λ o. option_map_or (is_moved_from before pid) o false) none
+plain_stays before w _ plain none = refl
 
--- nor anything else that is legal without a loss
-pub legal_left : (system : System) (before : Places) (w : What) (log : List Entry) (queue : List Post) → cluster_lost w ≡ None → IsQueueLegal UnlostMayFollow system log queue → left_queued before w queue ≡ queue
-legal_left system before w log [] none legal = refl
-legal_left system before w log (post ∷ []) none legal = ap (λ b. cond b [] (post ∷ [])) (unlost_stays before w post.what (legal.0).built none)
-legal_left system before w log (post ∷ next ∷ rest) none legal = ap (λ ps. post ∷ ps) (legal_left system before w (log ++ entry_of system log post ∷ []) (next ∷ rest) none legal.1)
+abbrev pub are_plain : List Post → Bool
+are_plain queue = list_all (λ (post : Post). not (is_rebackup post.what)) queue
+
+-- nor anything else that is no new backup
+pub plain_left : (before : Places) (w : What) (queue : List Post) → cluster_lost w ≡ None → are_plain queue ≡ true → left_queued before w queue ≡ queue
+plain_left before w [] none plain = refl
+plain_left before w (post ∷ []) none plain =
+    ap (λ b. cond b [] (post ∷ [])) (plain_stays before w post.what (not-true (is_rebackup post.what) (and_parts (not (is_rebackup post.what)) true plain).0) none)
+plain_left before w (post ∷ next ∷ rest) none plain =
+    ap (λ ps. post ∷ ps) (plain_left before w (next ∷ rest) none (and_parts (not (is_rebackup post.what)) (are_plain (next ∷ rest)) plain).1)
 
 -- ---- a batch
 
@@ -88,22 +96,63 @@ batch_left before w k p s read took [] = refl
 batch_left before w k p s read took (i ∷ []) = refl
 batch_left before w k p s read took (i ∷ j ∷ indices) = ap (λ ps. page_left k p s i ∷ ps) (batch_left before w k p s read took (j ∷ indices))
 
+-- ---- what is queued together
+
+lone_plain : (w : What) → is_lone w ≡ true → not (is_rebackup w) ≡ true
+lone_plain (Rebackup to fresh recs) lone = absurd (true≢false (sym lone))
+lone_plain _ lone = refl
+
+batch_plain : (k : ClusterNo) (p : Pid) (s : ProcState) (read : List ℕ) (took : Option ℕ) (indices : List ℕ) → are_plain (posts_left k p s read took indices) ≡ true
+batch_plain k p s read took [] = refl
+batch_plain k p s read took (i ∷ indices) = batch_plain k p s read took indices
+
+-- but for the new backup of a family that was moved it is plain
+pub form_plain : (system : System) (log : List Entry) (c : ClusterView) → IsQueued c.queue ⊎ Synchronises system log c ⊎ BearsChild system log c → are_plain c.queue ≡ true
+form_plain system log c (inl alone) = by_queue alone.queued alone.posts alone.together
+  where
+    by_queue : (q : Queued) → c.queue ≡ posts_of q → AreTogether q → are_plain c.queue ≡ true
+    by_queue Nothing is together = ap are_plain is
+    by_queue (One post) is together = ap are_plain is ∙ ap (λ b. b && true) (lone_plain post.what together)
+form_plain system log c (inr (inl y)) = ap are_plain y.posts ∙ batch_plain c.number y.pid (state_of y.process) y.read y.took y.indices
+form_plain system log c (inr (inr b)) = ap are_plain b.posts
+
+-- the entry that such a post became
+pub handed_is : (system : System) (log : List Entry) (e : Entry) (c : ClusterView) (h : HandsOver c) → option_map (entry_of system log) (head_of c.queue) ≡ Some e → what e ≡ Rebackup h.to false h.recs
+handed_is system log e c h head =
+    ap what (sym (same_Some (entry_of system log h.post) e (ap (λ ps. option_map (entry_of system log) (head_of ps)) (sym h.posts) ∙ head))) ∙ h.standing
+
 -- ---- after the head was sent
 
-unlost_loses_none : (w : What) → is_unlost w ≡ true → cluster_lost w ≡ None
-unlost_loses_none (Crash k cause) unlost = absurd (true≢false (sym unlost))
-unlost_loses_none _ unlost = refl
+sent_loses_none : (w : What) → is_sent w ≡ true → cluster_lost w ≡ None
+sent_loses_none (Crash k cause) sent = absurd (true≢false (sym sent))
+sent_loses_none _ sent = refl
+
+abbrev rest_of : List Post → List Post
+rest_of [] = []
+rest_of (post ∷ rest) = rest
+
+plain_rest : (queue : List Post) → are_plain queue ≡ true → are_plain (rest_of queue) ≡ true
+plain_rest [] plain = refl
+plain_rest (post ∷ rest) plain = (and_parts (not (is_rebackup post.what)) (are_plain rest) plain).1
+
+-- what is left then is plain
+rest_plain : (system : System) (log : List Entry) (c : ClusterView) → IsQueued c.queue ⊎ Synchronises system log c ⊎ BearsChild system log c ⊎ HandsOver c → are_plain (rest_of c.queue) ≡ true
+rest_plain system log c (inl alone) = plain_rest c.queue (form_plain system log c (inl alone))
+rest_plain system log c (inr (inl y)) = plain_rest c.queue (form_plain system log c (inr (inl y)))
+rest_plain system log c (inr (inr (inl b))) = plain_rest c.queue (form_plain system log c (inr (inr b)))
+rest_plain system log c (inr (inr (inr h))) = ap (λ ps. are_plain (rest_of ps)) h.posts
 
 -- at the entry that the head became nothing falls of the rest
 pub own_left : (c : ClusterView) (log : List Entry) (e : Entry) → StandsBetween FollowsBuilt c.system log e c → left_queued c.places (what e) c.queue ≡ c.queue
-own_left c log e s = by_queue (s.before).queue ((s.followed).queue).legal s.head (ap (λ (d : ClusterView). d.queue) s.sent)
+own_left c log e s = by_queue (s.before).queue ((s.followed).queue).legal s.head (rest_plain c.system log s.before (s.followed).queued) (ap (λ (d : ClusterView). d.queue) s.sent)
   where
-    by_queue : (queue : List Post) → IsQueueLegal UnlostMayFollow c.system log queue → option_map (entry_of c.system log) (head_of queue) ≡ Some e → c.queue ≡ (after_sent s.before queue).queue → left_queued c.places (what e) c.queue ≡ c.queue
-    by_queue [] legal head is = let none : ◌≡◌ {A = Option Entry} None (Some e) = head in cc
-    by_queue (post ∷ rest) legal head is =
+    by_queue : (queue : List Post) → IsQueueLegal SentMayFollow c.system log queue → option_map (entry_of c.system log) (head_of queue) ≡ Some e → are_plain (rest_of queue) ≡ true → c.queue ≡ (after_sent s.before queue).queue
+        → left_queued c.places (what e) c.queue ≡ c.queue
+    by_queue [] legal head plain is = let none : ◌≡◌ {A = Option Entry} None (Some e) = head in cc
+    by_queue (post ∷ rest) legal head plain is =
         let whole : entry_of c.system log post ≡ e = same_Some (entry_of c.system log post) e head in
-        let none : cluster_lost (what e) ≡ None = ap (λ (x : Entry). cluster_lost (what x)) (sym whole) ∙ unlost_loses_none post.what (legal.0).built in
-        ap (left_queued c.places (what e)) is ∙ legal_left c.system c.places (what e) (log ++ entry_of c.system log post ∷ []) rest none legal.1 ∙ sym is
+        let none : cluster_lost (what e) ≡ None = ap (λ (x : Entry). cluster_lost (what x)) (sym whole) ∙ sent_loses_none post.what (legal.0).built in
+        ap (left_queued c.places (what e)) is ∙ plain_left c.places (what e) rest none plain ∙ sym is
 
 -- ---- what falls
 

@@ -35,13 +35,13 @@ use Rattle.cert_sched.specs.Steps.{process_of, silent_upto, emission_at, after_i
 use Rattle.cert_sched.specs.Rules.{is_over, is_by, is_living, home_at, is_by_home, is_by_right, has_its_pages, keeps_limits}
 use Rattle.cert_sched.specs.Kinds.{ChildrenSynced, IsSent, KindHolds}
 use Rattle.cert_sched.specs.Legal.{IsLegalBy, Stands}
-use Rattle.cert_sched.specs.Built.{tells_or_closes, MayStand, TellingMayFollow, KeepsWaits, UnlostMayFollow, is_unlost}
+use Rattle.cert_sched.specs.Built.{tells_or_closes, MayStand, TellingMayFollow, KeepsWaits}
+use Rattle.cluster_core.specs.Sent.{SentMayFollow, is_sent}
 use Rattle.cert_sched.specs.Losses.{is_from, is_by_cluster, is_crash_of, was_lost_in, least_steps, capped}
 use Rattle.cert_sched.specs.Appended.{entry_of}
 use Rattle.cert_sched.specs.Rests.{home_pids}
 use Rattle.cert_sched.proofs.ExitLaws.{unended_exit}
 use Rattle.cert_sched.proofs.LogLaws.{placement-snoc, IsLegal-last}
-use Rattle.cert_sched.proofs.UnlostLaws.{telling_unlost}
 use Rattle.log_laws.proofs.records.Standing.{built_stands as each_stands, legal_stands}
 use Rattle.checkpoint_laws.proofs.batches.ChildrenStay.{children_stay}
 use Rattle.cert_sched.proofs.RisingLaws.{rising-same}
@@ -80,7 +80,7 @@ use Rattle.cluster_core.proofs.absorbing.ByKind.{by_kind, by_page, lone_is, may_
 use Rattle.cluster_core.proofs.absorbing.Counted.{capped_less, capped_next, count_more, lost_before}
 use Rattle.cluster_core.proofs.absorbing.Fallen.{page_stays_queued}
 use Rattle.cert_sched.specs.Told.{cluster_lost}
-use Rattle.cluster_core.proofs.absorbing.Served.{accounts_next, foreign_no_answer, accounts_sent, ahead_after}
+use Rattle.cluster_core.proofs.absorbing.Served.{accounts_next, foreign_no_answer, accounts_sent, ahead_after, plain_kind}
 use Rattle.cluster_core.specs.Serving.{IsAheadThere, Serves}
 use Rattle.page_server.specs.Account.{PagerState}
 use Rattle.replay_laws.specs.forks.ForkWaits.{WaitsSo}
@@ -91,6 +91,8 @@ use Rattle.cluster_core.proofs.paging.Waiting.{told_cuts_none, told_fetches_none
 use Rattle.cert_sched.proofs.BuiltCuts.{by_home_there}
 use Rattle.cluster_core.proofs.working.KeptLimits.{arrival_brings, told_keeps, told_within}
 use Rattle.checkpoint_laws.proofs.limits.StayingLimits.{sent_stays}
+use Rattle.cluster_core.specs.Standing.{HoldsBackups, has_begun}
+use Rattle.cluster_core.proofs.awaiting.Awaited.{awaited_after}
 
 -- ---- one open step
 
@@ -206,7 +208,7 @@ now_arrives_told system log e n k post p steps s own may apart placed was = by_m
 -- a process at home that has not ended, where its cluster has at most one post, which may follow: after an entry of another process it is
 -- where it was, with the letter where that goes there
 now_arrives : (system : System) (log : List Entry) (e : Entry) (n : Next system log e) (k : ClusterNo) (q : Queued) (p : Pid) (steps : ℕ) (s : ProcState) → AreTogether q → list_all (λ (post : Post). is_from k post.by) (posts_of q) ≡ true
-    → IsQueueLegal UnlostMayFollow system log (posts_of q) → p.0 ≢ ((n.told).pid).0 → is_some (unended_at (placement system log) p) ≡ true → state_now system log (posts_of q) p steps ≡ Some s
+    → IsQueueLegal SentMayFollow system log (posts_of q) → p.0 ≢ ((n.told).pid).0 → is_some (unended_at (placement system log) p) ≡ true → state_now system log (posts_of q) p steps ≡ Some s
     → state_now system (log ++ e ∷ []) (posts_of q) p steps ≡ Some (with_arrival (n.told).emission p s)
 now_arrives system log e n k Nothing p steps s together own legal apart placed was = silent_still system log e n.told p steps s n.legal n.before apart placed was
 now_arrives system log e n k (One post) p steps s together own legal apart placed was = by_kind_of (lone_is post.what together)
@@ -395,7 +397,7 @@ held_foreign which c log e n q queue_is together valid differ own f foreign p h 
     by_held : (was : Held) → held_at c p ≡ Some was → h ≡ arrival_at (what e) p was → HeldOf which c.system (log ++ e ∷ []) c.queue p h
     by_held (Runs s) there is = subst (λ h. HeldOf which c.system (log ++ e ∷ []) c.queue p h) (sym (is ∙ runs_after (what e) p s (n.may).built)) (λ passes.
         let posted = subst (λ ps. list_all (λ (post : Post). is_from c.number post.by) ps ≡ true) queue_is (f.queue).own in
-        let legal = subst (IsQueueLegal UnlostMayFollow c.system log) queue_is (f.queue).legal in
+        let legal = subst (IsQueueLegal SentMayFollow c.system log) queue_is (f.queue).legal in
         let old : state_now c.system log (posts_of q) p (s.small).steps ≡ Some (state_of s) = ap (λ ps. state_now c.system log ps p (s.small).steps) (sym queue_is) ∙ (f.processes).held p (Runs s) there passes in
         let moved = now_arrives c.system log e n c.number q p (s.small).steps (state_of s) together posted legal other (ap is_some home.found) old in
         held_arrived c.system (log ++ e ∷ []) c.queue (posts_of q) (what e) (n.told).pid (n.told).at (n.told).emission p s queue_is (n.may).built (n.told).tells moved)
@@ -430,6 +432,28 @@ pages_told c log e n valid differ once pages p h at runs =
     pages_after c.system log e p c.number valid n.legal (n.may).stands differ home (told_loses_none c.number (what e) (n.may).built)
     (pages p before.was before.there (sym (ran_before (what e) p before.was (n.may).built) ∙ ap (λ h. is_some (process_in h)) (sym before.same) ∙ runs))
 
+-- who has begun then had before
+begun_before : (w : What) (p : Pid) (was : Held) → tells_or_closes w ≡ true → has_begun (arrival_at w p was) ≡ has_begun was
+begun_before w p was = by_kind (λ w. has_begun (arrival_at w p was) ≡ has_begun was) (λ at letter. by_test letter (is_end_of p letter.to)) (λ pid at end. refl) (λ rests. refl) refl w
+  where
+    by_held : (letter : Letter) (h : Held) → has_begun (arrived_held h letter) ≡ has_begun h
+    by_held letter (Runs s) = refl
+    by_held letter (Rolls s counts births) = refl
+    by_held letter (Waits waiting) = refl
+
+    by_test : (letter : Letter) (b : Bool) → has_begun (cond b (arrived_held was letter) was) ≡ has_begun was
+    by_test letter true = by_held letter was
+    by_test letter false = refl
+
+-- and waits for no new backup still
+backups_told : (c : ClusterView) (log : List Entry) (e : Entry) (n : Next c.system log e) → is_system c.system ≡ true → pids_differ (placement c.system log).placed ≡ true → rising (pids_in c.here) ≡ rising (home_pids c.system log c.number) → HoldsBackups c.system log c
+    → HoldsBackups c.system (log ++ e ∷ []) (taken_in c e)
+backups_told c log e n valid differ once backups p h at begun =
+    let before = was_here (what e) c.here p h (n.may).built at in
+    let home = home_here (placement c.system log) c.number (pids_in c.here) p differ once (is_among c.here p before.was before.there) in
+    awaited_after c.system log e p c.number valid n.legal (n.may).stands differ home (told_loses_none c.number (what e) (n.may).built)
+    (backups p before.was before.there (sym (begun_before (what e) p before.was (n.may).built) ∙ ap has_begun (sym before.same) ∙ begun))
+
 -- and is within its limits still
 limits_told : (c : ClusterView) (e : Entry) → tells_or_closes (what e) ≡ true → HoldsLimits c.system c → HoldsLimits c.system (taken_in c e)
 limits_told c e tells limits p h at =
@@ -437,14 +461,14 @@ limits_told c e tells limits p h at =
     subst (IsHeldWithin (limits_of c.system)) (sym before.same) (arrival_within (limits_of c.system) (what e) p before.was tells (limits p before.was before.there))
 
 queue_foreign : (c : ClusterView) (log : List Entry) (e : Entry) (n : Next c.system log e) (q : Queued) → AreTogether q → is_system c.system ≡ true → pids_differ (placement c.system log).placed ≡ true → is_by_cluster c.number e ≡ false
-    → list_all (λ (post : Post). is_from c.number post.by) (posts_of q) ≡ true → IsQueueLegal UnlostMayFollow c.system log (posts_of q) → IsQueueLegal UnlostMayFollow c.system (log ++ e ∷ []) (posts_of q)
+    → list_all (λ (post : Post). is_from c.number post.by) (posts_of q) ≡ true → IsQueueLegal SentMayFollow c.system log (posts_of q) → IsQueueLegal SentMayFollow c.system (log ++ e ∷ []) (posts_of q)
 queue_foreign c log e n Nothing together valid differ foreign own legal = tt
 queue_foreign c log e n (One post) together valid differ foreign own legal = (by_kind_of (lone_is post.what together), tt)
   where
     from : is_from c.number post.by ≡ true
     from = (and_parts (is_from c.number post.by) true own).0
 
-    by_kind_of : (tells_or_closes post.what ≡ true) ⊎ (is_of_page post.what ≡ true) → UnlostMayFollow c.system (log ++ e ∷ []) (entry_of c.system (log ++ e ∷ []) post)
+    by_kind_of : (tells_or_closes post.what ≡ true) ⊎ (is_of_page post.what ≡ true) → SentMayFollow c.system (log ++ e ∷ []) (entry_of c.system (log ++ e ∷ []) post)
     by_kind_of (inl tells) = may_told c.system (log ++ e ∷ []) (entry_of c.system (log ++ e ∷ []) post) (post_stays c.system log e n c.number post valid differ foreign from (told_may c.system log (entry_of c.system log post) legal.0 tells))
     by_kind_of (inr of) = page_post_stays c.system valid log e c.number post (n.legal, n.before) (n.more, n.goes_on) foreign (told_loses_none c.number (what e) (n.may).built) from of (page_stays_queued (placement c.system log) (what e) post.what of (told_loses (what e) (n.may).built)) legal.0
 
@@ -473,10 +497,10 @@ marks_foreign which c log e n valid differ own f foreign p h at among =
     posts_own : list_all (λ (post : Post). is_from c.number post.by) (posts_of q) ≡ true
     posts_own = subst (λ ps. list_all (λ (post : Post). is_from c.number post.by) ps ≡ true) queue_is (f.queue).own
 
-    posts_legal : IsQueueLegal UnlostMayFollow c.system log (posts_of q)
-    posts_legal = subst (IsQueueLegal UnlostMayFollow c.system log) queue_is (f.queue).legal
+    posts_legal : IsQueueLegal SentMayFollow c.system log (posts_of q)
+    posts_legal = subst (IsQueueLegal SentMayFollow c.system log) queue_is (f.queue).legal
 
-    legal_still : IsQueueLegal UnlostMayFollow c.system later (posts_of q)
+    legal_still : IsQueueLegal SentMayFollow c.system later (posts_of q)
     legal_still = queue_foreign c log e n q (f.queued).together valid differ foreign posts_own posts_legal
 
     before : WasHere (what e) c.here p h
@@ -527,10 +551,11 @@ follows_foreign which c log e n server valid differ own f foreign serves = recor
   marks = marks_foreign which c log e n valid differ own f foreign;
   family = family_next c.system log e c.family valid (n.legal, n.before) (n.more, n.goes_on) f.family;
   owed = owed_next c.system log e c.number c.places c.owed valid (n.more, n.goes_on) (f.log).places (told_spares c.number (what e) (n.may).built) f.owed;
+  backups = backups_told c log e n valid differ (f.processes).each_once f.backups;
   forks = forks_told (what e) c.family c.here (n.may).built f.forks;
   records = records_after_entry c.system log e n c.number c.records valid f.records;
   accounts =
-      accounts_next c.system log e c (with_server server (taken_in c e)) q (foreign_no_answer c.number e foreign) serves refl queue_is queue_is posts_legal f.accounts;
+      accounts_next c.system log e c (with_server server (taken_in c e)) q (foreign_no_answer c.number e foreign) serves refl queue_is queue_is (f.queued).together f.accounts;
   disk = ((f.disk).0, ahead_after (placement c.system log) e c.server server serves (f.disk).1);
 }
   where
@@ -540,22 +565,22 @@ follows_foreign which c log e n server valid differ own f foreign serves = recor
     queue_is : c.queue ≡ posts_of q
     queue_is = (f.queued).posts
 
-    posts_legal : IsQueueLegal UnlostMayFollow c.system log (posts_of q)
-    posts_legal = subst (IsQueueLegal UnlostMayFollow c.system log) queue_is (f.queue).legal
+    posts_legal : IsQueueLegal SentMayFollow c.system log (posts_of q)
+    posts_legal = subst (IsQueueLegal SentMayFollow c.system log) queue_is (f.queue).legal
 
-    legal_still : IsQueueLegal UnlostMayFollow c.system (log ++ e ∷ []) c.queue
-    legal_still = subst (IsQueueLegal UnlostMayFollow c.system (log ++ e ∷ [])) (sym queue_is)
+    legal_still : IsQueueLegal SentMayFollow c.system (log ++ e ∷ []) c.queue
+    legal_still = subst (IsQueueLegal SentMayFollow c.system (log ++ e ∷ [])) (sym queue_is)
         (queue_foreign c log e n q (f.queued).together valid differ foreign (subst (λ ps. list_all (λ (post : Post). is_from c.number post.by) ps ≡ true) queue_is (f.queue).own) posts_legal)
 
 -- ---- for the cluster's own entry
 
 -- what a cluster sent is no loss
-pub own_unlost : (c : ClusterView) (log : List Entry) (e : Entry) → StandsBetween FollowsBuilt c.system log e c → is_unlost (what e) ≡ true
-own_unlost c log e s = by_queue (s.before).queue s.head ((s.followed).queue).legal
+pub own_sent : (c : ClusterView) (log : List Entry) (e : Entry) → StandsBetween FollowsBuilt c.system log e c → is_sent (what e) ≡ true
+own_sent c log e s = by_queue (s.before).queue s.head ((s.followed).queue).legal
   where
-    by_queue : (ps : List Post) → option_map (entry_of c.system log) (head_of ps) ≡ Some e → IsQueueLegal UnlostMayFollow c.system log ps → is_unlost (what e) ≡ true
+    by_queue : (ps : List Post) → option_map (entry_of c.system log) (head_of ps) ≡ Some e → IsQueueLegal SentMayFollow c.system log ps → is_sent (what e) ≡ true
     by_queue [] head legal = cc
-    by_queue (post ∷ rest) head legal = let whole : entry_of c.system log post ≡ e = cc in ap (λ (x : Entry). is_unlost (what x)) (sym whole) ∙ (legal.0).built
+    by_queue (post ∷ rest) head legal = let whole : entry_of c.system log post ≡ e = cc in ap (λ (x : Entry). is_sent (what x)) (sym whole) ∙ (legal.0).built
 
 -- what is left of a cluster that has sent its only post
 pub record Left (c : ClusterView) (log : List Entry) (e : Entry) : Type 0 where
@@ -714,7 +739,7 @@ follows_own c log e n l server valid differ own serves =
       };
       queue = record {
         own = ap (λ ps. list_all (λ (post : Post). is_from c.number post.by) ps) empty;
-        legal = subst (IsQueueLegal UnlostMayFollow c.system (log ++ e ∷ [])) (sym empty) tt;
+        legal = subst (IsQueueLegal SentMayFollow c.system (log ++ e ∷ [])) (sym empty) tt;
       };
       queued = inl (record { queued = Nothing; posts = empty; together = tt });
       steps = record { counted = counted_left c log e l };
@@ -724,12 +749,13 @@ follows_own c log e n l server valid differ own serves =
       family = family_next c.system log e c.family valid (n.legal, n.before) (n.more, n.goes_on) (ap (λ (d : ClusterView). d.family) l.same ∙ f.family);
       owed = owed_next c.system log e c.number c.places c.owed valid (n.more, n.goes_on) (ap (λ (d : ClusterView). d.places) l.same ∙ (f.log).places) (told_spares c.number (what e) (n.may).built)
           (subst (HoldsOwed c.system log) (sym l.same) f.owed);
+      backups = backups_told c log e n valid differ once (subst (HoldsBackups c.system log) (sym l.same) f.backups);
       forks = forks_told (what e) c.family c.here (n.may).built (subst HoldsForks (sym l.same) f.forks);
       records = records_after_entry c.system log e n c.number c.records valid
           (subst (λ recs. KeepsRecords c.system log c.number recs) (sym (ap (λ (d : ClusterView). d.records) l.same))
           (subst (λ k. KeepsRecords c.system log k (l.before).records) number f.records));
       accounts =
-          accounts_sent c.system log e l.before (with_server server (taken_in c e)) (telling_unlost (what e) (n.may).built) (subst (λ old. Serves (placement c.system log) e old server) (ap (λ (d : ClusterView). d.server) l.same) serves) (sym number) l.posts empty
+          accounts_sent c.system log e l.before (with_server server (taken_in c e)) (plain_kind (what e) l.lone) (subst (λ old. Serves (placement c.system log) e old server) (ap (λ (d : ClusterView). d.server) l.same) serves) (sym number) l.posts empty
           f.accounts;
       disk = (ap (λ (d : ClusterView). d.failed) l.same ∙ (f.disk).0, ahead_after (placement c.system log) e c.server server serves (subst IsAheadThere (sym (ap (λ (d : ClusterView). d.server) l.same)) (f.disk).1));
     }

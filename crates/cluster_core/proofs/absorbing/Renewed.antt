@@ -1,5 +1,5 @@
 -- A cluster that takes in a new backup of a process of another cluster, of either form, goes on to follow the log.
-use Rattle.std.proofs.Common.{◌≡◌, ℕ, ◌+◌, refl, sym, ◌∙◌, ap, subst, List, [], ◌∷◌, ◌++◌, Bool, true, false, eq-eqb, ne_eqb, Option, Some, None, is_some, slice_get, true≢false}
+use Rattle.std.proofs.Common.{◌≡◌, ℕ, ◌+◌, ◌≤◌, cond, ◌&&◌, refl, sym, ◌∙◌, ap, subst, List, [], ◌∷◌, ◌++◌, Bool, true, false, eq-eqb, ne_eqb, Option, Some, None, is_some, slice_get, true≢false}
 use Rattle.std.specs.Prelude.{◌≢◌, option_map}
 use Rattle.std.specs.Option.{option_map_or}
 use Rattle.t32_base.specs.declared.process.Pid.{Pid}
@@ -23,7 +23,7 @@ use Rattle.cert_sched.specs.CertAfter.{count_in}
 use Rattle.cert_sched.specs.Deeds.{deeds_in, is_cut, letter_for, is_birth_of}
 use Rattle.cert_sched.specs.Kinds.{KindHolds, RebackupHolds}
 use Rattle.cert_sched.specs.Legal.{Stands}
-use Rattle.cert_sched.specs.Losses.{is_by_cluster}
+use Rattle.cert_sched.specs.Losses.{capped, is_by_cluster, is_page_is_entry, least_steps, was_lost_in}
 use Rattle.cert_sched.specs.Moved.{is_fetch, is_page_is}
 use Rattle.cert_sched.specs.Rules.{home_at, is_by, is_by_home, is_by_right, is_living}
 use Rattle.cert_sched.specs.Schedule.{done_after, items_of, placement, process_after, run_upto, steps_in}
@@ -46,15 +46,17 @@ use Rattle.cluster_core.specs.Owed.{owed_after}
 use Rattle.cluster_core.specs.Follows.{IsOpen}
 use Rattle.cluster_core.specs.ForksAgain.{ForksLeft}
 use Rattle.cluster_core.specs.Parts.{AllOwn}
+use Rattle.cluster_core.specs.Queue.{IsQueueLegal}
+use Rattle.cluster_core.specs.Sent.{SentMayFollow}
 use Rattle.cluster_core.specs.Recovered.{left_by, moved_by, with_all_waiting}
 use Rattle.cluster_core.specs.Serving.{Serves}
 use Rattle.cluster_core.specs.View.{ClusterView, next_count, with_server}
 use Rattle.cluster_core.proofs.absorbing.ByKind.{IsRenewal}
 use Rattle.cluster_core.proofs.absorbing.Following.{by_home_of, by_one}
-use Rattle.cluster_core.proofs.absorbing.Spared.{BringsNothing, Spares, emission_stays, follows_passed, passed, silent_stays}
+use Rattle.cluster_core.proofs.absorbing.Spared.{BringsNothing, Spares, emission_stays, follows_passed, follows_passed_so, passed, silent_stays}
 use Rattle.cluster_core.proofs.absorbing.Unmoved.{emission_same, silent_same}
 use Rattle.cluster_core.proofs.forks.ForksAgain.{forks_renewed}
-use Rattle.cluster_core.proofs.here.Beside.{FollowsBeside}
+use Rattle.cluster_core.proofs.here.Beside.{FollowsBeside, all_of}
 use Rattle.residents.proofs.Changing.{pid_same}
 use Rattle.cluster_core.proofs.losses.Homes.{HomeHere, pids_home}
 use Rattle.cluster_core.proofs.losses.RenewedHomes.{home_renewed, pids_renewed}
@@ -199,7 +201,32 @@ module _ (system : System) (valid : is_system system ≡ true) (log : List Entry
       other : p.0 ≢ (s.pid).0
       other = other_here k p home foreign
 
+  -- every process, where it is of a family that was moved
+  spares_standing : (recs : List BackRec) → what e ≡ Rebackup r.to false recs → (p : Pid) → Spares system log e p
+  spares_standing recs is p = record {
+    silent = λ n. silent_same system log e none p n;
+    emission = λ at. emission_same system log e none p at;
+    home = home_same p;
+    no_cut = ap (is_cut p) is;
+    no_birth = ap (is_birth_of p) is;
+    no_page = ap (is_some_page p) is;
+    no_deed = ap (deeds_in p) is;
+    kept = λ x own. ap (λ w. record_after w x) is;
+  }
+    where
+      none : (k : Kernel) → items_of k (what e) ≡ []
+      none k = ap (items_of k) is
+
   -- ---- the whole
+
+  -- a cluster follows the log with its own post of such a family, where nothing more is queued
+  pub follows_handed : (c : ClusterView) (server : Option PagerState) (recs : List BackRec) → what e ≡ Rebackup r.to false recs → AllOwn c.cursor c.here → Serves places e c.server server → (f : FollowsBeside all_of system log c) → c.queue ≡ []
+      → (was_lost_in later c.number ≡ false → capped (least_steps later later c.number + cond c.tried 1 0) ≤ next_count c.steps) → FollowsBeside all_of system later (with_server server (with_entry c e))
+  follows_handed c server recs is own serves f empty counted =
+      follows_passed_so system valid log e now next brings_nothing all_of c server (renewal_taken c e r.to r.fresh r.recs r.same) (λ p home. spares_standing recs is p) (pids_same c.number)
+      (records_kept system log e c.number c.records valid (built_stands system later next.0) (ap changes_in_place r.same) f.records)
+      (subst (λ w. ForksLeft (family_after w c.family) c.here) (sym r.same) (forks_renewed r.to r.fresh r.recs c.family c.here f.forks)) own serves f
+      (ap (λ w. is_page_is_entry w && is_by_cluster c.number e) is) (subst (IsQueueLegal SentMayFollow system later) (sym empty ∙ (f.queued).posts) tt) counted
 
   pub follows_renewed : (which : Pid → Bool) (c : ClusterView) (server : Option PagerState) → AllOwn c.cursor c.here → Serves places e c.server server → FollowsBeside which system log c → is_by_cluster c.number e ≡ false
       → FollowsBeside which system later (with_server server (with_entry c e))

@@ -18,12 +18,11 @@ use Rattle.bus_msg.specs.declared.entry.Entry.{Entry}
 use Rattle.bus_msg.specs.Places.{Places}
 use Rattle.bus_msg.specs.PlacedAfter.{what}
 use Rattle.cert_sched.specs.Appended.{entry_of}
-use Rattle.cert_sched.specs.Built.{UnlostMayFollow, is_unlost}
 use Rattle.cert_sched.specs.Losses.{capped, is_by_cluster, is_from, is_page_entry, is_page_is_entry, least_calls, was_lost_in}
 use Rattle.cert_sched.specs.Schedule.{placement}
 use Rattle.cert_sched.specs.Scripted.{is_server}
 use Rattle.cluster_core.specs.Holds.{HoldsAccounts, KeepsIfThere}
-use Rattle.cluster_core.specs.Queue.{Queued, Nothing, One, posts_of, IsQueueLegal, is_rebackup, with_queue}
+use Rattle.cluster_core.specs.Queue.{AreTogether, Queued, Nothing, One, is_lone, posts_of, is_rebackup, with_queue}
 use Rattle.cluster_core.specs.Serving.{BeginsToServe, IsAheadThere, Serves}
 use Rattle.cluster_core.specs.View.{ClusterView, failing_in}
 use Rattle.cluster_core.specs.Work.{AnswersNext}
@@ -65,13 +64,13 @@ abbrev pub IsPlain : Queued → Type 0
 IsPlain Nothing = ⊤
 IsPlain (One post) = is_rebackup post.what ≡ false
 
-plain_kind : (w : What) → is_unlost w ≡ true → is_rebackup w ≡ false
-plain_kind (Rebackup to fresh recs) unlost = absurd (true≢false (sym unlost))
-plain_kind _ unlost = refl
+pub plain_kind : (w : What) → is_lone w ≡ true → is_rebackup w ≡ false
+plain_kind (Rebackup to fresh recs) lone = absurd (true≢false (sym lone))
+plain_kind _ lone = refl
 
-plain_post : (system : System) (log : List Entry) (q : Queued) → IsQueueLegal UnlostMayFollow system log (posts_of q) → IsPlain q
-plain_post system log Nothing legal = tt
-plain_post system log (One post) legal = plain_kind post.what (legal.0).built
+plain_post : (q : Queued) → AreTogether q → IsPlain q
+plain_post Nothing together = tt
+plain_post (One post) together = plain_kind post.what together
 
 -- the least calls of a log with at most one post
 pub least_queued : (system : System) (log : List Entry) (q : Queued) (k : ClusterNo) → IsPlain q → least_calls system log (with_queue system log (posts_of q)) k ≡ least_calls system log log k + owed k q
@@ -133,11 +132,11 @@ accounts_on system log e c d serves number least f = record {
 
 -- so it is where the entry is no answer of its own, and at most one post is queued before and after
 pub accounts_next : (system : System) (log : List Entry) (e : Entry) (c d : ClusterView) (q : Queued) → answers c.number e ≡ false → Serves (placement system log) e c.server d.server → d.number ≡ c.number
-    → c.queue ≡ posts_of q → d.queue ≡ posts_of q → IsQueueLegal UnlostMayFollow system log (posts_of q) → HoldsAccounts system log c → HoldsAccounts system (log ++ e ∷ []) d
-accounts_next system log e c d q none serves number was now legal f = accounts_on system log e c d serves number least f
+    → c.queue ≡ posts_of q → d.queue ≡ posts_of q → AreTogether q → HoldsAccounts system log c → HoldsAccounts system (log ++ e ∷ []) d
+accounts_next system log e c d q none serves number was now together f = accounts_on system log e c d serves number least f
   where
     plain : IsPlain q
-    plain = plain_post system log q legal
+    plain = plain_post q together
 
     least : least_calls system (log ++ e ∷ []) (with_queue system (log ++ e ∷ []) d.queue) c.number ≡ least_calls system log (with_queue system log c.queue) c.number + brought e
     least =
@@ -150,16 +149,16 @@ accounts_next system log e c d q none serves number was now legal f = accounts_o
         omega (arith, now_is, now_least, more, nothing, was_is, was_least)
 
 -- and where it was the only post of the cluster
-pub accounts_sent : (system : System) (log : List Entry) (e : Entry) (c d : ClusterView) → is_unlost (what e) ≡ true → Serves (placement system log) e c.server d.server → d.number ≡ c.number → c.queue ≡ e.post ∷ [] → d.queue ≡ []
+pub accounts_sent : (system : System) (log : List Entry) (e : Entry) (c d : ClusterView) → is_rebackup (what e) ≡ false → Serves (placement system log) e c.server d.server → d.number ≡ c.number → c.queue ≡ e.post ∷ [] → d.queue ≡ []
     → HoldsAccounts system log c → HoldsAccounts system (log ++ e ∷ []) d
-accounts_sent system log e c d unlost serves number was now f = accounts_on system log e c d serves number least f
+accounts_sent system log e c d plain serves number was now f = accounts_on system log e c d serves number least f
   where
     least : least_calls system (log ++ e ∷ []) (with_queue system (log ++ e ∷ []) d.queue) c.number ≡ least_calls system log (with_queue system log c.queue) c.number + brought e
     least =
         let now_is = ap (λ ps. least_calls system (log ++ e ∷ []) (with_queue system (log ++ e ∷ []) ps) c.number) now in
         let more = least_more system log e c.number in
         let was_is = ap (λ ps. least_calls system log (with_queue system log ps) c.number) was in
-        let was_least = least_queued system log (One e.post) c.number (plain_kind (what e) unlost) in
+        let was_least = least_queued system log (One e.post) c.number plain in
         omega (arith, now_is, more, was_is, was_least)
 
 -- ---- where a post is queued

@@ -1,5 +1,5 @@
 -- A cluster that takes in an entry which leaves each process at home there, and each place, as it was, goes on to follow the log.
-use Rattle.std.proofs.Common.{◌≡◌, ◌⊎◌, ℕ, ◌+◌, ◌-◌, refl, sym, ◌∙◌, ap, subst, List, [], ◌∷◌, ◌++◌, length-append, Bool, true, false, cond, ◌&&◌, ◌||◌, Option, Some, None, is_some, inl, inr}
+use Rattle.std.proofs.Common.{◌≡◌, ◌⊎◌, ℕ, ◌+◌, ◌-◌, refl, sym, ◌∙◌, ap, subst, List, [], ◌∷◌, ◌++◌, length-append, Bool, true, false, cond, ◌&&◌, ◌||◌, Option, Some, None, is_some, inl, inr, ◌≤◌}
 use Rattle.std.specs.Prelude.{option_and_then, option_map}
 use Rattle.std.specs.List.{list_all}
 use Rattle.std.specs.Option.{option_map_or}
@@ -23,10 +23,11 @@ use Rattle.bus_msg.specs.Places.{Places, unended_at, same_cluster}
 use Rattle.bus_msg.specs.PlacedAfter.{placed_after, what}
 use Rattle.channel_table.specs.Changes.{pids_differ}
 use Rattle.cert_sched.specs.Appended.{entry_of}
-use Rattle.cert_sched.specs.Built.{tells_or_closes, MayStand, TellingMayFollow, UnlostMayFollow}
+use Rattle.cert_sched.specs.Built.{tells_or_closes, MayStand, TellingMayFollow}
+use Rattle.cluster_core.specs.Sent.{SentMayFollow}
 use Rattle.cert_sched.specs.Deeds.{deeds_in, is_cut, letter_for, is_birth_of}
 use Rattle.cert_sched.specs.Legal.{Stands}
-use Rattle.cert_sched.specs.Losses.{is_by_cluster, is_from, is_crash_of}
+use Rattle.cert_sched.specs.Losses.{capped, is_by_cluster, is_from, is_crash_of, least_steps, was_lost_in}
 use Rattle.cert_sched.specs.Moved.{is_fetch, is_page_is}
 use Rattle.cert_sched.specs.Parts.{rising}
 use Rattle.cert_sched.specs.Rests.{home_pids}
@@ -55,6 +56,7 @@ use Rattle.cluster_core.specs.Queue.{AreTogether, Queued, Nothing, One, posts_of
 use Rattle.cluster_core.specs.Holds.{IsHeldAs, is_fetch_queued, CarriesMarks, MarkedIfThere, unended_process}
 use Rattle.cluster_core.specs.Follows.{IsOpen}
 use Rattle.cluster_core.proofs.births.FamilyNext.{family_next}
+use Rattle.cluster_core.proofs.awaiting.Awaited.{awaited_after}
 use Rattle.cluster_core.proofs.awaiting.OwedNext.{owed_next}
 use Rattle.cluster_core.proofs.here.Beside.{FollowsBeside, HeldOf, of_them, one_of_them}
 use Rattle.cluster_core.specs.Calls.{with_entry}
@@ -71,7 +73,7 @@ use Rattle.cluster_core.proofs.losses.Homes.{HomeHere, differ_built, home_here, 
 use Rattle.cluster_core.proofs.losses.NotMoved.{home_not_moved}
 use Rattle.cluster_core.proofs.here.Owning.{own_at}
 use Rattle.cluster_core.proofs.paging.PagePosts.{page_post_stays}
-use Rattle.cluster_core.proofs.absorbing.Served.{accounts_next, ahead_after, foreign_no_answer}
+use Rattle.cluster_core.proofs.absorbing.Served.{accounts_next, ahead_after, answers, foreign_no_answer}
 use Rattle.cluster_core.proofs.absorbing.Telling.{Telling, telling}
 use Rattle.cluster_core.proofs.absorbing.Unmoved.{page_moves_none}
 use Rattle.cert_sched.specs.Account.{is_exit_of}
@@ -172,15 +174,15 @@ module _ (system : System) (valid : is_system system ≡ true) (log : List Entry
           (sent_stays system log e u.pid u.at u.emission u.after valid (built_stands system log now.0) (by_home_there places post.by u.pid u.by_home) (λ i. s.no_cut i || s.no_birth i) u.is
           (told_within system log u.pid u.at u.emission u.after u.is post.what u.tells may.limits))
 
-  queue_stays : (k : ClusterNo) (q : Queued) → ((p : Pid) → HomeHere places p k → Spares system log e p) → AreTogether q → is_by_cluster k e ≡ false → list_all (λ (post : Post). is_from k post.by) (posts_of q) ≡ true → IsQueueLegal UnlostMayFollow system log (posts_of q)
-      → IsQueueLegal UnlostMayFollow system later (posts_of q)
+  queue_stays : (k : ClusterNo) (q : Queued) → ((p : Pid) → HomeHere places p k → Spares system log e p) → AreTogether q → is_by_cluster k e ≡ false → list_all (λ (post : Post). is_from k post.by) (posts_of q) ≡ true → IsQueueLegal SentMayFollow system log (posts_of q)
+      → IsQueueLegal SentMayFollow system later (posts_of q)
   queue_stays k Nothing spares together foreign own legal = tt
   queue_stays k (One post) spares together foreign own legal = (by_kind_of (lone_is post.what together), tt)
     where
       from : is_from k post.by ≡ true
       from = (and_parts (is_from k post.by) true own).0
 
-      by_kind_of : (tells_or_closes post.what ≡ true) ⊎ (is_of_page post.what ≡ true) → UnlostMayFollow system later (entry_of system later post)
+      by_kind_of : (tells_or_closes post.what ≡ true) ⊎ (is_of_page post.what ≡ true) → SentMayFollow system later (entry_of system later post)
       by_kind_of (inl tells) = may_told system later (entry_of system later post) (post_stays k post spares from (told_may system log (entry_of system log post) legal.0 tells))
       by_kind_of (inr page) = page_post_stays system valid log e k post now next foreign (loses_none k) from page (page_stays_queued places (what e) post.what page n.no_loss) legal.0
 
@@ -231,10 +233,12 @@ module _ (system : System) (valid : is_system system ≡ true) (log : List Entry
 
   -- ---- the whole
 
-  pub follows_passed : (which : Pid → Bool) (c : ClusterView) (server : Option PagerState) → with_entry c e ≡ passed c e → ((p : Pid) → HomeHere places p c.number → Spares system log e p)
-      → pids_home c.number (placement system later).placed ≡ pids_home c.number places.placed → KeepsRecords system later c.number (records_after c.number (what e) c.records) → ForksLeft (family_after (what e) c.family) c.here → AllOwn c.cursor c.here → Serves places e c.server server → FollowsBeside which system log c
-      → is_by_cluster c.number e ≡ false → FollowsBeside which system later (with_server server (with_entry c e))
-  follows_passed which c server taken spares pids records forks own serves f foreign = subst (λ v. FollowsBeside which system later (with_server server v)) (sym taken) (record {
+  -- where what is queued may follow still, and the kernel steps are enough
+  pub follows_passed_so : (which : Pid → Bool) (c : ClusterView) (server : Option PagerState) → with_entry c e ≡ passed c e → ((p : Pid) → HomeHere places p c.number → Spares system log e p)
+      → pids_home c.number (placement system later).placed ≡ pids_home c.number places.placed → KeepsRecords system later c.number (records_after c.number (what e) c.records) → ForksLeft (family_after (what e) c.family) c.here → AllOwn c.cursor c.here → Serves places e c.server server → (f : FollowsBeside which system log c)
+      → answers c.number e ≡ false → IsQueueLegal SentMayFollow system later (posts_of (f.queued).queued) → (was_lost_in later c.number ≡ false → capped (least_steps later later c.number + cond c.tried 1 0) ≤ next_count c.steps)
+      → FollowsBeside which system later (with_server server (with_entry c e))
+  follows_passed_so which c server taken spares pids records forks own serves f unanswered posts_still counted = subst (λ v. FollowsBeside which system later (with_server server v)) (sym taken) (record {
     log = record {
       cursor = ap (λ m. m + 1) (f.log).cursor ∙ sym (length-append log (e ∷ []));
       places = ap (λ (places : Places). placed_after places (what e)) (f.log).places ∙ sym (placement-snoc system log e);
@@ -245,15 +249,16 @@ module _ (system : System) (valid : is_system system ≡ true) (log : List Entry
       legal = legal_still;
     };
     queued = f.queued;
-    steps = record { counted = λ kept. counted_foreign c log e foreign ((f.steps).counted (lost_before log e c.number kept)) };
+    steps = record { counted = counted };
     limits = f.limits;
     pages = λ p h at runs. pages_after system log e p c.number valid now.0 stands differ (home_of p h at) (loses_none c.number) (f.pages p h at runs);
     marks = marks;
     family = family_next system log e c.family valid now next f.family;
     owed = owed_next system log e c.number c.places c.owed valid next (f.log).places (loses_none c.number) f.owed;
+    backups = λ p h at begun. awaited_after system log e p c.number valid now.0 stands differ (home_of p h at) (loses_none c.number) (f.backups p h at begun);
     forks = forks;
     records = records;
-    accounts = accounts_next system log e c (with_server server (passed c e)) q (foreign_no_answer c.number e foreign) serves refl queue_is queue_is posts_legal f.accounts;
+    accounts = accounts_next system log e c (with_server server (passed c e)) q unanswered serves refl queue_is queue_is (f.queued).together f.accounts;
     disk = ((f.disk).0, ahead_after places e c.server server serves (f.disk).1);
   })
     where
@@ -269,14 +274,11 @@ module _ (system : System) (valid : is_system system ≡ true) (log : List Entry
       posts_own : list_all (λ (post : Post). is_from c.number post.by) (posts_of q) ≡ true
       posts_own = subst (λ ps. list_all (λ (post : Post). is_from c.number post.by) ps ≡ true) queue_is (f.queue).own
 
-      posts_legal : IsQueueLegal UnlostMayFollow system log (posts_of q)
-      posts_legal = subst (IsQueueLegal UnlostMayFollow system log) queue_is (f.queue).legal
+      posts_legal : IsQueueLegal SentMayFollow system log (posts_of q)
+      posts_legal = subst (IsQueueLegal SentMayFollow system log) queue_is (f.queue).legal
 
-      posts_still : IsQueueLegal UnlostMayFollow system later (posts_of q)
-      posts_still = queue_stays c.number q spares (f.queued).together foreign posts_own posts_legal
-
-      legal_still : IsQueueLegal UnlostMayFollow system later c.queue
-      legal_still = subst (IsQueueLegal UnlostMayFollow system later) (sym queue_is) posts_still
+      legal_still : IsQueueLegal SentMayFollow system later c.queue
+      legal_still = subst (IsQueueLegal SentMayFollow system later) (sym queue_is) posts_still
 
       home_of : (p : Pid) (h : Held) → held_of c.here p ≡ Some h → HomeHere places p c.number
       home_of p h there = home_here places c.number (pids_in c.here) p differ once (is_among c.here p h there)
@@ -302,3 +304,13 @@ module _ (system : System) (valid : is_system system ≡ true) (log : List Entry
           (subst (λ ps. IsHeldAs system later ps p h) queue_is (one_of_them which system later c.queue p h among (held p h there)))
           (s.no_cut, s.no_birth, s.no_page, moves_none p) (n.no_exit p) (λ m. m)
           (subst (λ ps. MarkedIfThere CarriesMarks system (with_queue system log ps) p (unended_process h)) queue_is (f.marks p h there among)))
+
+  -- so it is where the entry is another's
+  pub follows_passed : (which : Pid → Bool) (c : ClusterView) (server : Option PagerState) → with_entry c e ≡ passed c e → ((p : Pid) → HomeHere places p c.number → Spares system log e p)
+      → pids_home c.number (placement system later).placed ≡ pids_home c.number places.placed → KeepsRecords system later c.number (records_after c.number (what e) c.records) → ForksLeft (family_after (what e) c.family) c.here → AllOwn c.cursor c.here → Serves places e c.server server → FollowsBeside which system log c
+      → is_by_cluster c.number e ≡ false → FollowsBeside which system later (with_server server (with_entry c e))
+  follows_passed which c server taken spares pids records forks own serves f foreign =
+      follows_passed_so which c server taken spares pids records forks own serves f (foreign_no_answer c.number e foreign)
+      (queue_stays c.number (f.queued).queued spares (f.queued).together foreign (subst (λ ps. list_all (λ (post : Post). is_from c.number post.by) ps ≡ true) (f.queued).posts (f.queue).own)
+      (subst (IsQueueLegal SentMayFollow system log) (f.queued).posts (f.queue).legal))
+      (λ kept. counted_foreign c log e foreign ((f.steps).counted (lost_before log e c.number kept)))

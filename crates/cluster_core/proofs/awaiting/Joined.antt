@@ -10,7 +10,7 @@ use Rattle.bus_msg.specs.Places.{Places, same_pid}
 use Rattle.cert_sched.specs.Schedule.{placement}
 use Rattle.cert_sched.specs.Family.{births_of, is_unsynced, joins, unsynced_family}
 use Rattle.log_laws.specs.births.Unsynced.{unsynced_births}
-use Rattle.cluster_core.specs.Joined.{family_of, joins_with}
+use Rattle.birth_notice.specs.Joined.{family_of, joins_with}
 
 -- whoever joins by the one joins by the other
 joined_from : (places : Places) (family : List Pid) (births : List (Pid × Pid)) → fold joins_with family (filter (λ (b : Pid × Pid). is_unsynced places b.1) births) ≡ fold (joins places) family births

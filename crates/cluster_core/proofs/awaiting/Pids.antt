@@ -4,19 +4,15 @@ use Rattle.std.specs.Prelude.{filter, find}
 use Rattle.std.specs.BTreeSet.{insert_key}
 use Rattle.std.specs.List.{list_any}
 use Rattle.std.specs.Option.{option_map_or}
-use Rattle.std.specs.Ordering.{match_ordering, nat_cmp}
-use Rattle.std.specs.declared.cmp.Ordering.{Ordering}
-use Rattle.std.specs.declared.cmp.Ordering.TheVariants.{Less, Equal, Greater}
+use Rattle.std.specs.Ordering.{nat_cmp}
 use Rattle.std.proofs.lemmas.Bool.{and_parts, not-true, or_parts}
 use Rattle.std.proofs.lemmas.List.{map-append, take_more}
 use Rattle.std.proofs.lemmas.List.Elements.{filter-append}
 use Rattle.std.proofs.lemmas.List.Sums.{fold-append}
 use Rattle.std.proofs.lemmas.Option.{slice_get-get_or, same_Some}
-use Rattle.std.proofs.lemmas.Map.Lookups.{exact_unsigned}
 use Rattle.std.proofs.lemmas.Map.Views.{any-filter_same}
 use Rattle.t32_base.specs.declared.process.Pid.{Pid}
 use Rattle.t32_base.specs.declared.process.ClusterNo.{ClusterNo}
-use Rattle.t32_base.proofs.Facts.{or_false}
 use Rattle.bus_msg.specs.declared.placed.Placed.{Placed}
 use Rattle.bus_msg.specs.Places.{same_cluster, same_pid, is_at_home, is_cluster}
 use Rattle.plain_kernel.specs.Maps.{at_key, pid_of}
@@ -25,41 +21,6 @@ use Rattle.cert_sched.proofs.PidLaws.{placed_pids}
 use Rattle.cert_sched.proofs.RisingLaws.{NoTwo}
 use Rattle.cluster_core.specs.Owed.{begins_wait, pids_waiting, with_pids}
 use Rattle.residents.proofs.Slots.{at_key_is}
-
--- ---- more of them
-
-swapped : (a b c : Bool) → (a || (b || c)) ≡ ((b || c) || a)
-swapped true true c = refl
-swapped true false true = refl
-swapped true false false = refl
-swapped false b c = sym (or_false (b || c))
-
-grouped : (a b c : Bool) → (a || (b || c)) ≡ ((a || b) || c)
-grouped true b c = refl
-grouped false b c = refl
-
-twice : (a b : Bool) → (a || b) ≡ ((a || b) || a)
-twice true b = refl
-twice false b = sym (or_false b)
-
--- a number that is put at its place is there, and all that were there are
-any_put : (n k : ℕ) (ks : List ℕ) → list_any (at_key n) (insert_key nat_cmp ks k) ≡ (list_any (at_key n) ks || at_key n k)
-any_put n k [] = or_false (at_key n k)
-any_put n k (x ∷ xs) = by_order (nat_cmp k x) refl (any_put n k xs)
-  where
-    by_order : (o : Ordering) → nat_cmp k x ≡ o → list_any (at_key n) (insert_key nat_cmp xs k) ≡ (list_any (at_key n) xs || at_key n k)
-        → list_any (at_key n) (match_ordering o (k ∷ x ∷ xs) (x ∷ xs) (x ∷ insert_key nat_cmp xs k)) ≡ ((at_key n x || list_any (at_key n) xs) || at_key n k)
-    by_order Less is more = swapped (at_key n k) (at_key n x) (list_any (at_key n) xs)
-    by_order Equal is more =
-        twice (at_key n x) (list_any (at_key n) xs) ∙ ap (λ m. (at_key n x || list_any (at_key n) xs) || at_key n m) (sym (exact_unsigned k x is))
-    by_order Greater is more = ap (λ b. at_key n x || b) more ∙ grouped (at_key n x) (list_any (at_key n) xs) (at_key n k)
-
--- so are all that are put there
-pub any_with : (n : ℕ) (owed ks : List ℕ) → list_any (at_key n) (with_pids owed ks) ≡ (list_any (at_key n) owed || list_any (at_key n) ks)
-any_with n owed [] = sym (or_false (list_any (at_key n) owed))
-any_with n owed (k ∷ ks) =
-    any_with n (insert_key nat_cmp owed k) ks ∙ ap (λ b. b || list_any (at_key n) ks) (any_put n k owed)
-    ∙ sym (grouped (list_any (at_key n) owed) (at_key n k) (list_any (at_key n) ks))
 
 -- ---- fewer of them
 

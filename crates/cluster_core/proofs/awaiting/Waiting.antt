@@ -45,7 +45,8 @@ use Rattle.backup_laws.proofs.Since.{was_moved-snoc}
 use Rattle.backup_laws.proofs.SpreadSafe.{kept_at}
 use Rattle.cluster_core.specs.Owed.{AreOwed, begins_wait, is_owed, owed_after, pids_waiting, to_back, waited}
 use Rattle.cluster_core.proofs.awaiting.Alone.{beside_others, none_alone, none_backed}
-use Rattle.cluster_core.proofs.awaiting.Pids.{any_left, any_waiting, any_with}
+use Rattle.birth_notice.proofs.JoinedLaws.{any_with}
+use Rattle.cluster_core.proofs.awaiting.Pids.{any_left, any_waiting}
 use Rattle.cluster_core.proofs.losses.HomesMoved.{stays_home}
 use Rattle.cluster_core.proofs.losses.RenewedHomes.{home_renewed}
 

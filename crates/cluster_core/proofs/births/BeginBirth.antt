@@ -30,7 +30,7 @@ use Rattle.cluster_core.proofs.syncs.Batching.{unqueued}
 use Rattle.cluster_core.proofs.forks.ForksAgain.{forks_changed, run_forks}
 use Rattle.cluster_core.proofs.here.Beside.{FollowsBeside, all_of, any_of}
 use Rattle.cluster_core.proofs.syncs.RunMarks.{marked_ran}
-use Rattle.cluster_core.proofs.working.Working.{ahead, held_beside, held_there, home_of_it, limits_beside, marked_now, marks_beside, more_counted, pages_beside}
+use Rattle.cluster_core.proofs.working.Working.{acts, backups_beside, ahead, held_beside, held_there, home_of_it, limits_beside, marked_now, marks_beside, more_counted, pages_beside}
 use Rattle.std.proofs.lemmas.Bool.{or_parts}
 use Rattle.sync_point.specs.Due.{is_due_by}
 
@@ -94,6 +94,7 @@ module _ (c : ClusterView) (p : Pid) (made : ℕ) (was : Held) (forking : Forkin
     records = f.records;
     family = f.family;
     owed = f.owed;
+    backups = backups_beside c log p (Runs k.now) f.backups (λ begun. f.backups p was there (acts was (ap (λ (h : Held). is_some (process_in h)) k.old_is)));
     forks = forks_changed c.family p (Runs k.between) (Runs k.now) c.here runs_there (run_forks k.between k.now) f.forks;
     accounts = record {
       keeps = (f.accounts).keeps;

@@ -1,5 +1,5 @@
 -- A cluster that follows a log, where the birth of a child of a process here is queued: beside the birth, and with it.
-use Rattle.std.proofs.Common.{◌≡◌, ℕ, ◌+◌, ◌≤◌, refl, sym, ◌∙◌, ap, subst, arith, List, [], ◌∷◌, ◌++◌, Bool, true, false, cond, ◌&&◌, eq-eqb, Option, Some, None, inr}
+use Rattle.std.proofs.Common.{◌≡◌, ℕ, ◌+◌, ◌≤◌, refl, sym, ◌∙◌, ap, subst, arith, List, [], ◌∷◌, ◌++◌, Bool, true, false, cond, ◌&&◌, eq-eqb, Option, Some, None, inr, inl}
 use Rattle.std.specs.Prelude.{is_some, option_map}
 use Rattle.std.specs.List.{list_all}
 use Rattle.t32_base.specs.declared.process.Pid.{Pid}
@@ -16,7 +16,8 @@ use Rattle.bus_msg.specs.declared.entry.Post.{Post}
 use Rattle.bus_msg.specs.declared.entry.Entry.{Entry}
 use Rattle.bus_msg.specs.PlacedAfter.{what}
 use Rattle.cert_sched.specs.Appended.{entry_of}
-use Rattle.cert_sched.specs.Built.{MayStand, UnlostMayFollow}
+use Rattle.cert_sched.specs.Built.{MayStand}
+use Rattle.cluster_core.specs.Sent.{SentMayFollow}
 use Rattle.cert_sched.specs.Deeds.{arrived_count}
 use Rattle.cert_sched.specs.Legal.{IsLegalBy, Stands}
 use Rattle.cert_sched.specs.Losses.{capped, is_by_cluster, is_from, is_page_is_entry, least_calls}
@@ -141,7 +142,7 @@ module _ (system : System) (log : List Entry) (c : ClusterView) (b : BearsChild 
     may_send : MaySend system log (Cluster c.number) p s
     may_send = record { goes_on = open_log.1; by_home = home_by (placement system log) c.number p (home_lives system log p c.number valid open_log.0 open_log.1 home) home; reached = reached }
 
-    pub birth_may : UnlostMayFollow system log (entry_of system log (birth_post c.number b.pid (state_of b.process) b.child))
+    pub birth_may : SentMayFollow system log (entry_of system log (birth_post c.number b.pid (state_of b.process) b.child))
     birth_may = record {
       stands = birth_stands system log (Cluster c.number) p s b.child valid legal may_send b.stands b.next;
       built = refl;
@@ -158,9 +159,9 @@ module _ (system : System) (log : List Entry) (c : ClusterView) (b : BearsChild 
       processes = record { held = held; each_once = (f.processes).each_once };
       queue = record {
         own = ap (λ ps. list_all (λ (post : Post). is_from c.number post.by) ps) b.posts ∙ ap (λ own. own && true) (eq-eqb (c.number).0 (c.number).0 refl);
-        legal = subst (IsQueueLegal UnlostMayFollow system log) (sym b.posts) (birth_may, tt);
+        legal = subst (IsQueueLegal SentMayFollow system log) (sym b.posts) (birth_may, tt);
       };
-      queued = inr (inr b);
+      queued = inr (inr (inl b));
       steps = record { counted = (f.steps).counted };
       limits = f.limits;
       pages = f.pages;
@@ -168,6 +169,7 @@ module _ (system : System) (log : List Entry) (c : ClusterView) (b : BearsChild 
       records = f.records;
       family = f.family;
       owed = f.owed;
+      backups = f.backups;
       forks = f.forks;
       accounts = record { keeps = (f.accounts).keeps; there = (f.accounts).there; calls = λ kept server. subst (λ n. capped n ≤ disk_calls c) (sym calls) ((f.accounts).calls kept server) };
       disk = f.disk;
@@ -197,13 +199,14 @@ module _ (system : System) (log : List Entry) (c : ClusterView) (b : BearsChild 
     records = f.records;
     family = f.family;
     owed = f.owed;
+    backups = f.backups;
     forks = f.forks;
     accounts = record { keeps = (f.accounts).keeps; there = (f.accounts).there; calls = λ kept server. subst (λ n. capped n ≤ disk_calls c) calls ((f.accounts).calls kept server) };
     disk = f.disk;
   }
     where
-      may : UnlostMayFollow system log birth
-      may = (subst (IsQueueLegal UnlostMayFollow system log) b.posts (f.queue).legal).0
+      may : SentMayFollow system log birth
+      may = (subst (IsQueueLegal SentMayFollow system log) b.posts (f.queue).legal).0
 
       held : (q : Pid) (h : Held) → held_at c q ≡ Some h → IsHeldAs system log [] q h
       held q h there = held_alike system log (post ∷ []) [] q h refl refl (λ i. refl) (subst (λ ps. IsHeldAs system log ps q h) b.posts ((f.processes).held q h there))

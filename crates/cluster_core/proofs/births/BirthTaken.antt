@@ -18,7 +18,7 @@ use Rattle.cert_sched.specs.Built.{MayStand}
 use Rattle.cert_sched.specs.Losses.{is_by_cluster, is_crash_of, is_page_entry, least_calls}
 use Rattle.cert_sched.specs.Parts.{put_rising, rising}
 use Rattle.cert_sched.specs.Rests.{home_pids}
-use Rattle.cert_sched.specs.Rules.{has_its_pages, home_at}
+use Rattle.cert_sched.specs.Rules.{has_its_pages, home_at, has_awaited_backup}
 use Rattle.cert_sched.specs.Schedule.{placement}
 use Rattle.cert_sched.proofs.FreshLaws.{only_one}
 use Rattle.cert_sched.proofs.LogLaws.{IsLegal-last, placement-snoc}
@@ -64,6 +64,8 @@ use Rattle.cluster_core.proofs.births.OwnBirth.{child_held, child_marked, child_
 use Rattle.cluster_core.proofs.absorbing.Served.{accounts_on, ahead_after, brought}
 use Rattle.cluster_core.proofs.syncs.Stayed.{RunsStill}
 use Rattle.cert_sched.specs.Deeds.{letter_for}
+use Rattle.cluster_core.specs.Standing.{has_begun}
+use Rattle.cluster_core.proofs.awaiting.Awaited.{awaited_after, born_awaited}
 
 -- ---- an entry of another cluster
 
@@ -161,6 +163,9 @@ module _ (system : System) (valid : is_system system ≡ true) (log : List Entry
       (stands_in_none system log e p (((b.process).small).steps + 1) child (next_end (state_of b.process)) valid (built_stands system log now.0) (IsLegal-last MayStand system log e next.0).stands is) in
       subst (λ w. ForksLeft (family_after w v.family) (with_born p child v.here)) (sym is) (forks_born v.family v.here p child b.process b.there absent new g.forks)
 
+  still_awaited : (q : Pid) → HomeHere places q v.number → has_awaited_backup system log q ≡ true → has_awaited_backup system later q ≡ true
+  still_awaited q home has = awaited_after system log e q v.number valid now.0 (IsLegal-last MayStand system log e next.0).stands differ home (ap (is_crash_of v.number) is) has
+
   pub follows_born : (server : Option PagerState) → Serves places e v.server server → FollowsBuilt system later (with_server server born_view)
   follows_born server serves = record {
     log = record {
@@ -181,6 +186,9 @@ module _ (system : System) (valid : is_system system ≡ true) (log : List Entry
         (other_marked system valid log e v f b whole now next);
     family = family_next system log e v.family valid now next g.family;
     owed = owed_next system log e v.number v.places v.owed valid next (g.log).places (ap (is_crash_of v.number) is) g.owed;
+    backups = each (λ q h. has_begun h ≡ true → has_awaited_backup system later q ≡ true) (λ begun. still_awaited p home (g.backups p (Runs b.process) b.there refl))
+        (λ begun. born_awaited system log e p (((b.process).small).steps + 1) child (next_end (state_of b.process)) valid (built_stands system later next.0) is)
+        (λ q h at other begun. still_awaited q (home_here places v.number (pids_in v.here) q differ (g.processes).each_once (is_among v.here q h at)) (g.backups q h at begun));
     forks = forks_after;
     records = records_kept system log e v.number v.records valid (built_stands system later next.0) (ap changes_in_place is) g.records;
     accounts = accounts_on system log e v (with_server server born_view) serves refl calls g.accounts;

@@ -56,6 +56,7 @@ use Rattle.checkpoint_laws.proofs.marks.BootMarks.{boot_marks}
 use Rattle.checkpoint_laws.proofs.marks.SentPages.{sent_none}
 use Rattle.std.proofs.lemmas.List.{length-replicate}
 use Rattle.cluster_core.proofs.here.Within.{start_within}
+use Rattle.cluster_core.proofs.awaiting.Awaited.{awaited_at_start}
 
 -- ---- the kernel at boot
 
@@ -251,6 +252,7 @@ boot_follows system number here recs server failed valid is kept there begins so
   records = kept;
   family = none_yet system;
   owed = none_waits system number;
+  backups = λ p h at begun. awaited_at_start system p;
   forks = λ parent child q h at_parent at_child born. absurd (true≢false (sym born));
   accounts = accounts_begin system (boot_view system number here recs server failed) refl there begins;
   disk = sound;

@@ -140,6 +140,7 @@ returned_follows system log e k steps valid legal is = record {
   records = returned_records system log e k valid legal is;
   family = refl;
   owed = none_owed system log e k valid legal is;
+  backups = λ p h there begun. cc;
   forks = λ parent child q h there here born. cc;
   accounts = record { keeps = tt; there = λ stays serves. absurd (true≢false (sym (lost system log e k legal is) ∙ stays)); calls = λ stays serves. absurd (true≢false (sym (lost system log e k legal is) ∙ stays)) };
   disk = (refl, tt);

@@ -13,7 +13,7 @@ use Rattle.roll_forward.specs.RunsOut.{nothing_left}
 use Rattle.cert_sched.specs.Built.{MayStand}
 use Rattle.cert_sched.specs.Legal.{IsLegalBy, Stands}
 use Rattle.cert_sched.specs.Parts.{rising}
-use Rattle.cert_sched.specs.Rules.{has_its_pages}
+use Rattle.cert_sched.specs.Rules.{has_its_pages, has_awaited_backup}
 use Rattle.cert_sched.specs.Simulation.{IsUnended}
 use Rattle.log_laws.proofs.records.Standing.{built_stands}
 use Rattle.replay_laws.specs.rolling.Behind.{RollsBehind}
@@ -36,6 +36,11 @@ use Rattle.cluster_core.proofs.forks.ForkedFamily.{forks_forked}
 use Rattle.residents.proofs.ForkedHere.{kept_at_begin, kept_at_fork, pids_forked}
 use Rattle.cluster_core.proofs.rolling.GoingHeld.{going_is_held, going_marked, going_within}
 use Rattle.cluster_core.proofs.here.Within.{start_within}
+use Rattle.cluster_core.specs.Standing.{has_begun}
+use Rattle.backup_laws.proofs.AwaitedFamilies.{child_awaited}
+use Rattle.cluster_core.proofs.births.OneParent.{next_is_born}
+use Rattle.replay_laws.proofs.rolling.Stateless.{stateless_unsynced}
+use Rattle.replay_laws.proofs.rolling.ByRule.{itself}
 
 module _ (c : ClusterView) (log : List Entry) (p : Pid) (process : Process) (counts : Counts) (child : Pid) (births : List Pid) (valid : is_system c.system ≡ true) (empty : c.queue ≡ []) (go : IsOpen MayStand c.system log) (f : FollowsBuilt c.system log c)
     (there : held_at c p ≡ Some (Rolls process counts (child ∷ births))) (forks : next_step (state_of process) ≡ Forks) where
@@ -129,6 +134,17 @@ module _ (c : ClusterView) (log : List Entry) (p : Pid) (process : Process) (cou
       kept_at_fork p process counts child births c.here (λ q h. is_some (process_in h) ≡ true → has_its_pages c.system log q ≡ true) f.pages (λ some. f.pages p (Rolls process counts (child ∷ births)) there refl)
       (λ was at holds. kept_at_begin (λ h. is_some (process_in h) ≡ true → has_its_pages c.system log child ≡ true) process child was holds (λ w is none some. begun_paged w (at ∙ ap Some is) none))
 
+  -- a child that begins waits for no new backup, as its parent
+  begun_awaited : (w : WaitingState) → held_at c child ≡ Some (Waits w) → (w.kept).state ≡ None → has_awaited_backup c.system log child ≡ true
+  begun_awaited w at none =
+      let born = next_is_born c.system log p (state_of process) counts child births behind.rolls in
+      child_awaited c.system log p child valid legal born (stateless_unsynced Stands itself c.system log child valid legal (child_open w at none) (waits w at none).stateless) (f.backups p (Rolls process counts (child ∷ births)) there refl)
+
+  pub backups_forked : (q : Pid) (h : Held) → held_of now q ≡ Some h → has_begun h ≡ true → has_awaited_backup c.system log q ≡ true
+  backups_forked =
+      kept_at_fork p process counts child births c.here (λ q h. has_begun h ≡ true → has_awaited_backup c.system log q ≡ true) f.backups (λ begun. f.backups p (Rolls process counts (child ∷ births)) there refl)
+      (λ was at holds. kept_at_begin (λ h. has_begun h ≡ true → has_awaited_backup c.system log child ≡ true) process child was holds (λ w is none begun. begun_awaited w (at ∙ ap Some is) none))
+
   pub marks_forked : (q : Pid) (h : Held) → held_of now q ≡ Some h → MarkedIfThere CarriesMarks c.system (with_queue c.system log c.queue) q (unended_process h)
   marks_forked q h at =
       subst (λ ps. MarkedIfThere CarriesMarks c.system (with_queue c.system log ps) q (unended_process h)) (sym empty)
@@ -155,6 +171,7 @@ forks_again_follows c log p process counts child births valid empty go f there f
   records = f.records;
   family = f.family;
   owed = f.owed;
+  backups = backups_forked c log p process counts child births valid empty go f there forks;
   forks = family_forked c log p process counts child births valid empty go f there forks;
   accounts = record { keeps = (f.accounts).keeps; there = (f.accounts).there; calls = (f.accounts).calls };
   disk = f.disk;

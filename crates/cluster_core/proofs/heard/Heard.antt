@@ -52,6 +52,8 @@ use Rattle.cluster_core.proofs.absorbing.KnownPlaces.{concerns_alike, known_afte
 use Rattle.cluster_core.proofs.losses.OwningWaits.{owns_waiting}
 use Rattle.cluster_core.proofs.heard.PassedOver.{own_upto}
 use Rattle.cluster_core.proofs.heard.Shadow.{alike, queued_back, shadow, shadow_follows}
+use Rattle.cluster_core.proofs.absorbing.Fallen.{are_plain, form_plain, left_all}
+use Rattle.bus_msg.specs.declared.entry.Post.{Post}
 
 -- ---- lists
 
@@ -193,6 +195,10 @@ module _ (c : ClusterView) (log : List Entry) (e : Entry) (server : Option Pager
 
   still : FollowsBuilt c.system later (alike heard taken.cursor taken.places taken.family taken.steps)
   still = subst (FollowsBuilt c.system later) as_heard goes_on
+
+  -- no new backup is queued
+  still_plain : are_plain heard.queue ≡ true
+  still_plain = left_all (λ (post : Post). not (is_rebackup post.what)) c.places (what e) c.queue (form_plain c.system log c f.queued)
 
   at_later : placement c.system later ≡ placed_after places (what e)
   at_later = placement-snoc c.system log e
@@ -391,7 +397,7 @@ module _ (c : ClusterView) (log : List Entry) (e : Entry) (server : Option Pager
     };
     processes = record { held = (still.processes).held; each_once = (still.processes).each_once };
     queue = record { own = (still.queue).own; legal = (still.queue).legal };
-    queued = queued_back heard later taken.cursor taken.places taken.family taken.steps still.queued;
+    queued = queued_back heard later taken.cursor taken.places taken.family taken.steps still_plain still.queued;
     steps = record {
       counted = λ kept.
           let before = (f.steps).counted (lost_before log e k kept) in
@@ -405,6 +411,7 @@ module _ (c : ClusterView) (log : List Entry) (e : Entry) (server : Option Pager
     records = still.records;
     family = family_kept (what e) refl spared;
     owed = still.owed;
+    backups = still.backups;
     forks = λ parent child q h at beside any.
         still.forks parent child q h at beside
         (ap (list_any (λ (b : Pid × Pid). same_pid b.0 parent && same_pid b.1 child)) still.family

@@ -15,7 +15,8 @@ use Rattle.bus_msg.specs.Places.{ClusterPlace, Places, lives_in, same_cluster, s
 use Rattle.bus_msg.specs.PlacedAfter.{placed_after, what}
 use Rattle.bus_msg.specs.Route.{route}
 use Rattle.cert_sched.specs.Appended.{entry_of}
-use Rattle.cert_sched.specs.Built.{MayStand, UnlostMayFollow, is_unlost}
+use Rattle.cert_sched.specs.Built.{MayStand}
+use Rattle.cluster_core.specs.Sent.{SentMayFollow, is_sent}
 use Rattle.cert_sched.specs.Losses.{capped, is_by_cluster, is_from, least_steps}
 use Rattle.cert_sched.specs.Schedule.{placement}
 use Rattle.log_laws.specs.births.Unsynced.{unsynced_births}
@@ -25,12 +26,12 @@ use Rattle.cluster_core.specs.Absorbing.{goes_to}
 use Rattle.cluster_core.specs.Calls.{ReadyFor, with_entry, here_after}
 use Rattle.cluster_core.specs.Follows.{FollowsBuilt, IsOpen, StandsBetween}
 use Rattle.cluster_core.specs.Hearing.{FollowsHeard, KnowsPlaces, after_head_heard, after_sent_heard, concerns, heard_in}
-use Rattle.cluster_core.specs.Queue.{IsQueueLegal}
+use Rattle.cluster_core.specs.Queue.{IsQueueLegal, is_rebackup}
 use Rattle.cluster_core.specs.Recovered.{with_all_waiting}
 use Rattle.cluster_core.specs.View.{ClusterView, after_head, after_sent, head_of, with_server}
 use Rattle.residents.specs.Held.{Held, held_of}
 use Rattle.cluster_core.proofs.absorbing.Absorbed.{follows_entry}
-use Rattle.cluster_core.proofs.absorbing.Fallen.{own_left}
+use Rattle.cluster_core.proofs.absorbing.Fallen.{own_left, form_plain, are_plain}
 use Rattle.cluster_core.proofs.absorbing.Arriving.{comes_here, goes_elsewhere}
 use Rattle.cluster_core.proofs.absorbing.Counted.{capped_less, count_by-snoc, lost_before}
 use Rattle.cluster_core.proofs.heard.Heard.{any_less, sync_keeps_concerns, without_child}
@@ -41,13 +42,14 @@ use Rattle.cluster_core.proofs.absorbing.Noting.{noted_next}
 use Rattle.cluster_core.proofs.heard.PassedOver.{all_left, at_later, births_left, built, dropped, elsewhere, home_of_it, none_come, none_moved, of_it, own_upto, same_clusters, same_pager, serves, without_last, owed_stays}
 use Rattle.cluster_core.proofs.heard.Shadow.{alike, queued_back, shadow}
 use Rattle.cluster_core.proofs.heard.Unheard.{page_goes}
+use Rattle.std.proofs.lemmas.Bool.{and_parts, not-true}
 
 -- what is sent changes nothing at once that is no new backup
-head_stays : (c : ClusterView) (w : What) → is_unlost w ≡ true → after_head c w ≡ c
-head_stays c (Crash lost cause) unlost = absurd (true≢false (sym unlost))
-head_stays c (Return j) unlost = absurd (true≢false (sym unlost))
-head_stays c (Rebackup to fresh recs) unlost = absurd (true≢false (sym unlost))
-head_stays c _ unlost = refl
+head_stays : (c : ClusterView) (w : What) → is_sent w ≡ true → is_rebackup w ≡ false → after_head c w ≡ c
+head_stays c (Crash lost cause) unlost plain = absurd (true≢false (sym unlost))
+head_stays c (Return j) unlost plain = absurd (true≢false (sym unlost))
+head_stays c (Rebackup to fresh recs) unlost plain = absurd (true≢false plain)
+head_stays c _ unlost plain = refl
 
 module _ (c : ClusterView) (log : List Entry) (e : Entry) (valid : is_system c.system ≡ true) (now : IsOpen MayStand c.system log) (next : IsOpen MayStand c.system (log ++ e ∷ []))
     (away : goes_to e.dests c.number ≡ false) (f : FollowsHeard c.system log c) (tried : c.tried ≡ true) (post : Post) (rest : List Post) (queue : c.queue ≡ post ∷ rest)
@@ -64,8 +66,15 @@ module _ (c : ClusterView) (log : List Entry) (e : Entry) (valid : is_system c.s
   said : what e ≡ post.what
   said = ap what (sym whole)
 
-  unlost : is_unlost post.what ≡ true
-  unlost = (subst (IsQueueLegal UnlostMayFollow c.system log) queue (f.queue).legal).0.built
+  unlost : is_sent post.what ≡ true
+  unlost = (subst (IsQueueLegal SentMayFollow c.system log) queue (f.queue).legal).0.built
+
+  -- no new backup is queued
+  plain : (not (is_rebackup post.what) ≡ true) × (are_plain rest ≡ true)
+  plain = and_parts (not (is_rebackup post.what)) (are_plain rest) (subst (λ ps. are_plain ps ≡ true) queue (form_plain c.system log c f.queued))
+
+  plain_head : is_rebackup post.what ≡ false
+  plain_head = not-true (is_rebackup post.what) plain.0
 
   own : is_by_cluster k e ≡ true
   own = ap (is_by_cluster k) (sym whole) ∙ first (is_from k post.by) _ (subst (λ ps. list_all (λ (post : Post). is_from k post.by) ps ≡ true) queue (f.queue).own)
@@ -84,7 +93,7 @@ module _ (c : ClusterView) (log : List Entry) (e : Entry) (valid : is_system c.s
     followed = built c log e valid now next away f;
     head = ap (λ ps. option_map (entry_of c.system log) (head_of ps)) queue ∙ ap Some whole;
     tried = tried;
-    sent = sym (ap (after_sent (shadow log c)) queue ∙ ap (λ (d : ClusterView). record d { queue = rest; tried = false }) (head_stays (shadow log c) post.what unlost));
+    sent = sym (ap (after_sent (shadow log c)) queue ∙ ap (λ (d : ClusterView). record d { queue = rest; tried = false }) (head_stays (shadow log c) post.what unlost plain_head));
   }
 
   ready : ReadyFor e (shadow log left)
@@ -175,7 +184,7 @@ module _ (c : ClusterView) (log : List Entry) (e : Entry) (valid : is_system c.s
     };
     processes = record { held = (still.processes).held; each_once = (still.processes).each_once };
     queue = record { own = (still.queue).own; legal = (still.queue).legal };
-    queued = queued_back (record left { places = knows.places; family = knows.family }) later taken.cursor taken.places taken.family taken.steps still.queued;
+    queued = queued_back (record left { places = knows.places; family = knows.family }) later taken.cursor taken.places taken.family taken.steps plain.1 still.queued;
     steps = record {
       counted = λ kept.
           let before : capped (least_steps (heard_in k log) log k + 1) ≤ c.steps =
@@ -188,6 +197,7 @@ module _ (c : ClusterView) (log : List Entry) (e : Entry) (valid : is_system c.s
     records = still.records;
     family = known_births;
     owed = still.owed;
+    backups = still.backups;
     forks = λ parent child q h at beside any. f.forks parent child q h at beside (fewer parent child any);
     accounts = record { keeps = (still.accounts).keeps; there = (still.accounts).there; calls = (still.accounts).calls };
     server = λ some.

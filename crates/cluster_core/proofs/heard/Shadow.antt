@@ -1,5 +1,5 @@
 -- A cluster that follows a log by what goes to it is one that follows the whole log, but for its cursor, its count of steps, and what it does not know.
-use Rattle.std.proofs.Common.{◌≡◌, ◌⊎◌, ℕ, ◌≤◌, refl, sym, ◌∙◌, ap, arith, List, [], ◌∷◌, length, Bool, true, false, ◌&&◌, ◌||◌, eqb-true, inl, inr, true≢false}
+use Rattle.std.proofs.Common.{◌≡◌, ◌⊎◌, ℕ, ◌≤◌, refl, sym, ◌∙◌, ap, arith, List, [], ◌∷◌, length, Bool, true, false, ◌&&◌, ◌||◌, eqb-true, inl, inr, true≢false, not}
 use Rattle.std.specs.Prelude.{◌^◌, ◌-◌, filter}
 use Rattle.std.specs.List.{list_any}
 use Rattle.std.specs.Option.{option_map_or}
@@ -18,13 +18,15 @@ use Rattle.log_laws.proofs.births.Filters.{any_kept}
 use Rattle.cluster_core.specs.Bearing.{BearsChild}
 use Rattle.cluster_core.specs.Follows.{FollowsBuilt}
 use Rattle.cluster_core.specs.Hearing.{FollowsHeard, concerns}
-use Rattle.cluster_core.specs.Queue.{IsQueued}
+use Rattle.cluster_core.specs.Queue.{IsQueued, is_rebackup}
 use Rattle.residents.specs.Residents.{pids_in}
 use Rattle.cluster_core.specs.Syncing.{Synchronises}
 use Rattle.cluster_core.specs.View.{ClusterView}
 use Rattle.cluster_core.proofs.here.Here.{is_among}
 use Rattle.residents.proofs.Changing.{pid_same}
 use Rattle.cluster_core.proofs.losses.Homes.{HomeHere, differ_built, home_here}
+use Rattle.cluster_core.specs.HandingOn.{HandsOver}
+use Rattle.cluster_core.proofs.absorbing.Fallen.{are_plain}
 
 -- the cluster with all that it would know if it took in each entry
 abbrev pub shadow : List Entry → ClusterView → ClusterView
@@ -67,7 +69,7 @@ born_here places k parent child births home any =
 -- ---- there and back
 
 pub shadow_queued : (c : ClusterView) (log : List Entry) → IsQueued c.queue ⊎ Synchronises c.system log c ⊎ BearsChild c.system log c
-    → IsQueued c.queue ⊎ Synchronises c.system log (shadow log c) ⊎ BearsChild c.system log (shadow log c)
+    → IsQueued c.queue ⊎ Synchronises c.system log (shadow log c) ⊎ BearsChild c.system log (shadow log c) ⊎ HandsOver (shadow log c)
 shadow_queued c log (inl alone) = inl alone
 shadow_queued c log (inr (inl y)) = inr (inl (record {
   pid = y.pid;
@@ -83,7 +85,7 @@ shadow_queued c log (inr (inl y)) = inr (inl (record {
   since = y.since;
   unmarked = y.unmarked;
 }))
-shadow_queued c log (inr (inr b)) = inr (inr (record { pid = b.pid; process = b.process; child = b.child; posts = b.posts; there = b.there; stands = b.stands; undue = b.undue; next = b.next }))
+shadow_queued c log (inr (inr b)) = inr (inr (inl (record { pid = b.pid; process = b.process; child = b.child; posts = b.posts; there = b.there; stands = b.stands; undue = b.undue; next = b.next })))
 
 pub shadow_follows : (c : ClusterView) (log : List Entry) → is_system c.system ≡ true → IsLegalBy MayStand c.system log → FollowsHeard c.system log c → FollowsBuilt c.system log (shadow log c)
 shadow_follows c log valid legal f = record {
@@ -98,6 +100,7 @@ shadow_follows c log valid legal f = record {
   records = f.records;
   family = refl;
   owed = f.owed;
+  backups = f.backups;
   forks = λ parent child q h there beside any.
       let home = home_here (placement c.system log) c.number (pids_in c.here) child (differ_built c.system log valid legal) (f.processes).each_once (is_among c.here child h beside) in
       f.forks parent child q h there beside (ap (list_any (bears_by parent child)) f.family ∙ born_here (placement c.system log) c.number parent child (unsynced_births c.system log) home any);
@@ -109,11 +112,12 @@ shadow_follows c log valid legal f = record {
 abbrev pub alike : ClusterView → ℕ → Places → List (Pid × Pid) → ℕ → ClusterView
 alike c cursor places family steps = record c { cursor = cursor; places = places; family = family; steps = steps }
 
-pub queued_back : (c : ClusterView) (log : List Entry) (cursor : ℕ) (places : Places) (family : List (Pid × Pid)) (steps : ℕ)
-    → IsQueued c.queue ⊎ Synchronises c.system log (alike c cursor places family steps) ⊎ BearsChild c.system log (alike c cursor places family steps)
+-- where the posts are such as no new backup is
+pub queued_back : (c : ClusterView) (log : List Entry) (cursor : ℕ) (places : Places) (family : List (Pid × Pid)) (steps : ℕ) → are_plain c.queue ≡ true
+    → IsQueued c.queue ⊎ Synchronises c.system log (alike c cursor places family steps) ⊎ BearsChild c.system log (alike c cursor places family steps) ⊎ HandsOver (alike c cursor places family steps)
     → IsQueued c.queue ⊎ Synchronises c.system log c ⊎ BearsChild c.system log c
-queued_back c log cursor places family steps (inl alone) = inl alone
-queued_back c log cursor places family steps (inr (inl y)) = inr (inl (record {
+queued_back c log cursor places family steps plain (inl alone) = inl alone
+queued_back c log cursor places family steps plain (inr (inl y)) = inr (inl (record {
   pid = y.pid;
   process = y.process;
   read = y.read;
@@ -127,5 +131,7 @@ queued_back c log cursor places family steps (inr (inl y)) = inr (inl (record {
   since = y.since;
   unmarked = y.unmarked;
 }))
-queued_back c log cursor places family steps (inr (inr b)) =
+queued_back c log cursor places family steps plain (inr (inr (inl b))) =
     inr (inr (record { pid = b.pid; process = b.process; child = b.child; posts = b.posts; there = b.there; stands = b.stands; undue = b.undue; next = b.next }))
+queued_back c log cursor places family steps plain (inr (inr (inr h))) =
+    absurd (true≢false (sym plain ∙ ap are_plain h.posts ∙ ap (λ w. not (is_rebackup w) && true) h.standing))

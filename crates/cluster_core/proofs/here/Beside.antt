@@ -5,7 +5,7 @@ use Rattle.std.specs.Prelude.{⊤}
 use Rattle.t32_base.specs.declared.process.Pid.{Pid}
 use Rattle.sys_text.specs.declared.system.System.{System}
 use Rattle.bus_msg.specs.declared.entry.Entry.{Entry}
-use Rattle.cert_sched.specs.Built.{UnlostMayFollow}
+use Rattle.cluster_core.specs.Sent.{SentMayFollow}
 use Rattle.bus_msg.specs.declared.entry.Post.{Post}
 use Rattle.cert_sched.specs.Parts.{rising}
 use Rattle.cert_sched.specs.Rests.{home_pids}
@@ -16,6 +16,7 @@ use Rattle.cluster_core.specs.Queue.{IsQueued, with_queue}
 use Rattle.cluster_core.specs.Holds.{CarriesMarks, HasNotFailed, HoldsAccounts, HoldsLimits, HoldsLog, HoldsPages, HoldsQueue, HoldsRecords, HoldsSteps, IsHeldAs, MarkedIfThere, unended_process}
 use Rattle.cluster_core.specs.Families.{HoldsFamily}
 use Rattle.cluster_core.specs.Owed.{HoldsOwed}
+use Rattle.cluster_core.specs.Standing.{HoldsBackups}
 use Rattle.cluster_core.specs.ForksAgain.{HoldsForks}
 use Rattle.cluster_core.specs.Follows.{FollowsBuilt}
 
@@ -62,7 +63,7 @@ pub record HoldsThem (which : Pid → Bool) (system : System) (log : List Entry)
 pub record FollowsBeside (which : Pid → Bool) (system : System) (entries : List Entry) (c : ClusterView) : Type 0 where
   pub log : HoldsLog system entries c
   pub processes : HoldsThem which system entries c
-  pub queue : HoldsQueue UnlostMayFollow system entries c
+  pub queue : HoldsQueue SentMayFollow system entries c
   pub queued : IsQueued c.queue
   pub steps : HoldsSteps entries c
   pub limits : HoldsLimits system c
@@ -71,6 +72,7 @@ pub record FollowsBeside (which : Pid → Bool) (system : System) (entries : Lis
   pub records : HoldsRecords system entries c
   pub family : HoldsFamily system entries c
   pub owed : HoldsOwed system entries c
+  pub backups : HoldsBackups system entries c
   pub forks : HoldsForks c
   pub accounts : HoldsAccounts system entries c
   pub disk : HasNotFailed c
@@ -93,6 +95,7 @@ beside_of system log c f queued = record {
   records = f.records;
   family = f.family;
   owed = f.owed;
+  backups = f.backups;
   forks = f.forks;
   accounts = f.accounts;
   disk = f.disk;
@@ -111,6 +114,7 @@ built_of system log c f = record {
   records = f.records;
   family = f.family;
   owed = f.owed;
+  backups = f.backups;
   forks = f.forks;
   accounts = f.accounts;
   disk = f.disk;

@@ -21,13 +21,14 @@ use Rattle.bus_msg.specs.declared.placed.Placed.{Placed}
 use Rattle.bus_msg.specs.Places.{Places, is_at_home, is_cluster, placed_at, same_cluster, same_pid, unended_at, is_moved_by}
 use Rattle.bus_msg.specs.PlacedAfter.{what, placed_after, after_loss}
 use Rattle.crash_notice.specs.Splitting.{is_moved_here, moves_here, stays}
-use Rattle.cert_sched.specs.Built.{MayStand, UnlostMayFollow}
+use Rattle.cert_sched.specs.Built.{MayStand}
+use Rattle.cluster_core.specs.Sent.{SentMayFollow}
 use Rattle.cert_sched.specs.Deeds.{deeds_in, is_birth_of, is_cut, letter_for, start_of}
 use Rattle.cert_sched.specs.Losses.{is_by_cluster, is_from, is_crash_of}
 use Rattle.cert_sched.specs.Parts.{rising}
 use Rattle.cert_sched.specs.Record.{backup_record, has_state, record_from}
 use Rattle.cert_sched.specs.Rests.{home_pids}
-use Rattle.cert_sched.specs.Rules.{home_at, has_its_pages}
+use Rattle.cert_sched.specs.Rules.{home_at, has_its_pages, has_awaited_backup}
 use Rattle.cert_sched.specs.Schedule.{items_of, placement}
 use Rattle.cert_sched.specs.Simulation.{IsUnended}
 use Rattle.cert_sched.proofs.FreshLaws.{only_one}
@@ -91,6 +92,8 @@ use Rattle.replay_laws.proofs.forks.EitherWait.{so_alike, so_begins, so_follows}
 use Rattle.cert_sched.specs.Account.{is_exit_of}
 use Rattle.checkpoint_laws.specs.marks.Beside.{is_some_page}
 use Rattle.cluster_core.proofs.syncs.Marking.{Leaves, marked_after, queue_tells}
+use Rattle.cluster_core.specs.Standing.{has_begun}
+use Rattle.cluster_core.proofs.awaiting.Awaited.{awaited_after}
 
 -- ---- lists
 
@@ -361,9 +364,10 @@ module _ (system : System) (valid : is_system system ≡ true) (log : List Entry
     family = subst (λ w. family_after w c.family ≡ unsynced_births system later) n.same (family_next system log e c.family valid (n.legal, n.before) (n.more, n.goes_on) f.family);
     owed = subst (λ w. AreOwed system later c.number (owed_after c.number places w c.owed)) n.same
         (owed_next system log e c.number places c.owed valid (n.more, n.goes_on) refl (ap (λ j. is_crash_of j (what e)) number_is ∙ ap (is_crash_of k) n.same ∙ apart) f.owed);
+    backups = backups;
     forks = forks;
     accounts =
-        accounts_next system log e c (with_server server after) q (foreign_no_answer c.number e (ap (λ k. is_by_cluster k e) number_is ∙ foreign)) serves refl queue_is queue_is posts_legal f.accounts;
+        accounts_next system log e c (with_server server after) q (foreign_no_answer c.number e (ap (λ k. is_by_cluster k e) number_is ∙ foreign)) serves refl queue_is queue_is (f.queued).together f.accounts;
     disk = ((f.disk).0, ahead_after places e c.server server serves (f.disk).1);
   })
     where
@@ -385,14 +389,14 @@ module _ (system : System) (valid : is_system system ≡ true) (log : List Entry
       posts_own : list_all (λ (post : Post). is_from k post.by) (posts_of q) ≡ true
       posts_own = sym (λ i. list_all (λ (post : Post). is_from (number_is i) post.by) (queue_is i)) ∙ (f.queue).own
 
-      posts_legal : IsQueueLegal UnlostMayFollow system log (posts_of q)
-      posts_legal = subst (IsQueueLegal UnlostMayFollow system log) queue_is (f.queue).legal
+      posts_legal : IsQueueLegal SentMayFollow system log (posts_of q)
+      posts_legal = subst (IsQueueLegal SentMayFollow system log) queue_is (f.queue).legal
 
       posts_unfallen : NoneFalls places (what e) (posts_of q)
       posts_unfallen = subst (NoneFalls places (what e)) queue_is unfallen
 
-      legal_still : IsQueueLegal UnlostMayFollow system later c.queue
-      legal_still = subst (IsQueueLegal UnlostMayFollow system later) (sym queue_is) (queue_stays system valid log e lost cause n k apart q (f.queued).together posts_own foreign posts_unfallen posts_legal)
+      legal_still : IsQueueLegal SentMayFollow system later c.queue
+      legal_still = subst (IsQueueLegal SentMayFollow system later) (sym queue_is) (queue_stays system valid log e lost cause n k apart q (f.queued).together posts_own foreign posts_unfallen posts_legal)
 
       -- what the cluster is after it
       after : ClusterView
@@ -441,6 +445,15 @@ module _ (system : System) (valid : is_system system ≡ true) (log : List Entry
               let elsewhere = not_here c.records p y.kept m in
               subst (λ x. HeldOf which system later (posts_of q) p x) (sym y.is)
               (waiting_held q c.records p y.kept m (no_move_queued system valid log e lost cause n k apart q p (f.queued).together posts_own posts_legal elsewhere) (λ i. no_fetch_queued system valid log e lost cause n k apart q p i (f.queued).together posts_own posts_legal elsewhere))
+
+      -- who was here and had begun waits for no new backup still, and the others have not begun
+      backups : (p : Pid) (h : Held) → held_of (with_all_waiting moved c.here) p ≡ Some h → has_begun h ≡ true → has_awaited_backup system later p ≡ true
+      backups p h at begun = by_either (found p h at)
+        where
+          by_either : (held_of c.here p ≡ Some h) ⊎ Recovery (λ r. Moves c.records r.pid r) p h → has_awaited_backup system later p ≡ true
+          by_either (inl there) =
+              awaited_after system log e p k valid n.legal stands (differ_built system log valid n.legal) (home_of p h there) (ap (is_crash_of k) n.same ∙ apart) (f.backups p h there begun)
+          by_either (inr y) = absurd (true≢false (sym begun ∙ ap has_begun y.is))
 
       -- who was here has its marks still
       marks_still : (p : Pid) (h : Held) → which p ≡ true → held_of c.here p ≡ Some h → IsHeldAs system later (posts_of q) p h → MarkedIfThere CarriesMarks system (with_queue system later (posts_of q)) p (unended_process h)

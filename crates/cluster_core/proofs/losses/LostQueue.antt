@@ -19,7 +19,8 @@ use Rattle.bus_msg.specs.declared.entry.Entry.{Entry}
 use Rattle.bus_msg.specs.declared.placed.Placed.{Placed}
 use Rattle.bus_msg.specs.Places.{Places, lives_in, same_cluster, same_pid, unended_at}
 use Rattle.bus_msg.specs.PlacedAfter.{after_loss, what, placed_after}
-use Rattle.cert_sched.specs.Built.{MayStand, TellingMayFollow, tells_or_closes, UnlostMayFollow}
+use Rattle.cert_sched.specs.Built.{MayStand, TellingMayFollow, tells_or_closes}
+use Rattle.cluster_core.specs.Sent.{SentMayFollow}
 use Rattle.cert_sched.specs.Legal.{IsLegalBy}
 use Rattle.cert_sched.specs.Losses.{is_by_cluster, is_from, is_crash_of}
 use Rattle.cert_sched.specs.Appended.{entry_of}
@@ -160,20 +161,20 @@ module _ (system : System) (valid : is_system system ≡ true) (log : List Entry
           ∙ (λ i. lives i && is_by (Cluster k) (home_stays u.pid home i)) ∙ eq-eqb k.0 k.0 refl
 
   -- so may one of a page that does not fall
-  post_stays : (post : Post) → is_lone post.what ≡ true → is_from k post.by ≡ true → is_by_cluster k e ≡ false → falls places (what e) post.what ≡ false → UnlostMayFollow system log (entry_of system log post) → UnlostMayFollow system later (entry_of system later post)
+  post_stays : (post : Post) → is_lone post.what ≡ true → is_from k post.by ≡ true → is_by_cluster k e ≡ false → falls places (what e) post.what ≡ false → SentMayFollow system log (entry_of system log post) → SentMayFollow system later (entry_of system later post)
   post_stays post lone own foreign unfallen may = by_what (lone_is post.what lone)
     where
-      by_what : (tells_or_closes post.what ≡ true) ⊎ (is_of_page post.what ≡ true) → UnlostMayFollow system later (entry_of system later post)
+      by_what : (tells_or_closes post.what ≡ true) ⊎ (is_of_page post.what ≡ true) → SentMayFollow system later (entry_of system later post)
       by_what (inl tells) = may_told system later (entry_of system later post) (told_stays post own (told_may system log (entry_of system log post) may tells))
       by_what (inr of) = page_post_stays system valid log e k post (n.legal, n.before) (n.more, n.goes_on) foreign not_here_lost own of unfallen may
 
-  pub queue_stays : (q : Queued) → AreTogether q → list_all (λ (post : Post). is_from k post.by) (posts_of q) ≡ true → is_by_cluster k e ≡ false → NoneFalls places (what e) (posts_of q) → IsQueueLegal UnlostMayFollow system log (posts_of q)
-      → IsQueueLegal UnlostMayFollow system later (posts_of q)
+  pub queue_stays : (q : Queued) → AreTogether q → list_all (λ (post : Post). is_from k post.by) (posts_of q) ≡ true → is_by_cluster k e ≡ false → NoneFalls places (what e) (posts_of q) → IsQueueLegal SentMayFollow system log (posts_of q)
+      → IsQueueLegal SentMayFollow system later (posts_of q)
   queue_stays Nothing together own foreign unfallen legal = tt
   queue_stays (One post) together own foreign unfallen legal = (post_stays post together (and_parts (is_from k post.by) true own).0 foreign (unfallen post refl) legal.0, tt)
 
   -- nothing is queued for a process that is at home elsewhere: no move of it,
-  pub no_move_queued : (q : Queued) (p : Pid) → AreTogether q → list_all (λ (post : Post). is_from k post.by) (posts_of q) ≡ true → IsQueueLegal UnlostMayFollow system log (posts_of q) → (home_at places p ≡ Some k → ⊥) → move_of p (posts_of q) ≡ None
+  pub no_move_queued : (q : Queued) (p : Pid) → AreTogether q → list_all (λ (post : Post). is_from k post.by) (posts_of q) ≡ true → IsQueueLegal SentMayFollow system log (posts_of q) → (home_at places p ≡ Some k → ⊥) → move_of p (posts_of q) ≡ None
   no_move_queued Nothing p together own legal away = refl
   no_move_queued (One post) p together own legal away = ap (λ b. option_map (λ (post : Post). post.what) (cond b (Some post) None)) (by_what (lone_is post.what together))
     where
@@ -201,7 +202,7 @@ module _ (system : System) (valid : is_system system ≡ true) (log : List Entry
       by_what (inr of) = page_moves_none p post of
 
   -- and no fetch of its pages
-  pub no_fetch_queued : (q : Queued) (p : Pid) (i : ℕ) → AreTogether q → list_all (λ (post : Post). is_from k post.by) (posts_of q) ≡ true → IsQueueLegal UnlostMayFollow system log (posts_of q) → (home_at places p ≡ Some k → ⊥) → is_fetch_queued p (posts_of q) i ≡ false
+  pub no_fetch_queued : (q : Queued) (p : Pid) (i : ℕ) → AreTogether q → list_all (λ (post : Post). is_from k post.by) (posts_of q) ≡ true → IsQueueLegal SentMayFollow system log (posts_of q) → (home_at places p ≡ Some k → ⊥) → is_fetch_queued p (posts_of q) i ≡ false
   no_fetch_queued Nothing p i together own legal away = refl
   no_fetch_queued (One post) p i together own legal away = ap (λ b. b || false) (by_fetch (is_fetch p i post.what) refl)
     where

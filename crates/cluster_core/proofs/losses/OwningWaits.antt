@@ -11,7 +11,8 @@ use Rattle.bus_msg.specs.declared.entry.Entry.{Entry}
 use Rattle.bus_msg.specs.Places.{same_cluster}
 use Rattle.bus_msg.specs.PlacedAfter.{what}
 use Rattle.crash_notice.specs.Splitting.{moves_here}
-use Rattle.cert_sched.specs.Built.{MayStand, is_unlost, tells_or_closes}
+use Rattle.cert_sched.specs.Built.{MayStand, tells_or_closes}
+use Rattle.cluster_core.specs.Sent.{is_sent}
 use Rattle.cert_sched.specs.Losses.{is_crash_of}
 use Rattle.cert_sched.specs.Schedule.{placement}
 use Rattle.cert_sched.proofs.LogLaws.{IsLegal-last}
@@ -26,7 +27,7 @@ use Rattle.cluster_core.specs.Recovered.{moved_by, with_all_waiting, with_waitin
 use Rattle.cluster_core.specs.Follows.{FollowsBuilt, IsOpen, StandsBetween}
 use Rattle.cluster_core.specs.Calls.{IsReady, ReadyFor}
 use Rattle.cluster_core.proofs.absorbing.ByKind.{IsLoss, OneOf, by_kind, by_page, by_sync, is_of_page, kind_is}
-use Rattle.cluster_core.proofs.absorbing.Following.{own_unlost}
+use Rattle.cluster_core.proofs.absorbing.Following.{own_sent}
 use Rattle.cluster_core.proofs.losses.LostQueue.{NextLoss}
 use Rattle.cluster_core.proofs.losses.Losing.{Moves, moving}
 use Rattle.cluster_core.proofs.losses.MovedRecords.{all_recorded}
@@ -47,7 +48,7 @@ other_lost c e l other = sym (ap (is_crash_of c.number) l.same) ∙ other
 
 -- no loss is a post of the cluster's own
 pub own_no_loss : (c : ClusterView) (log : List Entry) (e : Entry) → IsLoss (what e) → StandsBetween FollowsBuilt c.system log e c → ⊥
-own_no_loss c log e l s = true≢false (sym (own_unlost c log e s) ∙ ap is_unlost l.same)
+own_no_loss c log e l s = true≢false (sym (own_sent c log e s) ∙ ap is_sent l.same)
 
 -- ---- one more is here
 

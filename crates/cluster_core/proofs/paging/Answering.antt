@@ -1,5 +1,5 @@
 -- A cluster that queues the answer that it owes as a page server.
-use Rattle.std.proofs.Common.{◌≡◌, ℕ, ◌+◌, refl, sym, ◌∙◌, ap, subst, List, [], ◌∷◌, true, cond, ◌&&◌, eqb, eq-eqb, Option, Some, None, is_some, inl}
+use Rattle.std.proofs.Common.{inr, ◌≡◌, ℕ, ◌+◌, refl, sym, ◌∙◌, ap, subst, List, [], ◌∷◌, true, cond, ◌&&◌, eqb, eq-eqb, Option, Some, None, is_some, inl}
 use Rattle.std.specs.Prelude.{option_and_then, option_map, slice_get}
 use Rattle.std.proofs.lemmas.Bool.{and_parts}
 use Rattle.t32_base.specs.declared.process.Pid.{Pid}
@@ -13,7 +13,8 @@ use Rattle.bus_msg.specs.declared.entry.Post.{Post}
 use Rattle.bus_msg.specs.Places.{Places, same_pid, servers_in}
 use Rattle.cert_sched.specs.Appended.{entry_of}
 use Rattle.cert_sched.specs.Account.{Account, page_in}
-use Rattle.cert_sched.specs.Built.{MayStand, UnlostMayFollow, is_unlost}
+use Rattle.cert_sched.specs.Built.{MayStand}
+use Rattle.cluster_core.specs.Sent.{SentMayFollow, is_sent}
 use Rattle.cert_sched.specs.Kinds.{PageIsHolds}
 use Rattle.cert_sched.specs.Losses.{is_from, least_steps}
 use Rattle.cert_sched.specs.Moved.{waiting_fetches}
@@ -76,7 +77,7 @@ module _ (c : ClusterView) (served : Option PagerState) (post : Post) (owed : ow
   first : is_first_server c.places c.number ≡ true
   first = (and_parts (is_first_server c.places c.number) (is_some (option_and_then earliest c.server)) owed).0
 
-  answer_may : (log : List Entry) → IsOpen MayStand c.system log → FollowsBuilt c.system log c → UnlostMayFollow c.system log (entry_of c.system log one)
+  answer_may : (log : List Entry) → IsOpen MayStand c.system log → FollowsBuilt c.system log c → SentMayFollow c.system log (entry_of c.system log one)
   answer_may log go f = record {
     stands = record {
       placed = (refl, refl, go.1);
@@ -94,8 +95,8 @@ module _ (c : ClusterView) (served : Option PagerState) (post : Post) (owed : ow
   pub answered_own : (is_from c.number post.by && true) ≡ true
   answered_own = ap (λ (p : Post). is_from c.number p.by && true) a.post_is ∙ ap (λ b. b && true) (eq-eqb (c.number).0 (c.number).0 refl)
 
-  pub answered_built : (is_unlost post.what && true) ≡ true
-  answered_built = ap (λ (p : Post). is_unlost p.what && true) a.post_is
+  pub answered_built : (is_sent post.what && true) ≡ true
+  answered_built = ap (λ (p : Post). is_sent p.what && true) a.post_is
 
   -- each process is held as before, with the answer queued
   held_then : (log : List Entry) → c.queue ≡ [] → FollowsBuilt c.system log c → (q : Pid) (h : Held) → held_at c q ≡ Some h → IsHeldAs c.system log (post ∷ []) q h
@@ -103,8 +104,8 @@ module _ (c : ClusterView) (served : Option PagerState) (post : Post) (owed : ow
       let old : IsHeldAs c.system log [] q h = subst (λ queue. IsHeldAs c.system log queue q h) empty ((f.processes).held q h there) in
       subst (λ (p : Post). IsHeldAs c.system log (p ∷ []) q h) (sym a.post_is) (held_answered c.system log c.number a.pid a.index a.bytes q h old)
 
-  may_then : (log : List Entry) → IsOpen MayStand c.system log → FollowsBuilt c.system log c → UnlostMayFollow c.system log (entry_of c.system log post)
-  may_then log go f = subst (λ (p : Post). UnlostMayFollow c.system log (entry_of c.system log p)) (sym a.post_is) (answer_may log go f)
+  may_then : (log : List Entry) → IsOpen MayStand c.system log → FollowsBuilt c.system log c → SentMayFollow c.system log (entry_of c.system log post)
+  may_then log go f = subst (λ (p : Post). SentMayFollow c.system log (entry_of c.system log p)) (sym a.post_is) (answer_may log go f)
 
   pub answered_goes_on : is_system c.system ≡ true → c.queue ≡ [] → GoesOn c (answered_view c served post)
   answered_goes_on valid empty log go f = record {
@@ -127,13 +128,14 @@ module _ (c : ClusterView) (served : Option PagerState) (post : Post) (owed : ow
     records = f.records;
     family = f.family;
     owed = f.owed;
+    backups = f.backups;
     forks = f.forks;
     accounts = accounts_answered c.system log c (answered_view c served post) post a refl empty refl f.accounts;
     disk = ((f.disk).0, ahead_answered c.number c.server served post a (f.disk).1);
   }
 
-  pub answered_work : WorkIs c Queued (answered_view c served post)
-  answered_work = inl (record { post = post; owed = owed; answers = a; rest = refl })
+  pub answered_work : c.owed ≡ [] → WorkIs c Queued (answered_view c served post)
+  answered_work backed = inr (inl (backed, record { post = post; owed = owed; answers = a; rest = refl }))
 
 -- ---- before it
 

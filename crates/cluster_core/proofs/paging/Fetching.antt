@@ -7,7 +7,8 @@ use Rattle.sys_text.specs.Valid.{is_system}
 use Rattle.bus_msg.specs.declared.entry.Entry.{Entry}
 use Rattle.bus_msg.specs.Places.{same_pid}
 use Rattle.cert_sched.specs.Appended.{entry_of}
-use Rattle.cert_sched.specs.Built.{MayStand, UnlostMayFollow}
+use Rattle.cert_sched.specs.Built.{MayStand}
+use Rattle.cluster_core.specs.Sent.{SentMayFollow}
 use Rattle.cert_sched.specs.Losses.{is_from, least_steps}
 use Rattle.cert_sched.specs.Parts.{rising}
 use Rattle.cert_sched.specs.Schedule.{placement}
@@ -31,7 +32,8 @@ use Rattle.residents.proofs.Changing.{pids_changed, same_itself}
 use Rattle.cluster_core.proofs.losses.Homes.{home_lives}
 use Rattle.cluster_core.proofs.absorbing.Served.{accounts_queued}
 use Rattle.replay_laws.proofs.forks.EitherWait.{lacks_pages, so_alike}
-use Rattle.cluster_core.proofs.working.Working.{held_beside, home_by, home_of_it, limits_beside, more_counted, pages_beside, turned, marks_beside, marks_queued}
+use Rattle.cluster_core.proofs.awaiting.Awaited.{none_owed}
+use Rattle.cluster_core.proofs.working.Working.{backups_beside, held_beside, home_by, home_of_it, limits_beside, more_counted, pages_beside, turned, marks_beside, marks_queued}
 
 -- ---- the fetch
 
@@ -64,7 +66,7 @@ fetch_elsewhere k p q index i other = ap (λ b. (b && eqb index i) || false) oth
 
 -- ---- the cluster
 
-module _ (c : ClusterView) (p : Pid) (index : ℕ) (waiting : WaitingState) (empty : c.queue ≡ []) (there : held_at c p ≡ Some (Waits waiting)) (next : next_page waiting ≡ Some index) where
+module _ (c : ClusterView) (p : Pid) (index : ℕ) (waiting : WaitingState) (empty : c.queue ≡ []) (there : held_at c p ≡ Some (Waits waiting)) (next : next_page waiting ≡ Some index) (backed : c.owed ≡ []) where
   abbrev asked : Held
   asked = asked_held (Waits waiting)
 
@@ -87,7 +89,7 @@ module _ (c : ClusterView) (p : Pid) (index : ℕ) (waiting : WaitingState) (emp
     held_asked =
         (refl, so_alike c.system log p (λ i. eqb i index) (is_fetch_queued p (fetch_post c.number p index ∷ [])) (record waiting { asked = waiting.asked + 1 }) (fetch_queued c.number p index) (inl (next_asked c.system log p waiting waits index next)))
 
-    fetch_follows : UnlostMayFollow c.system log (entry_of c.system log (fetch_post c.number p index))
+    fetch_follows : SentMayFollow c.system log (entry_of c.system log (fetch_post c.number p index))
     fetch_follows = record {
       stands = record {
         placed = (refl, refl, go.1);
@@ -120,6 +122,7 @@ module _ (c : ClusterView) (p : Pid) (index : ℕ) (waiting : WaitingState) (emp
       records = f.records;
       family = f.family;
       owed = f.owed;
+      backups = backups_beside c log p asked f.backups (λ begun. none_owed c.system log c.number c.owed p backed f.owed (home_of_it c p (Waits waiting) empty there valid log go f));
       forks = forks_changed c.family p (Waits waiting) asked c.here there (asked_forks (Waits waiting)) f.forks;
       accounts = accounts_queued c.system log c (record c { here = with_changed p asked c.here; queue = fetch_post c.number p index ∷ []; steps = next_count c.steps }) (fetch_post c.number p index) refl refl empty refl refl f.accounts;
       disk = f.disk;
@@ -129,12 +132,12 @@ module _ (c : ClusterView) (p : Pid) (index : ℕ) (waiting : WaitingState) (emp
 abbrev pub asked_view : ClusterView → List (Pid × Held) → Pid → ℕ → ClusterView
 asked_view c here p index = record c { here = here; queue = fetch_post c.number p index ∷ []; steps = next_count c.steps }
 
-pub asked_goes_on : (c : ClusterView) (here : List (Pid × Held)) (p : Pid) (index : ℕ) → is_system c.system ≡ true → c.queue ≡ [] → AsksNext c.here here p index → GoesOn c (asked_view c here p index)
-asked_goes_on c here p index valid empty asks log go f =
+pub asked_goes_on : (c : ClusterView) (here : List (Pid × Held)) (p : Pid) (index : ℕ) → is_system c.system ≡ true → c.queue ≡ [] → c.owed ≡ [] → AsksNext c.here here p index → GoesOn c (asked_view c here p index)
+asked_goes_on c here p index valid empty backed asks log go f =
     let l = who_lacks asks.was index asks.lacks in
     let there : held_at c p ≡ Some (Waits l.waiting) = asks.there ∙ ap Some l.is in
     let same : with_changed p (asked_held (Waits l.waiting)) c.here ≡ here = ap (λ (h : Held). with_changed p (asked_held h) c.here) (sym l.is) ∙ sym asks.new_is in
-    subst (λ hs. FollowsBuilt c.system log (asked_view c hs p index)) same (asked_follows c p index l.waiting empty there l.next valid log go f)
+    subst (λ hs. FollowsBuilt c.system log (asked_view c hs p index)) same (asked_follows c p index l.waiting empty there l.next backed valid log go f)
 
-pub asked_work : (c : ClusterView) (here : List (Pid × Held)) (p : Pid) (index : ℕ) → owes_answer c.places c.number c.server ≡ false → AsksNext c.here here p index → WorkIs c Queued (asked_view c here p index)
-asked_work c here p index unowed asks = inr (inl (unowed, record { pid = p; index = index; asks = asks; rest = refl }))
+pub asked_work : (c : ClusterView) (here : List (Pid × Held)) (p : Pid) (index : ℕ) → c.owed ≡ [] → owes_answer c.places c.number c.server ≡ false → AsksNext c.here here p index → WorkIs c Queued (asked_view c here p index)
+asked_work c here p index backed unowed asks = inr (inr (inl (backed, unowed, record { pid = p; index = index; asks = asks; rest = refl })))

@@ -20,7 +20,8 @@ use Rattle.bus_msg.specs.PlacedAfter.{after_loss, changed_at, lost_cluster, plac
 use Rattle.channel_table.specs.Changes.{pids_differ}
 use Rattle.cert_sched.specs.Account.{is_exit_of}
 use Rattle.cert_sched.specs.Appended.{entry_of}
-use Rattle.cert_sched.specs.Built.{MayStand, UnlostMayFollow}
+use Rattle.cert_sched.specs.Built.{MayStand}
+use Rattle.cluster_core.specs.Sent.{SentMayFollow}
 use Rattle.cert_sched.specs.Deeds.{is_cut}
 use Rattle.cert_sched.specs.Kinds.{FetchHolds, KindHolds, PageIsHolds}
 use Rattle.cert_sched.specs.Losses.{is_by_cluster, is_crash_of, is_from}
@@ -218,11 +219,11 @@ module _ (system : System) (valid : is_system system ≡ true) (log : List Entry
       by_loss None stays = refl
       by_loss (Some lost) stays = placed_not_moved places p lost differ stays
 
-  module _ (post : Post) (from : is_from k post.by ≡ true) (may : UnlostMayFollow system log (entry_of system log post)) where
+  module _ (post : Post) (from : is_from k post.by ≡ true) (may : SentMayFollow system log (entry_of system log post)) where
     applies_later : ((kernel : Kernel) → items_of kernel post.what ≡ []) → is_some (plain_after system (later ++ entry_of system later post ∷ [])) ≡ true
     applies_later none = ap is_some (no_items system later (entry_of system later post) none) ∙ plain_there MayStand (λ system log e may. may.stands) system later next.0
 
-    fetch_stays : (p : Pid) (i : ℕ) → post.what ≡ Fetch p i → UnlostMayFollow system later (entry_of system later post)
+    fetch_stays : (p : Pid) (i : ℕ) → post.what ≡ Fetch p i → SentMayFollow system later (entry_of system later post)
     fetch_stays p i is = record {
       stands = record {
         placed = (refl, refl, next.1);
@@ -245,7 +246,7 @@ module _ (system : System) (valid : is_system system ≡ true) (log : List Entry
         holds : FetchHolds system log p i
         holds = subst (KindHolds system log (entry_of system log post)) is (may.stands).kind
 
-    page_is_stays : (p : Pid) (i : ℕ) (bytes : List ℕ) → post.what ≡ PageIs p i bytes → falls places (what e) post.what ≡ false → UnlostMayFollow system later (entry_of system later post)
+    page_is_stays : (p : Pid) (i : ℕ) (bytes : List ℕ) → post.what ≡ PageIs p i bytes → falls places (what e) post.what ≡ false → SentMayFollow system later (entry_of system later post)
     page_is_stays p i bytes is unfallen = record {
       stands = record {
         placed = (refl, refl, next.1);
@@ -271,8 +272,8 @@ module _ (system : System) (valid : is_system system ≡ true) (log : List Entry
 
 -- a queued fetch or answer of a cluster may follow after an entry of another, unless it falls
 pub page_post_stays : (system : System) → is_system system ≡ true → (log : List Entry) (e : Entry) (k : ClusterNo) (post : Post) → IsOpen MayStand system log → IsOpen MayStand system (log ++ e ∷ []) → is_by_cluster k e ≡ false
-    → is_crash_of k (what e) ≡ false → is_from k post.by ≡ true → is_of_page post.what ≡ true → falls (placement system log) (what e) post.what ≡ false → UnlostMayFollow system log (entry_of system log post)
-    → UnlostMayFollow system (log ++ e ∷ []) (entry_of system (log ++ e ∷ []) post)
+    → is_crash_of k (what e) ≡ false → is_from k post.by ≡ true → is_of_page post.what ≡ true → falls (placement system log) (what e) post.what ≡ false → SentMayFollow system log (entry_of system log post)
+    → SentMayFollow system (log ++ e ∷ []) (entry_of system (log ++ e ∷ []) post)
 page_post_stays system valid log e k post now next foreign away from of unfallen may =
-    by_page (λ w. post.what ≡ w → UnlostMayFollow system (log ++ e ∷ []) (entry_of system (log ++ e ∷ []) post))
+    by_page (λ w. post.what ≡ w → SentMayFollow system (log ++ e ∷ []) (entry_of system (log ++ e ∷ []) post))
     (λ p i is. fetch_stays system valid log e k now next foreign away post from may p i is) (λ p i bytes is. page_is_stays system valid log e k now next foreign away post from may p i bytes is unfallen) post.what of refl

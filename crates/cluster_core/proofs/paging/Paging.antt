@@ -16,12 +16,13 @@ use Rattle.bus_msg.specs.declared.entry.Entry.{Entry}
 use Rattle.bus_msg.specs.Places.{Places, unended_at, same_pid}
 use Rattle.bus_msg.specs.PlacedAfter.{what, placed_after}
 use Rattle.cert_sched.specs.Appended.{entry_of}
-use Rattle.cert_sched.specs.Built.{tells_or_closes, MayStand, TellingMayFollow, UnlostMayFollow}
+use Rattle.cert_sched.specs.Built.{tells_or_closes, MayStand, TellingMayFollow}
+use Rattle.cluster_core.specs.Sent.{SentMayFollow}
 use Rattle.cert_sched.specs.Deeds.{deeds_in, is_cut, letter_for, is_birth_of, starts}
 use Rattle.cert_sched.specs.Losses.{is_by_cluster, is_from, is_crash_of}
 use Rattle.cert_sched.specs.Parts.{rising}
 use Rattle.cert_sched.specs.Rests.{home_pids}
-use Rattle.cert_sched.specs.Rules.{is_by_home, has_its_pages, home_at, is_by, is_by_right, keeps_limits}
+use Rattle.cert_sched.specs.Rules.{is_by_home, has_its_pages, home_at, is_by, is_by_right, keeps_limits, has_awaited_backup}
 use Rattle.cert_sched.specs.Schedule.{items_of, placement}
 use Rattle.cert_sched.proofs.LogLaws.{IsLegal-last, placement-snoc}
 use Rattle.backup_records.specs.Records.{records_after}
@@ -43,7 +44,7 @@ use Rattle.cluster_core.specs.Holds.{IsHeldAs, is_fetch_queued, process_in, Carr
 use Rattle.cluster_core.specs.Follows.{FollowsBuilt, IsOpen}
 use Rattle.cluster_core.specs.Calls.{with_entry, here_after}
 use Rattle.cluster_core.proofs.births.FamilyNext.{family_next}
-use Rattle.cluster_core.proofs.absorbing.ByKind.{by_page, is_of_page, lone_is, may_told, page_unlost, told_may}
+use Rattle.cluster_core.proofs.absorbing.ByKind.{by_page, is_of_page, lone_is, may_told, told_may}
 use Rattle.cluster_core.proofs.here.Beside.{FollowsBeside, HeldOf, WaitsAs, any_of, one_of_them, told_waits, waits_as}
 use Rattle.cluster_core.proofs.here.Here.{is_among}
 use Rattle.residents.proofs.Changing.{pid_same}
@@ -54,7 +55,7 @@ use Rattle.cluster_core.proofs.absorbing.Fallen.{page_stays_queued}
 use Rattle.cert_sched.specs.Told.{cluster_lost}
 use Rattle.cluster_core.proofs.absorbing.Posted.{no_end}
 use Rattle.cluster_core.proofs.absorbing.Following.{counted_foreign, may_end_still, post_may, Left, by_home_of, by_one, counted_left, letter_pids, page_queued, marked_own}
-use Rattle.cluster_core.proofs.absorbing.Served.{accounts_next, foreign_no_answer, accounts_sent, ahead_after}
+use Rattle.cluster_core.proofs.absorbing.Served.{accounts_next, foreign_no_answer, accounts_sent, ahead_after, plain_kind}
 use Rattle.cluster_core.specs.Serving.{IsAheadThere, Serves}
 use Rattle.page_server.specs.Account.{PagerState}
 use Rattle.cluster_core.proofs.absorbing.Unmoved.{emission_same, state_same, silent_same}
@@ -86,6 +87,9 @@ use Rattle.cluster_core.proofs.here.Within.{start_within}
 use Rattle.cert_sched.proofs.BuiltCuts.{by_home_there}
 use Rattle.cluster_core.proofs.working.KeptLimits.{told_within}
 use Rattle.checkpoint_laws.proofs.limits.StayingLimits.{sent_stays}
+use Rattle.cluster_core.specs.Standing.{has_begun}
+use Rattle.cluster_core.proofs.awaiting.Awaited.{awaited_after, come_asked}
+use Rattle.replay_laws.specs.forks.ForkWaits.{WaitsSo}
 
 -- ---- what is here then
 
@@ -180,14 +184,14 @@ module _ (system : System) (valid : is_system system ≡ true) (log : List Entry
           (sent_stays system log e u.pid u.at u.emission u.after valid (built_stands system log now.0) (by_home_there (placement system log) post.by u.pid u.by_home) quiet u.is
           (told_within system log u.pid u.at u.emission u.after u.is post.what u.tells may.limits))
 
-  queue_stays : (k : ClusterNo) (q : Queued) → AreTogether q → is_by_cluster k e ≡ false → list_all (λ (post : Post). is_from k post.by) (posts_of q) ≡ true → IsQueueLegal UnlostMayFollow system log (posts_of q) → IsQueueLegal UnlostMayFollow system later (posts_of q)
+  queue_stays : (k : ClusterNo) (q : Queued) → AreTogether q → is_by_cluster k e ≡ false → list_all (λ (post : Post). is_from k post.by) (posts_of q) ≡ true → IsQueueLegal SentMayFollow system log (posts_of q) → IsQueueLegal SentMayFollow system later (posts_of q)
   queue_stays k Nothing together foreign own legal = tt
   queue_stays k (One post) together foreign own legal = (by_kind_of (lone_is post.what together), tt)
     where
       from : is_from k post.by ≡ true
       from = (and_parts (is_from k post.by) true own).0
 
-      by_kind_of : (tells_or_closes post.what ≡ true) ⊎ (is_of_page post.what ≡ true) → UnlostMayFollow system later (entry_of system later post)
+      by_kind_of : (tells_or_closes post.what ≡ true) ⊎ (is_of_page post.what ≡ true) → SentMayFollow system later (entry_of system later post)
       by_kind_of (inl tells) = may_told system later (entry_of system later post) (post_stays k post from (told_may system log (entry_of system log post) legal.0 tells))
       by_kind_of (inr page) = page_post_stays system valid log e k post now next foreign (loses_none k) from page (page_stays_queued (placement system log) (what e) post.what page no_loss) legal.0
 
@@ -342,6 +346,27 @@ module _ (system : System) (valid : is_system system ≡ true) (log : List Entry
   home_of : (k : ClusterNo) (here : List (Pid × Held)) (p : Pid) (h : Held) → rising (pids_in here) ≡ rising (home_pids system log k) → held_of here p ≡ Some h → HomeHere (placement system log) p k
   home_of k here p h once there = home_here (placement system log) k (pids_in here) p differ once (is_among here p h there)
 
+  -- who has begun then had before: a page comes to a process that has asked for it
+  begun_before : (queued : ℕ → Bool) (p : Pid) (was : Held) → ((w : WaitingState) → was ≡ Waits w → WaitsSo system log p queued w) → has_begun (page_at (what e) p was) ≡ true → has_begun was ≡ true
+  begun_before queued p was waits =
+      by_page (λ w. what e ≡ w → has_begun (page_at w p was) ≡ true → has_begun was ≡ true) (λ pid index is begun. begun) (λ pid index bytes is. by_pid pid index bytes is (same_pid pid p) refl) (what e) of refl
+    where
+      comes : (h : Held) (i : ℕ) (bytes : List ℕ) → what e ≡ PageIs p i bytes → ((w : WaitingState) → h ≡ Waits w → WaitsSo system log p queued w) → has_begun h ≡ true
+      comes (Runs s) i bytes is so = refl
+      comes (Rolls s counts births) i bytes is so = refl
+      comes (Waits w) i bytes is so = come_asked system log e p i bytes queued w valid next.0 is (so w refl)
+
+      by_pid : (pid : Pid) (index : ℕ) (bytes : List ℕ) → what e ≡ PageIs pid index bytes → (b : Bool) → same_pid pid p ≡ b → has_begun (cond b (page_held index bytes was) was) ≡ true → has_begun was ≡ true
+      by_pid pid index bytes is true own begun = comes was index bytes (is ∙ ap (λ q. PageIs q index bytes) (pid_same pid p (eqb-true pid.0 p.0 own))) waits
+      by_pid pid index bytes is false other begun = begun
+
+  -- so it waits for no new backup still
+  backups_after : (k : ClusterNo) (queue : List Post) (p : Pid) (was h : Held) → HomeHere (placement system log) p k → WaitsAs system log queue p was → h ≡ page_at (what e) p was → (has_begun was ≡ true → has_awaited_backup system log p ≡ true)
+      → has_begun h ≡ true → has_awaited_backup system later p ≡ true
+  backups_after k queue p was h home waits same backups begun =
+      awaited_after system log e p k valid now.0 ((IsLegal-last MayStand system log e next.0).stands) differ home (loses_none k)
+      (backups (begun_before (is_fetch_queued p queue) p was (λ w is. (subst (WaitsAs system log queue p) is waits).1) (ap has_begun (sym same) ∙ begun)))
+
   pub follows_page : (which : Pid → Bool) (c : ClusterView) (server : Option PagerState) → Serves (placement system log) e c.server server → FollowsBeside which system log c → is_by_cluster c.number e ≡ false
       → FollowsBeside which system later (with_server server (with_entry c e))
   follows_page which c server serves f foreign = subst (λ v. FollowsBeside which system later (with_server server v)) (sym (page_taken c e of)) (record {
@@ -361,9 +386,10 @@ module _ (system : System) (valid : is_system system ≡ true) (log : List Entry
     marks = marks;
     family = family_next system log e c.family valid now next f.family;
     owed = owed_next system log e c.number c.places c.owed valid next (f.log).places (loses_none c.number) f.owed;
+    backups = backups;
     forks = forks_paged system valid log e now.0 next.0 of c.queue c.family c.here f.family (λ p h there. waits_as which system log c.queue p h ((f.processes).held p h there)) f.forks;
     records = records_stay c.number c.records f.records;
-    accounts = accounts_next system log e c (with_server server (paged c e)) q (foreign_no_answer c.number e foreign) serves refl queue_is queue_is posts_legal f.accounts;
+    accounts = accounts_next system log e c (with_server server (paged c e)) q (foreign_no_answer c.number e foreign) serves refl queue_is queue_is (f.queued).together f.accounts;
     disk = ((f.disk).0, ahead_after (placement system log) e c.server server serves (f.disk).1);
   })
     where
@@ -379,11 +405,11 @@ module _ (system : System) (valid : is_system system ≡ true) (log : List Entry
       posts_own : list_all (λ (post : Post). is_from c.number post.by) (posts_of q) ≡ true
       posts_own = subst (λ ps. list_all (λ (post : Post). is_from c.number post.by) ps ≡ true) queue_is (f.queue).own
 
-      posts_legal : IsQueueLegal UnlostMayFollow system log (posts_of q)
-      posts_legal = subst (IsQueueLegal UnlostMayFollow system log) queue_is (f.queue).legal
+      posts_legal : IsQueueLegal SentMayFollow system log (posts_of q)
+      posts_legal = subst (IsQueueLegal SentMayFollow system log) queue_is (f.queue).legal
 
-      legal_still : IsQueueLegal UnlostMayFollow system later c.queue
-      legal_still = subst (IsQueueLegal UnlostMayFollow system later) (sym queue_is) (queue_stays c.number q (f.queued).together foreign posts_own posts_legal)
+      legal_still : IsQueueLegal SentMayFollow system later c.queue
+      legal_still = subst (IsQueueLegal SentMayFollow system later) (sym queue_is) (queue_stays c.number q (f.queued).together foreign posts_own posts_legal)
 
       held : (p : Pid) (h : Held) → held_of (here_after (what e) c.here) p ≡ Some h → HeldOf which system later c.queue p h
       held p h at =
@@ -415,6 +441,12 @@ module _ (system : System) (valid : is_system system ≡ true) (log : List Entry
           let before = was_paged (what e) c.here p h of at in
           has_after c.queue c.number p before.was (home_of c.number c.here p before.was once before.there) (waits_as which system log c.queue p before.was ((f.processes).held p before.was before.there)) (f.pages p before.was before.there) (ap (λ x. is_some (process_in x)) (sym before.same) ∙ runs)
 
+      backups : (p : Pid) (h : Held) → held_of (here_after (what e) c.here) p ≡ Some h → has_begun h ≡ true → has_awaited_backup system later p ≡ true
+      backups p h at =
+          let before = was_paged (what e) c.here p h of at in
+          backups_after c.number c.queue p before.was h (home_of c.number c.here p before.was once before.there) (waits_as which system log c.queue p before.was ((f.processes).held p before.was before.there)) before.same
+          (f.backups p before.was before.there)
+
   pub follows_own_page : (c : ClusterView) (l : Left c log e) (server : Option PagerState) → system ≡ c.system → Serves (placement system log) e c.server server → FollowsBuilt system later (with_server server (with_entry c e))
   follows_own_page c l server system_is serves = subst (λ v. FollowsBuilt system later (with_server server v)) (sym (page_taken c e of)) (record {
     log = record {
@@ -424,7 +456,7 @@ module _ (system : System) (valid : is_system system ≡ true) (log : List Entry
     processes = record { held = λ p h at. subst (λ ps. IsHeldAs system later ps p h) (sym empty) (held p h at); each_once = once_stays c.number c.here once };
     queue = record {
       own = ap (λ ps. list_all (λ (post : Post). is_from c.number post.by) ps) empty;
-      legal = subst (IsQueueLegal UnlostMayFollow system later) (sym empty) tt;
+      legal = subst (IsQueueLegal SentMayFollow system later) (sym empty) tt;
     };
     queued = inl (record { queued = Nothing; posts = empty; together = tt });
     steps = record { counted = counted_left c log e l };
@@ -433,10 +465,11 @@ module _ (system : System) (valid : is_system system ≡ true) (log : List Entry
     marks = λ p h at. subst (λ ps. MarkedIfThere CarriesMarks system (with_queue system later ps) p (unended_process h)) (sym empty) (marks p h at);
     family = family_next system log e c.family valid now next (ap (λ (d : ClusterView). d.family) l.same ∙ f.family);
     owed = owed_next system log e c.number c.places c.owed valid next (ap (λ (d : ClusterView). d.places) l.same ∙ (f.log).places) (loses_none c.number) (subst (HoldsOwed system log) (sym l.same) f.owed);
+    backups = backups;
     forks = forks_paged system valid log e now.0 next.0 of (e.post ∷ []) c.family c.here (ap (λ (d : ClusterView). d.family) l.same ∙ f.family) (λ p h there. told_waits system log (e.post ∷ []) p h (was_held p h there)) (subst HoldsForks (sym l.same) f.forks);
     records = records_stay c.number c.records (subst (λ recs. KeepsRecords system log c.number recs) (sym (ap (λ (d : ClusterView). d.records) l.same)) (subst (λ k. KeepsRecords system log k (l.before).records) number f.records));
     accounts =
-        accounts_sent system log e l.before (with_server server (paged c e)) (page_unlost (what e) of) (subst (λ old. Serves (placement system log) e old server) (ap (λ (d : ClusterView). d.server) l.same) serves) (sym number) l.posts empty f.accounts;
+        accounts_sent system log e l.before (with_server server (paged c e)) (plain_kind (what e) l.lone) (subst (λ old. Serves (placement system log) e old server) (ap (λ (d : ClusterView). d.server) l.same) serves) (sym number) l.posts empty f.accounts;
     disk = (ap (λ (d : ClusterView). d.failed) l.same ∙ (f.disk).0, ahead_after (placement system log) e c.server server serves (subst IsAheadThere (sym (ap (λ (d : ClusterView). d.server) l.same)) (f.disk).1));
   })
     where
@@ -477,3 +510,9 @@ module _ (system : System) (valid : is_system system ≡ true) (log : List Entry
           let before = was_paged (what e) c.here p h of at in
           has_after (e.post ∷ []) c.number p before.was (home_of c.number c.here p before.was once before.there) (told_waits system log (e.post ∷ []) p before.was (was_held p before.was before.there)) (f.pages p before.was (ap (λ hs. held_of hs p) here ∙ before.there))
           (ap (λ x. is_some (process_in x)) (sym before.same) ∙ runs)
+
+      backups : (p : Pid) (h : Held) → held_of (here_after (what e) c.here) p ≡ Some h → has_begun h ≡ true → has_awaited_backup system later p ≡ true
+      backups p h at =
+          let before = was_paged (what e) c.here p h of at in
+          backups_after c.number (e.post ∷ []) p before.was h (home_of c.number c.here p before.was once before.there) (told_waits system log (e.post ∷ []) p before.was (was_held p before.was before.there)) before.same
+          (f.backups p before.was (ap (λ hs. held_of hs p) here ∙ before.there))

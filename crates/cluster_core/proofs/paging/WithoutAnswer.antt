@@ -6,7 +6,8 @@ use Rattle.sys_text.specs.declared.system.System.{System}
 use Rattle.sys_text.specs.Valid.{is_system}
 use Rattle.bus_msg.specs.declared.entry.Entry.{Entry}
 use Rattle.bus_msg.specs.declared.entry.Post.{Post}
-use Rattle.cert_sched.specs.Built.{MayStand, UnlostMayFollow}
+use Rattle.cert_sched.specs.Built.{MayStand}
+use Rattle.cluster_core.specs.Sent.{SentMayFollow}
 use Rattle.cert_sched.specs.Losses.{capped, is_from, least_calls}
 use Rattle.cert_sched.specs.Schedule.{placement}
 use Rattle.cert_sched.specs.Simulation.{IsUnended}
@@ -47,6 +48,7 @@ module _ (system : System) (log : List Entry) (c : ClusterView) (post : Post) (p
     records = f.records;
     family = f.family;
     owed = f.owed;
+    backups = f.backups;
     forks = f.forks;
     accounts = record { keeps = (f.accounts).keeps; there = (f.accounts).there; calls = λ kept server. calls ((f.accounts).calls kept server) };
     disk = f.disk;
@@ -55,8 +57,8 @@ module _ (system : System) (log : List Entry) (c : ClusterView) (post : Post) (p
       own : list_all (λ (post : Post). is_from c.number post.by) (post ∷ []) ≡ true
       own = subst (λ ps. list_all (λ (post : Post). is_from c.number post.by) ps ≡ true) posts (f.queue).own
 
-      legal : IsQueueLegal UnlostMayFollow system log (post ∷ [])
-      legal = subst (IsQueueLegal UnlostMayFollow system log) posts (f.queue).legal
+      legal : IsQueueLegal SentMayFollow system log (post ∷ [])
+      legal = subst (IsQueueLegal SentMayFollow system log) posts (f.queue).legal
 
       was : (q : Pid) (h : Held) → held_at c q ≡ Some h → IsHeldAs system log (post ∷ []) q h
       was q h there = subst (λ ps. IsHeldAs system log ps q h) posts ((f.processes).held q h there)

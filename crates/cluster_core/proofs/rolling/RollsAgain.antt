@@ -14,7 +14,7 @@ use Rattle.cluster_core.specs.Follows.{FollowsBuilt, IsOpen}
 use Rattle.residents.specs.Quantum.{RollsTo}
 use Rattle.cluster_core.proofs.forks.ForksAgain.{forks_changed, rolled_forks}
 use Rattle.residents.proofs.Changing.{pids_changed}
-use Rattle.cluster_core.proofs.working.Working.{held_beside, held_between, limits_beside, marked_between, marks_beside, pages_beside, within_between}
+use Rattle.cluster_core.proofs.working.Working.{held_beside, held_between, limits_beside, marked_between, marks_beside, pages_beside, within_between, acts, backups_beside}
 
 -- who makes such steps is no one that waits
 rolled_in : (n : ℕ) (was now : Held) → RollsTo n was now → is_some (process_in was) ≡ true
@@ -38,6 +38,7 @@ rolls_again_follows c log p n was now valid empty go f there some rolls = record
   records = f.records;
   family = f.family;
   owed = f.owed;
+  backups = backups_beside c log p now f.backups (λ begun. f.backups p was there (acts was (rolled_in n was now rolls)));
   forks = forks_changed c.family p was now c.here there (rolled_forks n was now rolls) f.forks;
   accounts = record { keeps = (f.accounts).keeps; there = (f.accounts).there; calls = (f.accounts).calls };
   disk = f.disk;

@@ -13,7 +13,8 @@ use Rattle.bus_msg.specs.declared.entry.Entry.{Entry}
 use Rattle.bus_msg.specs.Places.{same_pid}
 use Rattle.bus_msg.specs.PlacedAfter.{what}
 use Rattle.cert_sched.specs.Appended.{entry_of}
-use Rattle.cert_sched.specs.Built.{MayStand, UnlostMayFollow}
+use Rattle.cert_sched.specs.Built.{MayStand}
+use Rattle.cluster_core.specs.Sent.{SentMayFollow}
 use Rattle.cert_sched.specs.Deeds.{arrived_count}
 use Rattle.cert_sched.specs.Legal.{IsLegalBy, Stands}
 use Rattle.cert_sched.specs.Losses.{capped, is_from, least_calls}
@@ -115,6 +116,7 @@ module _ (system : System) (log : List Entry) (c : ClusterView) (y : Synchronise
     records = f.records;
     family = f.family;
     owed = f.owed;
+    backups = f.backups;
     forks = f.forks;
     accounts = record { keeps = (f.accounts).keeps; there = (f.accounts).there; calls = λ kept server. subst (λ n. capped n ≤ disk_calls c) calls ((f.accounts).calls kept server) };
     disk = f.disk;
@@ -161,7 +163,7 @@ module _ (system : System) (log : List Entry) (c : ClusterView) (y : Synchronise
     processes = record { held = held; each_once = (f.processes).each_once };
     queue = record {
       own = ap (λ ps. list_all_own ps) y.posts ∙ batch_own c.number p s y.read y.took y.indices;
-      legal = subst (IsQueueLegal UnlostMayFollow system log) (sym y.posts) (batch_legal c.number p s y.read y.took system log y.indices valid legal (f.pages p (Runs y.process) y.there refl) y.within y.may);
+      legal = subst (IsQueueLegal SentMayFollow system log) (sym y.posts) (batch_legal c.number p s y.read y.took system log y.indices valid legal (f.pages p (Runs y.process) y.there refl) y.within y.may);
     };
     queued = inr (inl y);
     steps = record { counted = (f.steps).counted };
@@ -171,6 +173,7 @@ module _ (system : System) (log : List Entry) (c : ClusterView) (y : Synchronise
     records = f.records;
     family = f.family;
     owed = f.owed;
+    backups = f.backups;
     forks = f.forks;
     accounts = record { keeps = (f.accounts).keeps; there = (f.accounts).there; calls = λ kept server. subst (λ n. capped n ≤ disk_calls c) (sym calls) ((f.accounts).calls kept server) };
     disk = f.disk;

@@ -48,7 +48,7 @@ use Rattle.cluster_core.proofs.syncs.Batching.{all_but, unqueued, with_batch}
 use Rattle.cluster_core.proofs.forks.ForksAgain.{forks_changed}
 use Rattle.cluster_core.proofs.here.Beside.{FollowsBeside, HeldOf, any_of}
 use Rattle.cluster_core.proofs.here.Within.{carried, own_within, runs_marked, synced_within}
-use Rattle.cluster_core.proofs.working.Working.{home_by, limits_beside, more_counted, pages_beside, turned}
+use Rattle.cluster_core.proofs.working.Working.{home_by, limits_beside, more_counted, pages_beside, turned, backups_beside}
 
 -- ---- who may synchronise
 
@@ -179,6 +179,7 @@ module _ (c : ClusterView) (p : Pid) (process : Process) (valid : is_system c.sy
     records = f.records;
     family = f.family;
     owed = f.owed;
+    backups = backups_beside c log p (Runs (synced process)) f.backups (λ begun. f.backups p (Runs process) there refl);
     forks = forks_changed c.family p (Runs process) (Runs (synced process)) c.here there (record { waits = refl; bears = λ child. refl }) f.forks;
     accounts = record {
       keeps = (f.accounts).keeps;

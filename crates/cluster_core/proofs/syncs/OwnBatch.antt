@@ -15,7 +15,8 @@ use Rattle.bus_msg.specs.declared.entry.Post.{Post}
 use Rattle.bus_msg.specs.Places.{Places, same_pid}
 use Rattle.bus_msg.specs.PlacedAfter.{placed_after, what}
 use Rattle.cert_sched.specs.Appended.{entry_of}
-use Rattle.cert_sched.specs.Built.{MayStand, UnlostMayFollow}
+use Rattle.cert_sched.specs.Built.{MayStand}
+use Rattle.cluster_core.specs.Sent.{SentMayFollow}
 use Rattle.cert_sched.specs.Losses.{is_from, is_page_entry, least_calls}
 use Rattle.cert_sched.specs.Parts.{rising}
 use Rattle.cert_sched.specs.Rests.{home_pids}
@@ -36,6 +37,7 @@ use Rattle.cluster_core.specs.Queue.{Nothing, IsQueued, IsQueueLegal, is_rebacku
 use Rattle.cluster_core.specs.Holds.{IsHeldAs, is_fetch_queued, CarriesMarks, MarkedIfThere, unended_process}
 use Rattle.cluster_core.specs.Syncing.{Synchronises}
 use Rattle.cluster_core.specs.Bearing.{BearsChild}
+use Rattle.cluster_core.specs.HandingOn.{HandsOver}
 use Rattle.cluster_core.specs.Follows.{FollowsBuilt, IsOpen, StandsBetween}
 use Rattle.cluster_core.specs.Calls.{with_entry}
 use Rattle.cluster_core.specs.Serving.{Serves}
@@ -58,6 +60,7 @@ use Rattle.replay_laws.proofs.forks.EitherWait.{so_alike}
 use Rattle.cluster_core.proofs.forks.ForksAgain.{forks_synced}
 use Rattle.checkpoint_laws.proofs.limits.RestLimits.{page_leaves_sync}
 use Rattle.cluster_core.proofs.syncs.Batching.{batch_state}
+use Rattle.cluster_core.proofs.awaiting.Awaited.{awaited_after}
 
 -- ---- what a batch leaves of the other processes
 
@@ -151,7 +154,7 @@ module _ (system : System) (valid : is_system system ≡ true) (log : List Entry
     processes = record { held = held aside_all aside runs; each_once = once ∙ ap rising (sym (pids_same system valid log e of now next b.number)) };
     queue = record {
       own = (and_parts (is_from b.number head.by) _ (subst (λ ps. list_all (λ (post : Post). is_from b.number post.by) ps ≡ true) posts (f.queue).own)).1;
-      legal = (subst (IsQueueLegal UnlostMayFollow system log) posts (f.queue).legal).1;
+      legal = (subst (IsQueueLegal SentMayFollow system log) posts (f.queue).legal).1;
     };
     queued = widened queued;
     steps = record { counted = λ kept. counted_own system log e b.number b.tried b.steps tried ((f.steps).counted (lost_before log e b.number kept)) };
@@ -160,13 +163,14 @@ module _ (system : System) (valid : is_system system ≡ true) (log : List Entry
     marks = λ q h at. subst (λ whole. MarkedIfThere CarriesMarks system whole q (unended_process h)) same_whole (f.marks q h at);
     family = family_next system log e b.family valid now next f.family;
     owed = owed_next system log e b.number b.places b.owed valid next (f.log).places (loses_none system valid log e of now next b.number) f.owed;
+    backups = λ q h at begun. awaited_after system log e q b.number valid now.0 (stands system valid log e of now next) (differ system valid log e of now next) (home q h at) (loses_none system valid log e of now next b.number) (f.backups q h at begun);
     forks = forks_synced (what e) b.family b.here of f.forks;
     records = records_stay system valid log e of now next b.number b.records f.records;
     accounts = accounts_on system log e b (with_server server (passed (left b rest) e)) serves refl calls f.accounts;
     disk = ((f.disk).0, ahead_after (placement system log) e b.server server serves (f.disk).1);
   }
     where
-      widened : IsQueued rest ⊎ Synchronises system later (with_server server (passed (left b rest) e)) → IsQueued rest ⊎ Synchronises system later (with_server server (passed (left b rest) e)) ⊎ BearsChild system later (with_server server (passed (left b rest) e))
+      widened : IsQueued rest ⊎ Synchronises system later (with_server server (passed (left b rest) e)) → IsQueued rest ⊎ Synchronises system later (with_server server (passed (left b rest) e)) ⊎ BearsChild system later (with_server server (passed (left b rest) e)) ⊎ HandsOver (with_server server (passed (left b rest) e))
       widened (inl alone) = inl alone
       widened (inr y) = inr (inl y)
 

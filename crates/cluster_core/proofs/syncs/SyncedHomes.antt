@@ -19,14 +19,6 @@ home_kept r q = by_test (same_pid q.pid r)
     by_test true = refl
     by_test false = refl
 
--- and its backup where that is
-pub backup_kept : (r : Pid) (q : Placed) → (after_sync r q).backup ≡ q.backup
-backup_kept r q = by_test (same_pid q.pid r)
-  where
-    by_test : (b : Bool) → (cond b (record q { synced = true }) q).backup ≡ q.backup
-    by_test true = refl
-    by_test false = refl
-
 -- who has not ended is found as before, but for that it may have synchronised
 pub synced_found : (places : Places) (r p : Pid) (small : SmallState) (read : List ℕ) (took : Option ℕ) → unended_at (placed_after places (Sync r small read took)) p ≡ option_map (after_sync r) (unended_at places p)
 synced_found places r p small read took = unended_map (after_sync r) (sync_keeps r) places (placed_after places (Sync r small read took)) refl p

@@ -164,9 +164,10 @@ asked_lightens old new valid f one =
 
 -- where something is queued there is no more left to do
 pub queued_lightens : (old new : ClusterView) → is_system old.system ≡ true → FollowsSome old → WorkIs old Queued new → load new ≤ load old
-queued_lightens old new valid f (inl answer) = omega (arith, ap load answer.rest)
-queued_lightens old new valid f (inr (inl asked)) = asked_lightens old new valid f asked.1
-queued_lightens old new valid f (inr (inr acted)) = by_kind acted.2
+queued_lightens old new valid f (inl handed) = omega (arith, ap load handed.rest)
+queued_lightens old new valid f (inr (inl answer)) = omega (arith, ap load (answer.1).rest)
+queued_lightens old new valid f (inr (inr (inl asked))) = asked_lightens old new valid f asked.2
+queued_lightens old new valid f (inr (inr (inr acted))) = by_kind acted.2
   where
     by_kind : QueuesOne old new ⊎ QueuesBatch old new ⊎ QueuesBirth old new → load new ≤ load old
     by_kind (inl sent) = omega (arith, sent_lightens old valid f new sent)

@@ -9,7 +9,7 @@ use Rattle.sys_calls.specs.declared.steps.Emission.{Emission}
 use Rattle.sys_calls.specs.declared.steps.Emission.TheVariants.{Mail as SentMail, Exit as SentExit}
 use Rattle.bus_msg.specs.declared.entry.Post.{Post}
 use Rattle.sys_text.specs.Valid.{is_system}
-use Rattle.cert_sched.specs.Built.{is_unlost}
+use Rattle.cluster_core.specs.Sent.{is_sent}
 use Rattle.cert_sched.specs.Losses.{is_from}
 use Rattle.t32_base.specs.declared.process.ClusterNo.{ClusterNo}
 use Rattle.page_server.specs.Account.{PagerState}
@@ -33,8 +33,10 @@ use Rattle.residents.specs.ChildrenFirst.{comes_after_children}
 use Rattle.cluster_core.specs.Calls.{FollowsSome, GoesOn, IsNextToSync, OwesNothing, WorkIs, is_resting}
 use Rattle.cluster_core.specs.Bearing.{birth_post}
 use Rattle.residents.specs.Quantum.{ComesToFork, Sends, Syncs, forking_of, post_told}
-use Rattle.cluster_core.specs.Work.{AnswersNext, NoPages, QueuesAnswer, QueuesFetch, RunsNext, WorksOn, birth_told, child_of, fetch_post, owes_answer}
+use Rattle.cluster_core.specs.Work.{AnswersNext, NoPages, QueuesAnswer, QueuesFetch, RunsNext, WorksOn, WorksUnowed, birth_told, child_of, fetch_post, owes_answer}
 use Rattle.residents.specs.Asking.{AsksNext, any_lacks, any_waits}
+use Rattle.standing_backups.specs.Standing.{IsNextStanding}
+use Rattle.cluster_core.proofs.handing.Queued.{handed_built, handed_goes_on, handed_own, handed_work}
 use Rattle.cluster_core.proofs.paging.Answering.{answered_built, answered_goes_on, answered_own, answered_work}
 use Rattle.cluster_core.proofs.paging.Fetching.{asked_goes_on, asked_work, fetch_own}
 use Rattle.cluster_core.proofs.paging.Lacking.{rested_work, waited_work}
@@ -57,7 +59,7 @@ told_own : (k : ClusterNo) (p : Pid) (at : ℕ) (e : Emission) → (is_from k (p
 told_own k p at (SentMail letter) = ap (λ b. b && true) (eq-eqb k.0 k.0 refl)
 told_own k p at (SentExit end) = ap (λ b. b && true) (eq-eqb k.0 k.0 refl)
 
-told_built : (k : ClusterNo) (p : Pid) (at : ℕ) (e : Emission) → (is_unlost (post_told k p at e).what && true) ≡ true
+told_built : (k : ClusterNo) (p : Pid) (at : ℕ) (e : Emission) → (is_sent (post_told k p at e).what && true) ≡ true
 told_built k p at (SentMail letter) = refl
 told_built k p at (SentExit end) = refl
 
@@ -69,8 +71,8 @@ each_post test p k (i ∷ indices) pages state = and_from (test (page_post p k i
 synced_own : (k : ClusterNo) (p : Process) → list_all (λ (post : Post). is_from k post.by) (batch p k) ≡ true
 synced_own k p = each_post (λ (post : Post). is_from k post.by) p k (marked_pages p) (λ i. eq-eqb k.0 k.0 refl) (eq-eqb k.0 k.0 refl)
 
-synced_built : (k : ClusterNo) (p : Process) → list_all (λ (post : Post). is_unlost post.what) (batch p k) ≡ true
-synced_built k p = each_post (λ (post : Post). is_unlost post.what) p k (marked_pages p) (λ i. refl) refl
+synced_built : (k : ClusterNo) (p : Process) → list_all (λ (post : Post). is_sent post.what) (batch p k) ≡ true
+synced_built k p = each_post (λ (post : Post). is_sent post.what) p k (marked_pages p) (λ i. refl) refl
 
 -- the cluster with what is here, what it keeps as a page server and what is queued after a work
 abbrev pub worked_view : ClusterView → List (Pid × Held) → Option PagerState → List Post → ClusterView
@@ -82,27 +84,37 @@ pub record Works (c : ClusterView) (worked : Worked) (here : List (Pid × Held))
   pub work : WorkIs c worked (worked_view c here served queue)
   pub residents : AllOwn c.cursor here
   pub own : list_all (λ (post : Post). is_from c.number post.by) queue ≡ true
-  pub built : list_all (λ (post : Post). is_unlost post.what) queue ≡ true
+  pub built : list_all (λ (post : Post). is_sent post.what) queue ≡ true
 
 module _ (c : ClusterView) (some : FollowsSome c) (empty : c.queue ≡ []) (own : AllOwn c.cursor c.here) (valid : is_system c.system ≡ true) (has : (c.number).0 < (c.system).clusters) where
   abbrev Took : Pid → Quantum → List (Pid × Held) → Type 0
   Took pid quantum here = TakesTurn (limits_of c.system) c.number c.family pid c.here quantum here
 
+  -- a new backup is queued
+  handed : (post : Post) → IsNextStanding c.number c.places c.family c.here c.owed (Some post) → Works c Queued c.here c.server (post ∷ [])
+  handed post next = record {
+    goes_on = handed_goes_on c post next valid empty;
+    work = handed_work c post next;
+    residents = own;
+    own = handed_own c post next;
+    built = handed_built c post next;
+  }
+
   -- an answer is queued
-  answered : (served : Option PagerState) (post : Post) → owes_answer c.places c.number c.server ≡ true → AnswersNext c.number c.server served post → Works c Queued c.here served (post ∷ [])
-  answered served post owed answers = record {
+  answered : c.owed ≡ [] → (served : Option PagerState) (post : Post) → owes_answer c.places c.number c.server ≡ true → AnswersNext c.number c.server served post → Works c Queued c.here served (post ∷ [])
+  answered backed served post owed answers = record {
     goes_on = answered_goes_on c served post owed answers valid empty;
-    work = answered_work c served post owed answers;
+    work = answered_work c served post owed answers backed;
     residents = own;
     own = answered_own c served post owed answers;
     built = answered_built c served post owed answers;
   }
 
   -- a fetch is queued
-  fetched : (here : List (Pid × Held)) (pid : Pid) (index : ℕ) → owes_answer c.places c.number c.server ≡ false → AsksNext c.here here pid index → Works c Queued here c.server (fetch_post c.number pid index ∷ [])
-  fetched here pid index unowed asks = record {
-    goes_on = asked_goes_on c here pid index valid empty asks;
-    work = asked_work c here pid index unowed asks;
+  fetched : c.owed ≡ [] → (here : List (Pid × Held)) (pid : Pid) (index : ℕ) → owes_answer c.places c.number c.server ≡ false → AsksNext c.here here pid index → Works c Queued here c.server (fetch_post c.number pid index ∷ [])
+  fetched backed here pid index unowed asks = record {
+    goes_on = asked_goes_on c here pid index valid empty backed asks;
+    work = asked_work c here pid index backed unowed asks;
     residents = subst (AllOwn c.cursor) (sym asks.new_is) (own_changed c.cursor pid (asked_held asks.was) c.here own (own_asked c.cursor pid asks.was (own_at c.cursor c.here pid asks.was own asks.there)));
     own = fetch_own c.number pid index;
     built = refl;
@@ -163,11 +175,11 @@ module _ (c : ClusterView) (some : FollowsSome c) (empty : c.queue ≡ []) (own 
   batched mover h pid process here nothing moves acts there next childless may changed =
       subst (λ hs. Works c Queued hs c.server (batch process c.number)) (sym changed) (record {
         goes_on = batch_goes_on c pid process valid empty there may;
-        work = inr (inr (
+        work = inr (inr (inr (
           nothing,
           some_moves (limits_of c.system) c.here mover h moves acts,
           inr (inl (record { pid = pid; process = process; there = there; next = next; childless = childless; rest = refl })),
-        ));
+        )));
         residents = own_changed c.cursor pid (Runs (synced process)) c.here own (own_synced c.cursor pid process (own_at c.cursor c.here pid (Runs process) own there));
         own = synced_own c.number process;
         built = synced_built c.number process;
@@ -213,11 +225,11 @@ module _ (c : ClusterView) (some : FollowsSome c) (empty : c.queue ≡ []) (own 
       subst (λ (p : Post). Works c Queued here c.server (p ∷ [])) (sym post)
       (subst (λ hs. Works c Queued hs c.server (birth_post c.number pid (state_of k.now) child ∷ [])) changed (record {
         goes_on = after_again pid one.made one.mid new one.again (birth_goes_on (record c { here = one.mid }) pid one.made one.was forking one.now k valid empty one.there);
-        work = inr (inr (
+        work = inr (inr (inr (
           nothing,
           busy pid acts,
           inr (inr (record { pid = pid; made = one.made; mid = one.mid; again = one.again; was = one.was; forking = forking; now = one.now; there = one.there; comes = k; rest = refl })),
-        ));
+        )));
         residents = own_changed c.cursor pid (Runs k.now) one.mid all mine;
         own = ap (λ b. b && true) (eq-eqb (c.number).0 (c.number).0 refl);
         built = refl;
@@ -261,23 +273,35 @@ module _ (c : ClusterView) (some : FollowsSome c) (empty : c.queue ≡ []) (own 
       let unwaited : any_waits c.here ≡ false = ap any_waits (sym here) ∙ turn.1 in
       subst (Works c Rests new.here c.server) (sym turn.2) (subst (λ hs. Works c Rests hs c.server []) (sym same) (still Rests (rested_work c own nothing (none_moves c valid some none) unwaited)))
 
-  after_none : (old new : ResidentsView) (served : Option PagerState) (worked : Worked) (queue : List Post) → old.limits ≡ limits_of c.system → old.here ≡ c.here → NoPages c.number c.places old c.server served → RunsNext c.number c.places c.family old worked new queue → Works c worked new.here served queue
-  after_none old new served worked queue limits here none turn =
-      subst (λ server. Works c worked new.here server queue) (sym none.kept) (runs old new worked queue limits here (record { unowed = none.unowed; none = ap any_lacks (sym here) ∙ none.none }) turn)
+  after_none : (old new : ResidentsView) (served : Option PagerState) (worked : Worked) (queue : List Post) → old.limits ≡ limits_of c.system → old.here ≡ c.here → c.owed ≡ [] → NoPages c.number c.places old c.server served → RunsNext c.number c.places c.family old worked new queue → Works c worked new.here served queue
+  after_none old new served worked queue limits here backed none turn =
+      subst (λ server. Works c worked new.here server queue) (sym none.kept) (runs old new worked queue limits here (record { backed = backed; unowed = none.unowed; none = ap any_lacks (sym here) ∙ none.none }) turn)
 
-  queued : (old new : ResidentsView) (served : Option PagerState) (queue : List Post) → old.limits ≡ limits_of c.system → old.here ≡ c.here
+  queued : (old new : ResidentsView) (served : Option PagerState) (queue : List Post) → old.limits ≡ limits_of c.system → old.here ≡ c.here → c.owed ≡ []
       → QueuesAnswer c.number c.places old c.server new served queue ⊎ QueuesFetch c.number c.places old c.server new served queue ⊎ (NoPages c.number c.places old c.server served × RunsNext c.number c.places c.family old Queued new queue)
       → Works c Queued new.here served queue
-  queued old new served queue limits here (inl answer) =
+  queued old new served queue limits here backed (inl answer) =
       let same : new.here ≡ c.here = ap (λ (r : ResidentsView). r.here) answer.same ∙ here in
-      subst (λ hs. Works c Queued hs served queue) (sym same) (subst (Works c Queued c.here served) (sym answer.queue_is) (answered served answer.post answer.owed answer.answers))
-  queued old new served queue limits here (inr (inl fetch)) =
+      subst (λ hs. Works c Queued hs served queue) (sym same) (subst (Works c Queued c.here served) (sym answer.queue_is) (answered backed served answer.post answer.owed answer.answers))
+  queued old new served queue limits here backed (inr (inl fetch)) =
       subst (λ server. Works c Queued new.here server queue) (sym fetch.kept)
-      (subst (Works c Queued new.here c.server) (sym fetch.queue_is) (fetched new.here fetch.pid fetch.index fetch.unowed (subst (λ hs. AsksNext hs new.here fetch.pid fetch.index) here fetch.asks)))
-  queued old new served queue limits here (inr (inr sent)) = after_none old new served Queued queue limits here sent.0 sent.1
+      (subst (Works c Queued new.here c.server) (sym fetch.queue_is) (fetched backed new.here fetch.pid fetch.index fetch.unowed (subst (λ hs. AsksNext hs new.here fetch.pid fetch.index) here fetch.asks)))
+  queued old new served queue limits here backed (inr (inr sent)) = after_none old new served Queued queue limits here backed sent.0 sent.1
 
-  pub works : (old new : ResidentsView) (served : Option PagerState) (worked : Worked) (queue : List Post) → old.limits ≡ limits_of c.system → old.here ≡ c.here → WorksOn c.number c.places c.family old c.server worked new served queue → Works c worked new.here served queue
-  works old new served Moved queue limits here on = after_none old new served Moved queue limits here on.0 on.1
-  works old new served Queued queue limits here on = queued old new served queue limits here on
-  works old new served Waits queue limits here on = after_none old new served Waits queue limits here on.0 on.1
-  works old new served Rests queue limits here on = after_none old new served Rests queue limits here on.0 on.1
+  unowed : (old new : ResidentsView) (served : Option PagerState) (worked : Worked) (queue : List Post) → old.limits ≡ limits_of c.system → old.here ≡ c.here → c.owed ≡ []
+      → WorksUnowed c.number c.places c.family old c.server worked new served queue → Works c worked new.here served queue
+  unowed old new served Moved queue limits here backed on = after_none old new served Moved queue limits here backed on.0 on.1
+  unowed old new served Queued queue limits here backed on = queued old new served queue limits here backed on
+  unowed old new served Waits queue limits here backed on = after_none old new served Waits queue limits here backed on.0 on.1
+  unowed old new served Rests queue limits here backed on = after_none old new served Rests queue limits here backed on.0 on.1
+
+  pub works : (old new : ResidentsView) (served : Option PagerState) (worked : Worked) (queue : List Post) → old.limits ≡ limits_of c.system → old.here ≡ c.here
+      → WorksOn c.number c.places c.family c.owed old c.server worked new served queue → Works c worked new.here served queue
+  works old new served worked queue limits here (inl both) =
+      let q = both.1 in
+      let same : new.here ≡ c.here = ap (λ (r : ResidentsView). r.here) q.same ∙ here in
+      subst (λ w. Works c w new.here served queue) (sym both.0)
+      (subst (λ hs. Works c Queued hs served queue) (sym same)
+      (subst (λ s. Works c Queued c.here s queue) (sym q.kept)
+      (subst (Works c Queued c.here c.server) (sym q.queue_is) (handed q.post (subst (λ hs. IsNextStanding c.number c.places c.family hs c.owed (Some q.post)) here q.next)))))
+  works old new served worked queue limits here (inr both) = unowed old new served worked queue limits here both.0 both.1

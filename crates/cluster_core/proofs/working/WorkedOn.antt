@@ -13,7 +13,7 @@ use Rattle.residents.specs.declared.quantum.Quantum.TheVariants.{Moved as Quantu
 use Rattle.cluster_core.specs.declared.worked.Worked.{Worked}
 use Rattle.cluster_core.specs.declared.worked.Worked.TheVariants.{Moved, Queued, Waits as IsWaiting, Rests}
 use Rattle.residents.specs.Residents.{ChosenTurn, HasTurn, ResidentsView, TurnIs, next_ready, none_has_turn, pids_able}
-use Rattle.cluster_core.specs.Work.{NoPages, RunsNext, WorksOn}
+use Rattle.cluster_core.specs.Work.{NoPages, RunsNext, WorksUnowed}
 use Rattle.residents.specs.Asking.{any_waits}
 
 module _ (k : ClusterNo) (family : List (Pid × Pid)) (a b new : ResidentsView) (limits : a.limits ≡ b.limits) (here : a.here ≡ b.here) (last : a.last ≡ b.last) where
@@ -40,7 +40,7 @@ module _ (k : ClusterNo) (family : List (Pid × Pid)) (a b new : ResidentsView) 
   next_from places IsWaiting queue t = (turn_from (Ok Stuck) t.0, ap any_waits (sym here) ∙ t.1, t.2)
   next_from places Rests queue t = (turn_from (Ok Stuck) t.0, ap any_waits (sym here) ∙ t.1, t.2)
 
-  pub works_next : (places : Places) (old served : Option PagerState) (worked : Worked) (queue : List Post) → NoPages k places b old served → RunsNext k places family a worked new queue → WorksOn k places family b old worked new served queue
+  pub works_next : (places : Places) (old served : Option PagerState) (worked : Worked) (queue : List Post) → NoPages k places b old served → RunsNext k places family a worked new queue → WorksUnowed k places family b old worked new served queue
   works_next places old served Moved queue none t = (none, next_from places Moved queue t)
   works_next places old served Queued queue none t = inr (inr (none, next_from places Queued queue t))
   works_next places old served IsWaiting queue none t = (none, next_from places IsWaiting queue t)

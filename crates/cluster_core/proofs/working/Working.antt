@@ -22,11 +22,12 @@ use Rattle.bus_msg.specs.Places.{Places, same_pid, same_cluster}
 use Rattle.cert_sched.specs.Parts.{rising}
 use Rattle.cert_sched.specs.Schedule.{placement, process_after, done_after}
 use Rattle.cert_sched.specs.Steps.{silent_upto, emission_at, after_items}
-use Rattle.cert_sched.specs.Rules.{has_its_pages, keeps_limits, is_by, is_living, is_by_home, is_by_right, is_new_page, home_at}
+use Rattle.cert_sched.specs.Rules.{has_awaited_backup, has_its_pages, keeps_limits, is_by, is_living, is_by_home, is_by_right, is_new_page, home_at}
 use Rattle.birth_notice.specs.Family.{first_unsynced}
 use Rattle.cert_sched.specs.Kinds.{ChildrenSynced, KindHolds}
 use Rattle.cert_sched.specs.Legal.{IsLegalBy, Stands}
-use Rattle.cert_sched.specs.Built.{is_unlost, MayStand, KeepsWaits, UnlostMayFollow}
+use Rattle.cert_sched.specs.Built.{MayStand, KeepsWaits}
+use Rattle.cluster_core.specs.Sent.{is_sent, SentMayFollow}
 use Rattle.cert_sched.specs.Losses.{least_steps, capped, is_from, is_page_is_entry}
 use Rattle.cert_sched.specs.Appended.{entry_of}
 use Rattle.cert_sched.proofs.StepLaws.{Tells, sent_applies}
@@ -44,6 +45,8 @@ use Rattle.cluster_core.specs.Queue.{IsQueued, IsQueueLegal, Nothing, One, is_lo
 use Rattle.cluster_core.specs.Holds.{CarriesMarks, HoldsLimits, HoldsPages, IsHeldAs, MarkedIfThere, is_fetch_queued, process_in, unended_process}
 use Rattle.cluster_core.specs.Syncing.{Synchronises}
 use Rattle.cluster_core.specs.Bearing.{BearsChild}
+use Rattle.cluster_core.specs.HandingOn.{HandsOver}
+use Rattle.cluster_core.specs.Standing.{HoldsBackups, has_begun}
 use Rattle.cluster_core.specs.Follows.{FollowsBuilt, IsOpen}
 use Rattle.cluster_core.specs.Calls.{GoesOn, OwesNothing, WorkIs, is_at_rest, are_at_rest, is_resting}
 use Rattle.residents.specs.declared.quantum.Sending.{Sending}
@@ -137,12 +140,13 @@ held_before c log p s empty f there = ap (λ ps. state_now c.system log ps p (s.
 -- ---- what is queued
 
 abbrev QueuedIn : System → List Entry → ClusterView → Type 0
-QueuedIn system log c = IsQueued c.queue ⊎ Synchronises system log c ⊎ BearsChild system log c
+QueuedIn system log c = IsQueued c.queue ⊎ Synchronises system log c ⊎ BearsChild system log c ⊎ HandsOver c
 
 -- kernel steps change nothing of it
 still_queued : (system : System) (log : List Entry) (c : ClusterView) (tried : Bool) (steps : ℕ) → QueuedIn system log c → QueuedIn system log (record c { tried = tried; steps = steps })
 still_queued system log c tried steps (inl alone) = inl alone
-still_queued system log c tried steps (inr (inr birth)) = inr (inr (record {
+still_queued system log c tried steps (inr (inr (inr hands))) = inr (inr (inr (record { post = hands.post; posts = hands.posts; to = hands.to; recs = hands.recs; standing = hands.standing })))
+still_queued system log c tried steps (inr (inr (inl birth))) = inr (inr (inl (record {
   pid = birth.pid;
   process = birth.process;
   child = birth.child;
@@ -151,7 +155,7 @@ still_queued system log c tried steps (inr (inr birth)) = inr (inr (record {
   stands = birth.stands;
   undue = birth.undue;
   next = birth.next;
-}))
+})))
 still_queued system log c tried steps (inr (inl batch)) = inr (inl (record {
   pid = batch.pid;
   process = batch.process;
@@ -182,6 +186,7 @@ goes_on_rested c log now f = record {
   records = f.records;
   family = f.family;
   owed = f.owed;
+  backups = f.backups;
   forks = f.forks;
   accounts = record { keeps = (f.accounts).keeps; there = (f.accounts).there; calls = (f.accounts).calls };
   disk = f.disk;
@@ -207,6 +212,7 @@ follows_tried c log f = record {
   records = f.records;
   family = f.family;
   owed = f.owed;
+  backups = f.backups;
   forks = f.forks;
   accounts = record { keeps = (f.accounts).keeps; there = (f.accounts).there; calls = (f.accounts).calls };
   disk = f.disk;
@@ -286,6 +292,24 @@ pages_beside c log p now pages mine q h at = by_pid (same_pid q p) refl
     by_pid true own some = ap (has_its_pages c.system log) (pid_same q p (eqb-true q.0 p.0 own)) ∙ mine (ap (λ x. is_some (process_in x)) (sym (w.is.0 own)) ∙ some)
     by_pid false other some = pages q w.was w.there (ap (λ x. is_some (process_in x)) (sym (w.is.1 other)) ∙ some)
 
+-- who runs or rolls forward has begun
+pub acts : (h : Held) → is_some (process_in h) ≡ true → has_begun h ≡ true
+acts (Runs s) some = refl
+acts (Rolls s counts births) some = refl
+acts (Waits w) some = absurd (true≢false (sym some))
+
+-- the others wait for a new backup no more than before
+pub backups_beside : (c : ClusterView) (log : List Entry) (p : Pid) (now : Held) → HoldsBackups c.system log c → (has_begun now ≡ true → has_awaited_backup c.system log p ≡ true)
+    → (q : Pid) (h : Held) → held_of (with_changed p now c.here) q ≡ Some h → has_begun h ≡ true → has_awaited_backup c.system log q ≡ true
+backups_beside c log p now backups mine q h at = by_pid (same_pid q p) refl
+  where
+    w : FoundChanged p now c.here q h
+    w = found_changed p now c.here q h at
+
+    by_pid : (b : Bool) → same_pid q p ≡ b → has_begun h ≡ true → has_awaited_backup c.system log q ≡ true
+    by_pid true own begun = ap (has_awaited_backup c.system log) (pid_same q p (eqb-true q.0 p.0 own)) ∙ mine (ap has_begun (sym (w.is.0 own)) ∙ begun)
+    by_pid false other begun = backups q w.was w.there (ap has_begun (sym (w.is.1 other)) ∙ begun)
+
 -- the others are within their limits as before
 pub limits_beside : (c : ClusterView) (p : Pid) (now : Held) → HoldsLimits c.system c → IsHeldWithin (limits_of c.system) now → (q : Pid) (h : Held) → held_of (with_changed p now c.here) q ≡ Some h → IsHeldWithin (limits_of c.system) h
 limits_beside c p now limits mine q h at = by_pid (same_pid q p) refl
@@ -315,7 +339,7 @@ marks_beside c log p now queue f mine others q h at = by_pid (same_pid q p) refl
 
 -- with a post that is queued where nothing was a process has the marks that it had
 pub marks_queued : (c : ClusterView) (log : List Entry) (post : Post) → is_system c.system ≡ true → c.queue ≡ [] → IsOpen MayStand c.system log → FollowsBuilt c.system log c → is_lone post.what ≡ true → is_from c.number post.by ≡ true
-    → UnlostMayFollow c.system log (entry_of c.system log post) → (q : Pid) (h : Held) → held_at c q ≡ Some h → IsHeldAs c.system log (post ∷ []) q h → MarkedIfThere CarriesMarks c.system (with_queue c.system log c.queue) q (unended_process h)
+    → SentMayFollow c.system log (entry_of c.system log post) → (q : Pid) (h : Held) → held_at c q ≡ Some h → IsHeldAs c.system log (post ∷ []) q h → MarkedIfThere CarriesMarks c.system (with_queue c.system log c.queue) q (unended_process h)
     → MarkedIfThere CarriesMarks c.system (with_queue c.system log (post ∷ [])) q (unended_process h)
 marks_queued c log post valid empty go f lone own may q h there held m =
     let home = home_here (placement c.system log) c.number (pids_in c.here) q (differ_built c.system log valid go.0) (f.processes).each_once (is_among c.here q h there) in
@@ -379,6 +403,7 @@ moved_goes_on c p made was new valid empty there moves log go f = record {
   records = f.records;
   family = f.family;
   owed = f.owed;
+  backups = backups_beside c log p new f.backups (λ begun. f.backups p was there (acts was (runs_in moves.silent was new moves.runs)));
   forks = forks_changed c.family p was new c.here there (ran_forks moves.silent was new moves.runs) f.forks;
   accounts = record { keeps = (f.accounts).keeps; there = (f.accounts).there; calls = (f.accounts).calls };
   disk = f.disk;
@@ -390,7 +415,7 @@ abbrev pub posted_view : ClusterView → List (Pid × Held) → Post → Cluster
 posted_view c here post = record c { here = here; queue = post ∷ []; steps = next_count c.steps }
 
 -- whatever is posted is of a kind that is built
-built_of : (pid : Pid) (at : ℕ) (e : Emission) → is_unlost (told_of pid at e) ≡ true
+built_of : (pid : Pid) (at : ℕ) (e : Emission) → is_sent (told_of pid at e) ≡ true
 built_of pid at (Sent letter) = refl
 built_of pid at (Ended end) = refl
 
@@ -512,7 +537,7 @@ module _ (c : ClusterView) (p : Pid) (made : ℕ) (was : Held) (sending : Sendin
         let marked = runs_marked c.system log p s.before valid reached_before legal unended (carried c.system log p s.before valid reached_before legal unended marked_before) in
         sent_keeps c.system log p s.before e (state_of s.now) marked (or_parts (is_due_by s.before (c.system).syncreads (c.system).syncsteps) (can_take (state_of s.before)) s.undue).0 s.sends
 
-    may_follow : UnlostMayFollow c.system log (entry_of c.system log (post_told c.number p at e))
+    may_follow : SentMayFollow c.system log (entry_of c.system log (post_told c.number p at e))
     may_follow = record {
       stands = record {
         placed = (refl, refl, go.1);
@@ -546,8 +571,8 @@ module _ (c : ClusterView) (p : Pid) (made : ℕ) (was : Held) (sending : Sendin
       so_alike c.system log q (is_fetch_queued q c.queue) (is_fetch_queued q (post ∷ [])) waiting (λ i. ap (λ ps. is_fetch_queued q ps i) empty ∙ sym (ap (λ (x : Post). is_fetch_queued q (x ∷ []) i) post_is ∙ fetches_none p q at c.number e i)) as_before.1,
     )
 
-    may_post : UnlostMayFollow c.system log (entry_of c.system log post)
-    may_post = subst (λ (q : Post). UnlostMayFollow c.system log (entry_of c.system log q)) (sym post_is) may_follow
+    may_post : SentMayFollow c.system log (entry_of c.system log post)
+    may_post = subst (λ (q : Post). SentMayFollow c.system log (entry_of c.system log q)) (sym post_is) may_follow
 
     lone_post : is_lone post.what ≡ true
     lone_post = ap (λ (q : Post). is_lone q.what) post_is ∙ lone_of p at e
@@ -586,12 +611,13 @@ module _ (c : ClusterView) (p : Pid) (made : ℕ) (was : Held) (sending : Sendin
     records = f.records;
     family = f.family;
     owed = f.owed;
+    backups = backups_beside c log p (Runs s.now) f.backups (λ begun. f.backups p was there (acts was (ap (λ (h : Held). is_some (process_in h)) s.old_is)));
     forks = forks_changed c.family p (Runs s.between) (Runs s.now) c.here runs_there (run_forks s.between s.now) f.forks;
     accounts = accounts_queued c.system log c (posted_view c (with_changed p (Runs s.now) c.here) post) post refl refl empty refl no_page f.accounts;
     disk = f.disk;
   }
     where
-      legal_post : IsQueueLegal UnlostMayFollow c.system log (post ∷ [])
+      legal_post : IsQueueLegal SentMayFollow c.system log (post ∷ [])
       legal_post = (may_post valid has log go f, tt)
 
       no_page : is_page_is_entry post.what ≡ false
@@ -602,7 +628,7 @@ pub posted_work : (c : ClusterView) (p : Pid) (made : ℕ) (mid : List (Pid × H
 posted_work c p made mid was sending new s post post_is named nothing busy again there childless =
     let one : Sending = record { pid = p; at = ((s.now).small).steps; emission = sending.emission } in
     let same : sending ≡ one = λ i. record { pid = named i; at = s.at_is i; emission = sending.emission } in
-    inr (inr (
+    inr (inr (inr (
       nothing,
       busy,
       inl (record {
@@ -618,4 +644,4 @@ posted_work c p made mid was sending new s post post_is named nothing busy again
         childless = childless;
         rest = λ i. record c { here = with_changed p (Runs s.now) mid; queue = post_is i ∷ []; steps = next_count c.steps };
       }),
-    ))
+    )))

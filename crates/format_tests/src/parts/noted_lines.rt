@@ -3,9 +3,19 @@ use hints::asm_lines::asm_line;
 use hints::system::system_hint;
 use std::alloc::Global;
 use std::test::Fail;
+use t32_base::lists::Text;
 use test_asserts::same;
 
 const FRONT: &str = "clusters 2\npager 0 1\nsyncreads 32\nsyncsteps 4096\n";
+
+// What is noted of a line; no hint is no text.
+fn noted(alloc: Global, behind: &str, line: u64, rule: u8) -> Result<Text, Fail> {
+    let text = [FRONT, behind].concat(alloc)?;
+    match system_hint(alloc, text.as_bytes(), line, rule)? {
+        Some(hint) => Ok(hint),
+        None => Ok(Text::new(alloc)),
+    }
+}
 
 // This is noted of a line of the front with these lines behind it, which is refused by this rule; no text is nothing.
 fn assert_noted(
@@ -15,17 +25,8 @@ fn assert_noted(
     rule: u8,
     wanted: &str,
 ) -> Result<(), Fail> {
-    let text = format!(in alloc; "{FRONT}{behind}")?;
-    let hint = system_hint(alloc, text.as_bytes(), line, rule)?;
-    let shown = match &hint {
-        Some(hint) => hint.as_slice(),
-        None => b"",
-    };
-    same(
-        "what is noted",
-        &(behind, shown),
-        &(behind, wanted.as_bytes()),
-    )
+    let noted = noted(alloc, behind, line, rule)?;
+    same(behind, &noted.as_slice(), &wanted.as_bytes())
 }
 
 static FIELDS: [(&str, u8, &str); 8] = [
@@ -69,8 +70,8 @@ static FIELDS: [(&str, u8, &str); 8] = [
 
 #[test]
 fn the_field_that_breaks_a_rule_is_noted(rt: HostRuntime) -> Result<(), Fail> {
-    for (line, rule, wanted) in FIELDS {
-        assert_noted(rt.alloc(), line, 5, rule, wanted)?;
+    for row in FIELDS.iter() {
+        assert_noted(rt.alloc(), row.0, 5, row.1, row.2)?;
     }
     Ok(())
 }
@@ -104,8 +105,8 @@ static BLOCKS: [(&str, u64, u8, &str); 4] = [
 
 #[test]
 fn a_missing_end_is_guessed_at(rt: HostRuntime) -> Result<(), Fail> {
-    for (behind, line, rule, wanted) in BLOCKS {
-        assert_noted(rt.alloc(), behind, line, rule, wanted)?;
+    for row in BLOCKS.iter() {
+        assert_noted(rt.alloc(), row.0, row.1, row.2, row.3)?;
     }
     Ok(())
 }
@@ -114,22 +115,24 @@ fn a_missing_end_is_guessed_at(rt: HostRuntime) -> Result<(), Fail> {
 const PROGRAMS: &[u8] =
     b"image w 1\nwords 00000073 00000073\nend\nasm a 1\nstart: la a0, text # two\n\n  j start\ntext: .ascii \"abcdef\"\n  ecall\nend\n";
 
+// The image, the word, and the line that makes it.
+static LINES: [(u64, u64, Option<u64>); 9] = [
+    (0, 0, None),
+    (1, 0, Some(5)),
+    (1, 1, Some(5)),
+    (1, 2, Some(7)),
+    (1, 3, Some(8)),
+    (1, 4, Some(8)),
+    (1, 5, Some(9)),
+    (1, 6, None),
+    (2, 0, None),
+];
+
 #[test]
 fn the_line_of_a_word_is_found(rt: HostRuntime) -> Result<(), Fail> {
-    let rows = [
-        (0, 0, None),
-        (1, 0, Some(5)),
-        (1, 1, Some(5)),
-        (1, 2, Some(7)),
-        (1, 3, Some(8)),
-        (1, 4, Some(8)),
-        (1, 5, Some(9)),
-        (1, 6, None),
-        (2, 0, None),
-    ];
-    for (image, word, wanted) in rows {
-        let found = asm_line(rt.alloc(), PROGRAMS, image, word)?;
-        same("the line", &(image, word, found), &(image, word, wanted))?;
+    for row in LINES.iter() {
+        let found = asm_line(rt.alloc(), PROGRAMS, row.0, row.1)?;
+        same("the line", &(row.0, row.1, found), row)?;
     }
     Ok(())
 }

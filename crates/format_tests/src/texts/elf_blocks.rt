@@ -1,8 +1,9 @@
 //! Executables in system texts, and entries of images.
-use std::alloc::Global;
+use std::alloc::{AllocError, Global};
 use std::test::Fail;
 use sys_text::printer::system_text;
 use sys_text::{SystemRefused, read_system};
+use t32_base::lists::Text;
 use test_asserts::same;
 
 const FRONT: &str = "clusters 2\npager 0 1\nsyncreads 2\nsyncsteps 64\n";
@@ -10,7 +11,7 @@ const FRONT: &str = "clusters 2\npager 0 1\nsyncreads 2\nsyncsteps 64\n";
 const ROOT: &str = "root 0 1 quarter hi 1000 0 0\n";
 
 // A static executable of 124 bytes, which is its one segment.
-const WORDS: [&str; 31] = [
+static WORDS: [&str; 31] = [
     "464c457f", "00010101", "00000000", "00000000", "00f30002", "00000001", "00010054", "00000034",
     "00000000", "00000000", "00200034", "00000001", "00000000", "00000001", "00000000", "00010000",
     "00010000", "0000007c", "0000007c", "00000005", "00001000", "00200893", "00000513", "000105b7",
@@ -21,11 +22,9 @@ const READ: &str =
     "image hi 1 65620\nwords 464c457f 00010101 00000000 00000000 00f30002 00000001 00010054 00000034\nwords 00000000 00000000 00200034 00000001 00000000 00000001 00000000 00010000\nwords 00010000 0000007c 0000007c 00000005 00001000 00200893 00000513 000105b7\nwords 07858593 00300613 00000073 00100893 00000513 00000073 000a6968\nend\n";
 
 // Words of the file that are changed: where, and to what.
-type Changes = [(usize, &'static str); 6];
+type Changes = &'static [(usize, &'static str)];
 
-const SAME: (usize, &str) = (31, "");
-
-fn changed(i: usize, word: &'static str, changes: &Changes) -> &'static str {
+fn changed(i: usize, word: &'static str, changes: Changes) -> &'static str {
     let mut now = word;
     for (at, other) in changes {
         if *at == i {
@@ -35,31 +34,34 @@ fn changed(i: usize, word: &'static str, changes: &Changes) -> &'static str {
     now
 }
 
-// The block of the file with some of its words changed.
-fn block(alloc: Global, header: &str, changes: &Changes, end: &str) -> Result<String, Fail> {
-    let mut text = format!(in alloc; "{header}\n")?;
-    let mut i = 0usize;
-    for word in WORDS {
-        let word = changed(i, word, changes);
-        let line = format!(in alloc; "words {word}\n")?;
-        text.push_str(&line)?;
-        i = i.saturating_add(1);
+fn push_words(text: &mut String, changes: Changes) -> Result<(), AllocError> {
+    for (i, word) in WORDS.iter().enumerate() {
+        text.push_str("words ")?;
+        text.push_str(changed(i, word, changes))?;
+        text.push_str("\n")?;
     }
+    Ok(())
+}
+
+// The block of the file with some of its words changed.
+fn block(alloc: Global, header: &str, changes: Changes, end: &str) -> Result<String, AllocError> {
+    let mut text = [header, "\n"].concat(alloc)?;
+    push_words(&mut text, changes)?;
     text.push_str(end)?;
     text.push_str("\n")?;
     Ok(text)
 }
 
-fn printed(alloc: Global, block: &str) -> Result<String, Fail> {
-    let text = format!(in alloc; "{FRONT}{block}{ROOT}")?;
+fn printed(alloc: Global, block: &str) -> Result<Text, Fail> {
+    let text = [FRONT, block, ROOT].concat(alloc)?;
     let system = read_system(alloc, text.as_bytes())?;
-    let printed = system_text(alloc, &system)?;
-    Ok(String::from_utf8_lossy(alloc, printed.as_slice())?)
+    Ok(system_text(alloc, &system)?)
 }
 
 fn assert_printed(alloc: Global, block: &str, wanted: &str) -> Result<(), Fail> {
-    let wanted = format!(in alloc; "{FRONT}{wanted}{ROOT}")?;
-    same(block, &printed(alloc, block)?.as_str(), &wanted.as_str())
+    let printed = printed(alloc, block)?;
+    let wanted = [FRONT, wanted, ROOT].concat(alloc)?;
+    same(block, &printed.as_slice(), &wanted.as_bytes())
 }
 
 fn assert_refused(alloc: Global, block: &str, line: u64, rule: u8) -> Result<(), Fail> {
@@ -73,7 +75,7 @@ fn assert_refused_before(
     line: u64,
     rule: u8,
 ) -> Result<(), Fail> {
-    let text = format!(in alloc; "{FRONT}{block}{behind}")?;
+    let text = [FRONT, block, behind].concat(alloc)?;
     let refused = read_system(alloc, text.as_bytes()).err();
     same(
         block,
@@ -82,25 +84,39 @@ fn assert_refused_before(
     )
 }
 
+const UNCHANGED: Changes = &[];
+
+// The file behind this header is refused with this text behind it, by this line and rule.
+fn assert_file_refused(
+    alloc: Global,
+    header: &str,
+    changes: Changes,
+    behind: &str,
+    (line, rule): (u64, u8),
+) -> Result<(), Fail> {
+    let file = block(alloc, header, changes, "end")?;
+    assert_refused_before(alloc, &file, behind, line, rule)
+}
+
 #[test]
 fn a_file_is_read_as_its_memory(rt: HostRuntime) -> Result<(), Fail> {
     let alloc = rt.alloc();
-    let file = block(alloc, "elf hi 1 124", &[SAME; 6], "end")?;
+    let file = block(alloc, "elf hi 1 124", UNCHANGED, "end")?;
     assert_printed(alloc, &file, READ)
 }
 
 // Files that break one rule each, and the number of the rule.
-const BROKEN: [(Changes, u8); 10] = [
-    ([(0, "464c457e"), SAME, SAME, SAME, SAME, SAME], 11),
-    ([(1, "00010102"), SAME, SAME, SAME, SAME, SAME], 12),
-    ([(4, "00f30003"), SAME, SAME, SAME, SAME, SAME], 13),
-    ([(9, "00000001"), SAME, SAME, SAME, SAME, SAME], 14),
-    ([(10, "00210034"), SAME, SAME, SAME, SAME, SAME], 15),
-    ([(13, "00000002"), SAME, SAME, SAME, SAME, SAME], 16),
-    ([(17, "0000007d"), SAME, SAME, SAME, SAME, SAME], 17),
-    ([(18, "00000101"), SAME, SAME, SAME, SAME, SAME], 18),
+static BROKEN: [(Changes, u8); 10] = [
+    (&[(0, "464c457e")], 11),
+    (&[(1, "00010102")], 12),
+    (&[(4, "00f30003")], 13),
+    (&[(9, "00000001")], 14),
+    (&[(10, "00210034")], 15),
+    (&[(13, "00000002")], 16),
+    (&[(17, "0000007d")], 17),
+    (&[(18, "00000101")], 18),
     (
-        [
+        &[
             (11, "00000002"),
             (21, "00000001"),
             (22, "00000000"),
@@ -110,15 +126,14 @@ const BROKEN: [(Changes, u8); 10] = [
         ],
         19,
     ),
-    ([(6, "00010056"), SAME, SAME, SAME, SAME, SAME], 20),
+    (&[(6, "00010056")], 20),
 ];
 
 #[test]
 fn a_file_is_refused_at_its_end(rt: HostRuntime) -> Result<(), Fail> {
     let alloc = rt.alloc();
-    for (changes, rule) in BROKEN {
-        let file = block(alloc, "elf hi 1 124", &changes, "end")?;
-        assert_refused(alloc, &file, 37, rule)?;
+    for row in BROKEN.iter() {
+        assert_file_refused(alloc, "elf hi 1 124", row.0, ROOT, (37, row.1))?;
     }
     Ok(())
 }
@@ -126,20 +141,17 @@ fn a_file_is_refused_at_its_end(rt: HostRuntime) -> Result<(), Fail> {
 #[test]
 fn the_end_of_the_text_is_named_before_the_file(rt: HostRuntime) -> Result<(), Fail> {
     let alloc = rt.alloc();
-    for (changes, rule) in BROKEN {
-        let file = block(alloc, "elf hi 1 124", &changes, "end")?;
-        assert_refused_before(alloc, &file, "", 37, 10)?;
-        assert_refused_before(alloc, &file, "#", 37, rule)?;
+    for row in BROKEN.iter() {
+        assert_file_refused(alloc, "elf hi 1 124", row.0, "", (37, 10))?;
+        assert_file_refused(alloc, "elf hi 1 124", row.0, "#", (37, row.1))?;
     }
-    let file = block(alloc, "elf hi 1 124", &[SAME; 6], "end")?;
-    assert_refused_before(alloc, &file, "", 37, 10)?;
-    assert_refused_before(alloc, &file, "#\n", 38, 10)?;
-    let file = block(alloc, "elf hi 1 120", &[SAME; 6], "end")?;
-    assert_refused_before(alloc, &file, "", 37, 8)
+    assert_file_refused(alloc, "elf hi 1 124", UNCHANGED, "", (37, 10))?;
+    assert_file_refused(alloc, "elf hi 1 124", UNCHANGED, "#\n", (38, 10))?;
+    assert_file_refused(alloc, "elf hi 1 120", UNCHANGED, "", (37, 8))
 }
 
 // The first and the last line of the block; the line and the rule that is named.
-const HEADERS: [(&str, &str, u64, u8); 11] = [
+static HEADERS: [(&str, &str, u64, u8); 11] = [
     ("elf hi 1", "end", 5, 3),
     ("elf hi 1 124 1", "end", 5, 3),
     ("elf Hi 1 124", "end", 5, 4),
@@ -153,12 +165,22 @@ const HEADERS: [(&str, &str, u64, u8); 11] = [
     ("elf hi 1 123", "end", 37, 17),
 ];
 
+fn assert_block_refused(
+    alloc: Global,
+    header: &str,
+    end: &str,
+    line: u64,
+    rule: u8,
+) -> Result<(), Fail> {
+    let file = block(alloc, header, UNCHANGED, end)?;
+    assert_refused(alloc, &file, line, rule)
+}
+
 #[test]
 fn a_block_of_a_file_keeps_the_rules(rt: HostRuntime) -> Result<(), Fail> {
     let alloc = rt.alloc();
-    for (header, end, line, rule) in HEADERS {
-        let file = block(alloc, header, &[SAME; 6], end)?;
-        assert_refused(alloc, &file, line, rule)?;
+    for row in HEADERS.iter() {
+        assert_block_refused(alloc, row.0, row.1, row.2, row.3)?;
     }
     assert_refused(
         alloc,
@@ -170,7 +192,7 @@ fn a_block_of_a_file_keeps_the_rules(rt: HostRuntime) -> Result<(), Fail> {
 }
 
 // The first line of an image; the rule that is named, or 0, and then the line that is printed.
-const ENTRIES: [(&str, u8, &str); 11] = [
+static ENTRIES: [(&str, u8, &str); 11] = [
     ("image hi 1 65536", 0, "image hi 1"),
     ("image hi 1 65620", 0, "image hi 1 65620"),
     ("image hi 1 00065620", 0, "image hi 1 65620"),
@@ -184,17 +206,32 @@ const ENTRIES: [(&str, u8, &str); 11] = [
     ("asm hi 1 65536", 3, ""),
 ];
 
+fn one_word(alloc: Global, header: &str) -> Result<String, AllocError> {
+    [header, "\nwords 00000073\nend\n"].concat(alloc)
+}
+
+fn assert_entry_printed(alloc: Global, header: &str, printed: &str) -> Result<(), Fail> {
+    let block = one_word(alloc, header)?;
+    let wanted = one_word(alloc, printed)?;
+    assert_printed(alloc, &block, &wanted)
+}
+
+fn assert_entry_refused(alloc: Global, header: &str, rule: u8) -> Result<(), Fail> {
+    let block = one_word(alloc, header)?;
+    assert_refused(alloc, &block, 5, rule)
+}
+
+fn assert_entry(alloc: Global, header: &str, rule: u8, printed: &str) -> Result<(), Fail> {
+    if rule == 0 {
+        return assert_entry_printed(alloc, header, printed);
+    }
+    assert_entry_refused(alloc, header, rule)
+}
+
 #[test]
 fn an_entry_is_an_address_of_the_image(rt: HostRuntime) -> Result<(), Fail> {
-    let alloc = rt.alloc();
-    for (header, rule, printed) in ENTRIES {
-        let block = format!(in alloc; "{header}\nwords 00000073\nend\n")?;
-        if rule == 0 {
-            let wanted = format!(in alloc; "{printed}\nwords 00000073\nend\n")?;
-            assert_printed(alloc, &block, &wanted)?;
-        } else {
-            assert_refused(alloc, &block, 5, rule)?;
-        }
+    for row in ENTRIES.iter() {
+        assert_entry(rt.alloc(), row.0, row.1, row.2)?;
     }
     Ok(())
 }

@@ -27,7 +27,7 @@ fn assert_text(alloc: Global, size: u32, word: &str) -> Result<(), Fail>
     requires { is_size size ≡ true }
 {
     let text = text_of(alloc, size)?;
-    let wanted = format!(in alloc; "{FRONT}{word}{REST}")?;
+    let wanted = [FRONT, word, REST].concat(alloc)?;
     same("the text", &text.as_slice(), &wanted.as_bytes())
 }
 

@@ -33,7 +33,7 @@ fn image(alloc: Global, name: &str, pages: u16, words: &[u32]) -> Result<Image, 
     })
 }
 
-const WORDS: [u32; 9] = [
+static WORDS: [u32; 9] = [
     0, 0xffffffff, 0x6f, 0xdeadbeef, 1, 10, 0x100073, 16, 0xabcdef1,
 ];
 

@@ -42,7 +42,7 @@ fn assert_read(alloc: Global, text: &[u8], what: &str) -> Result<(), Fail> {
 
 // A text with its program in words or in lines of the assembler, read and printed.
 fn reprinted(alloc: Global, block: &str) -> Result<Text, Fail> {
-    let text = format!(in alloc; "{FRONT}{block}{ROOT}")?;
+    let text = [FRONT, block, ROOT].concat(alloc)?;
     let system = read_system(alloc, text.as_bytes())?;
     Ok(system_text(alloc, &system)?)
 }
@@ -109,12 +109,8 @@ static EXAMPLES: [Example; 6] = [
     ),
 ];
 
-fn text_of(alloc: Global, front: &str, amid: &str, last: &str) -> Result<String, Fail> {
-    Ok(format!(in alloc; "{front}{amid}{last}")?)
-}
-
 fn assert_example(alloc: Global, row: &Example) -> Result<(), Fail> {
-    let text = text_of(alloc, row.0, row.1, row.2)?;
+    let text = [row.0, row.1, row.2].concat(alloc)?;
     assert_refused(alloc, text.as_bytes(), row.3, row.4, row.5)
 }
 
@@ -265,10 +261,6 @@ static RULES: [(&str, &str, &[(&str, u8)]); 8] = [
     ),
 ];
 
-fn last_line(alloc: Global, front: &str, amid: &str, line: &str) -> Result<String, Fail> {
-    Ok(format!(in alloc; "{front}{amid}{line}\n")?)
-}
-
 fn assert_last_line(
     alloc: Global,
     front: &str,
@@ -276,7 +268,7 @@ fn assert_last_line(
     line: &str,
     rule: u8,
 ) -> Result<(), Fail> {
-    let text = last_line(alloc, front, amid, line)?;
+    let text = [front, amid, line, "\n"].concat(alloc)?;
     assert_refused(
         alloc,
         text.as_bytes(),

@@ -1,6 +1,7 @@
 //! A page server beside a log: its boot, and what entries make of its accounts. The system has one process, 16, with
 //! one page, whose first byte is that of the first word of its image.
-ghost use Rattle.std.specs.Prelude.{IsTrue, IfSome};
+ghost use Rattle.std.specs.Prelude.{◌≡◌, IsTrue, IfSome, true, []};
+ghost use Rattle.sys_text.specs.Valid.{is_system};
 ghost use Rattle.page_accounts.specs.Answering.{IsKept, earliest};
 
 use bus_msg::entry::{By, Cause, Dests, Entry, Post, What};
@@ -17,6 +18,7 @@ use plain_kernel::booting::starts_of;
 use std::alloc::Global;
 use std::test::Fail;
 use sys_text::read_system;
+use sys_text::system::System;
 use t32_base::lists::List;
 use t32_base::process::{ClusterNo, End, EndState, Pid, Regs, Small, Status};
 use t32_base::streams::NoMemory;
@@ -35,13 +37,35 @@ struct Server {
     places: Placement,
 }
 
+// Each function owns one value that it has to drop, or two: the proof pays for each on every way out.
+fn pager_at_boot(alloc: Global, system: &System) -> Result<Pager<MemDisk>, Fail>
+    requires { is_system system.now ≡ true }
+{
+    let mut pager = Pager::new(alloc, MemDisk::new(alloc, List::new(alloc)));
+    put_starts(alloc, system, &mut pager)?;
+    Ok(pager)
+}
+
+fn put_starts(alloc: Global, system: &System, pager: &mut Pager<MemDisk>) -> Result<(), Fail>
+    requires system { is_system system.now ≡ true }
+    requires accounts { pager.old.accounts ≡ [] }
+    requires fetches { pager.old.fetches ≡ [] }
+{
+    let starts = starts_of(alloc, system)?;
+    Ok(put_roots(pager, &starts)?)
+}
+
+fn server_of(alloc: Global, system: &System) -> Result<Server, Fail>
+    requires { is_system system.now ≡ true }
+{
+    let places = placement_at_boot(alloc, system)?;
+    let pager = pager_at_boot(alloc, system)?;
+    Ok(Server { pager, places })
+}
+
 fn server_at_boot(alloc: Global) -> Result<Server, Fail> {
     let system = read_system(alloc, HI.as_bytes())?;
-    let starts = starts_of(alloc, &system)?;
-    let mut pager = Pager::new(alloc, MemDisk::new(alloc, List::new(alloc)));
-    put_roots(&mut pager, &starts)?;
-    let places = placement_at_boot(alloc, &system)?;
-    Ok(Server { pager, places })
+    server_of(alloc, &system)
 }
 
 impl Server {
@@ -110,84 +134,132 @@ fn sync(alloc: Global) -> Result<What, NoMemory> {
     })
 }
 
-fn fetch() -> What {
-    What::Fetch {
+fn page_is(alloc: Global) -> Result<What, NoMemory> {
+    Ok(What::PageIs {
         pid: ROOT,
         index: 0,
+        bytes: Shared::new(alloc, [0; 256])?,
+    })
+}
+
+const FETCH: What = What::Fetch {
+    pid: ROOT,
+    index: 0,
+};
+
+const CRASH: What = What::Crash {
+    k: ClusterNo(0),
+    cause: Cause::Place,
+};
+
+const EXIT: What = What::Exit {
+    pid: ROOT,
+    at: 1,
+    end: End::Exit(0),
+};
+
+// What an entry says: that the page is asked for, or put with this byte, or that it came; a cut, a crash or the exit.
+enum Event {
+    Fetch,
+    Page(u8),
+    PageIs,
+    Sync,
+    Crash,
+    Exit,
+}
+
+fn what_of(alloc: Global, event: &Event) -> Result<What, NoMemory> {
+    match event {
+        Event::Fetch => Ok(FETCH),
+        Event::Page(byte) => page(alloc, *byte),
+        Event::PageIs => page_is(alloc),
+        Event::Sync => sync(alloc),
+        Event::Crash => Ok(CRASH),
+        Event::Exit => Ok(EXIT),
     }
 }
 
-fn crash() -> What {
-    What::Crash {
-        k: ClusterNo(0),
-        cause: Cause::Place,
-    }
-}
-
-fn exit() -> What {
-    What::Exit {
-        pid: ROOT,
-        at: 1,
-        end: End::Exit(0),
-    }
+// An event that is noted, or what the server shows: the first byte of the answer that is owed, the calls of the disk, and whether
+// the root has a page.
+enum Deed {
+    Note(Event),
+    Owes(Option<u8>),
+    Calls(u64),
+    Keeps(bool),
 }
 
 // What is done with a server is done by functions that borrow it: who owns it pays for its drop on each way out.
 
-fn asked_and_cut(alloc: Global, server: &mut Server) -> Result<(), Fail> {
-    same("nothing asked", &server.owed()?, &None)?;
-    server.note(fetch())?;
-    same("at boot", &server.owed()?, &Some(FIRST_BYTE))?;
-    server.note(page(alloc, 7)?)?;
-    same("before the cut", &server.owed()?, &Some(FIRST_BYTE))?;
-    server.note(sync(alloc)?)?;
-    same("after the cut", &server.owed()?, &Some(7))?;
-    // Two puts and three answers.
-    same("calls", &server.pager.disk_calls(), &5)
+fn note_event(alloc: Global, server: &mut Server, event: &Event) -> Result<(), Fail> {
+    let what = what_of(alloc, event)?;
+    server.note(what)
 }
+
+fn make(alloc: Global, server: &mut Server, deed: &Deed) -> Result<(), Fail> {
+    match deed {
+        Deed::Note(event) => note_event(alloc, server, event),
+        Deed::Owes(byte) => same("what is owed", &server.owed()?, byte),
+        Deed::Calls(calls) => same("calls", &server.pager.disk_calls(), calls),
+        Deed::Keeps(keeps) => same("its page", &server.pager.has_committed(ROOT, 0), keeps),
+    }
+}
+
+fn make_all(alloc: Global, server: &mut Server, deeds: &[Deed]) -> Result<(), Fail> {
+    for deed in deeds {
+        make(alloc, server, deed)?;
+    }
+    Ok(())
+}
+
+fn assert_deeds(alloc: Global, deeds: &[Deed]) -> Result<(), Fail> {
+    let mut server = server_at_boot(alloc)?;
+    make_all(alloc, &mut server, deeds)
+}
+
+// Two puts and three answers.
+static CUT: [Deed; 8] = [
+    Deed::Owes(None),
+    Deed::Note(Event::Fetch),
+    Deed::Owes(Some(FIRST_BYTE)),
+    Deed::Note(Event::Page(7)),
+    Deed::Owes(Some(FIRST_BYTE)),
+    Deed::Note(Event::Sync),
+    Deed::Owes(Some(7)),
+    Deed::Calls(5),
+];
 
 #[test]
 fn a_fetch_is_answered_with_the_page_of_the_last_cut(rt: HostRuntime) -> Result<(), Fail> {
-    let mut server = server_at_boot(rt.alloc())?;
-    asked_and_cut(rt.alloc(), &mut server)
+    assert_deeds(rt.alloc(), &CUT)
 }
 
-fn asked_and_lost(alloc: Global, server: &mut Server) -> Result<(), Fail> {
-    server.note(fetch())?;
-    server.note(page(alloc, 7)?)?;
-    server.note(crash())?;
-    same("after the crash", &server.owed()?, &None)?;
-    server.note(sync(alloc)?)?;
-    server.note(fetch())?;
-    same("what was put is gone", &server.owed()?, &Some(FIRST_BYTE))
-}
+// What was put is gone after the crash.
+static LOST: [Deed; 7] = [
+    Deed::Note(Event::Fetch),
+    Deed::Note(Event::Page(7)),
+    Deed::Note(Event::Crash),
+    Deed::Owes(None),
+    Deed::Note(Event::Sync),
+    Deed::Note(Event::Fetch),
+    Deed::Owes(Some(FIRST_BYTE)),
+];
 
 #[test]
 fn a_crash_ends_the_wait_and_goes_back_to_the_last_cut(rt: HostRuntime) -> Result<(), Fail> {
-    let mut server = server_at_boot(rt.alloc())?;
-    asked_and_lost(rt.alloc(), &mut server)
+    assert_deeds(rt.alloc(), &LOST)
 }
 
-fn came(alloc: Global, server: &mut Server) -> Result<(), Fail> {
-    server.note(fetch())?;
-    server.note(What::PageIs {
-        pid: ROOT,
-        index: 0,
-        bytes: Shared::new(alloc, [0; 256])?,
-    })?;
-    same("the page came", &server.owed()?, &None)
-}
-
-fn ended(server: &mut Server) -> Result<(), Fail> {
-    server.note(fetch())?;
-    server.note(exit())?;
-    same("the process ended", &server.owed()?, &None)?;
-    same("its page", &server.pager.has_committed(ROOT, 0), &false)
-}
+static ENDED: [Deed; 7] = [
+    Deed::Note(Event::Fetch),
+    Deed::Note(Event::PageIs),
+    Deed::Owes(None),
+    Deed::Note(Event::Fetch),
+    Deed::Note(Event::Exit),
+    Deed::Owes(None),
+    Deed::Keeps(false),
+];
 
 #[test]
 fn a_page_that_came_and_an_exit_end_the_wait(rt: HostRuntime) -> Result<(), Fail> {
-    let mut server = server_at_boot(rt.alloc())?;
-    came(rt.alloc(), &mut server)?;
-    ended(&mut server)
+    assert_deeds(rt.alloc(), &ENDED)
 }

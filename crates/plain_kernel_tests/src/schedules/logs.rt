@@ -4,16 +4,15 @@ use bus_msg::shared::Shared;
 use cert_sched::cert::Cert;
 use plain_kernel::item::Item;
 use std::alloc::Global;
-use std::process::Abort;
 use std::test::Fail;
 use t32_base::letter::{BackRec, Body, Letter, To};
 use t32_base::lists::List;
 use t32_base::process::{ClusterNo, Counts, End, EndState, Pid, Regs, Small, Status};
 use t32_base::shared_bytes::SharedBytes;
 use t32_base::streams::NoMemory;
+use test_asserts::same;
 
 // What an entry says, as the tests write it.
-#[derive(Clone, Copy)]
 enum Said {
     // A process writes a line by a step.
     Mail(u32, u64),
@@ -84,10 +83,8 @@ fn sync(alloc: Global, pid: u32, steps: u32, took: Option<u8>) -> Result<What, N
     })
 }
 
-/// A new backup for a process, with its state after so many steps.
-fn rebackup(alloc: Global, fresh: bool, pid: u32, steps: u32) -> Result<What, NoMemory> {
-    let mut recs = List::new(alloc);
-    recs.push(BackRec {
+fn record(alloc: Global, pid: u32, steps: u32) -> BackRec {
+    BackRec {
         pid: Pid(pid),
         state: Some(small(pid, steps)),
         saved: List::new(alloc),
@@ -97,11 +94,21 @@ fn rebackup(alloc: Global, fresh: bool, pid: u32, steps: u32) -> Result<What, No
             signals: 0,
         },
         births: List::new(alloc),
-    })?;
+    }
+}
+
+fn alone(alloc: Global, record: BackRec) -> Result<List<BackRec>, NoMemory> {
+    let mut recs = List::new(alloc);
+    recs.push(record)?;
+    Ok(recs)
+}
+
+/// A new backup for a process, with its state after so many steps.
+fn rebackup(alloc: Global, fresh: bool, pid: u32, steps: u32) -> Result<What, NoMemory> {
     Ok(What::Rebackup {
         to: ClusterNo(1),
         fresh,
-        recs: Shared::new(alloc, recs)?,
+        recs: Shared::new(alloc, alone(alloc, record(alloc, pid, steps))?)?,
     })
 }
 
@@ -121,16 +128,16 @@ fn done(alloc: Global, steps: &[(u32, u64)]) -> Result<What, NoMemory> {
     Ok(What::Done { rests })
 }
 
-fn what(alloc: Global, said: Said) -> Result<What, NoMemory> {
-    Ok(match said {
-        Said::Mail(pid, at) => mail(alloc, pid, at)?,
-        Said::Exit(pid, at) => exit(pid, at),
-        Said::Birth(parent, at, child) => birth(parent, at, child),
-        Said::Sync(pid, steps, took) => sync(alloc, pid, steps, took)?,
-        Said::Rebackup(fresh, pid, steps) => rebackup(alloc, fresh, pid, steps)?,
-        Said::Crash => crash(),
-        Said::Done(steps) => done(alloc, steps)?,
-    })
+fn what(alloc: Global, said: &Said) -> Result<What, NoMemory> {
+    match said {
+        Said::Mail(pid, at) => mail(alloc, *pid, *at),
+        Said::Exit(pid, at) => Ok(exit(*pid, *at)),
+        Said::Birth(parent, at, child) => Ok(birth(*parent, *at, *child)),
+        Said::Sync(pid, steps, took) => sync(alloc, *pid, *steps, *took),
+        Said::Rebackup(fresh, pid, steps) => rebackup(alloc, *fresh, *pid, *steps),
+        Said::Crash => Ok(crash()),
+        Said::Done(steps) => done(alloc, steps),
+    }
 }
 
 /// Adds an entry that says this.
@@ -145,44 +152,35 @@ fn add(cert: &mut Cert, what: What) -> Result<(), NoMemory> {
     })
 }
 
-fn schedule_of(alloc: Global, log: &[Said]) -> Result<Cert, NoMemory> {
-    let mut cert = Cert::none(alloc);
-    for said in log {
-        let what = what(alloc, *said)?;
-        add(&mut cert, what)?;
-    }
-    Ok(cert)
+fn add_said(alloc: Global, cert: &mut Cert, said: &Said) -> Result<(), NoMemory> {
+    let what = what(alloc, said)?;
+    add(cert, what)
 }
 
-// The schedule of a log has just these items.
-fn assert_items(
-    rt: &(impl Abort + AllocGlobal),
-    log: &[Said],
-    wanted: &[Item],
-) -> Result<(), Fail> {
-    let cert = schedule_of(rt.alloc(), log)?;
-    assert_eq!(rt; cert.items(), wanted);
+fn add_log(alloc: Global, cert: &mut Cert, log: &[Said]) -> Result<(), NoMemory> {
+    for said in log {
+        add_said(alloc, cert, said)?;
+    }
     Ok(())
 }
 
-#[test]
-fn a_log_without_entries_has_no_items(rt: HostRuntime) -> Result<(), Fail> {
-    assert_items(&rt, &[], &[])
+// The schedule of a log has just these items.
+fn assert_items(alloc: Global, case: &str, log: &[Said], wanted: &[Item]) -> Result<(), Fail> {
+    let mut cert = Cert::none(alloc);
+    add_log(alloc, &mut cert, log)?;
+    same(case, &cert.items(), &wanted)
 }
 
-#[test]
-fn a_process_that_writes_and_exits_has_two_runs(rt: HostRuntime) -> Result<(), Fail> {
-    assert_items(
-        &rt,
+// What a log shows, the log, and its items.
+static LOGS: [(&str, &[Said], &[Item]); 7] = [
+    ("a log without entries has no items", &[], &[]),
+    (
+        "a process that writes and exits has two runs",
         &[Said::Mail(16, 6), Said::Exit(16, 10), Said::Done(&[])],
         &[Item::Run(Pid(16), 6), Item::Run(Pid(16), 4)],
-    )
-}
-
-#[test]
-fn a_synchronisation_is_a_run_and_a_crash_is_none(rt: HostRuntime) -> Result<(), Fail> {
-    assert_items(
-        &rt,
+    ),
+    (
+        "a synchronisation is a run and a crash is none",
         &[
             Said::Sync(16, 64, None),
             Said::Crash,
@@ -190,13 +188,9 @@ fn a_synchronisation_is_a_run_and_a_crash_is_none(rt: HostRuntime) -> Result<(),
             Said::Done(&[]),
         ],
         &[Item::Run(Pid(16), 64), Item::Run(Pid(16), 38)],
-    )
-}
-
-#[test]
-fn a_new_backup_is_a_run_where_its_process_has_run(rt: HostRuntime) -> Result<(), Fail> {
-    assert_items(
-        &rt,
+    ),
+    (
+        "a new backup is a run where its process has run",
         &[
             Said::Mail(16, 6),
             Said::Rebackup(false, 16, 20),
@@ -208,13 +202,9 @@ fn a_new_backup_is_a_run_where_its_process_has_run(rt: HostRuntime) -> Result<()
             Item::Run(Pid(16), 3),
             Item::Run(Pid(16), 4),
         ],
-    )
-}
-
-#[test]
-fn the_end_is_the_run_of_each_process_that_is_further(rt: HostRuntime) -> Result<(), Fail> {
-    assert_items(
-        &rt,
+    ),
+    (
+        "the end is the run of each process that is further",
         &[
             Said::Mail(16, 5),
             Said::Mail(17, 4),
@@ -225,13 +215,9 @@ fn the_end_is_the_run_of_each_process_that_is_further(rt: HostRuntime) -> Result
             Item::Run(Pid(17), 4),
             Item::Run(Pid(17), 5),
         ],
-    )
-}
-
-#[test]
-fn a_birth_is_a_run_and_a_fork(rt: HostRuntime) -> Result<(), Fail> {
-    assert_items(
-        &rt,
+    ),
+    (
+        "a birth is a run and a fork",
         &[
             Said::Birth(16, 2, 32),
             Said::Mail(32, 7),
@@ -249,13 +235,9 @@ fn a_birth_is_a_run_and_a_fork(rt: HostRuntime) -> Result<(), Fail> {
             Item::Run(Pid(32), 1),
             Item::Run(Pid(16), 1),
         ],
-    )
-}
-
-#[test]
-fn a_signal_that_was_taken_stands_after_the_run(rt: HostRuntime) -> Result<(), Fail> {
-    assert_items(
-        &rt,
+    ),
+    (
+        "a signal that was taken stands after the run",
         &[
             Said::Sync(16, 9, Some(11)),
             Said::Mail(16, 15),
@@ -267,5 +249,13 @@ fn a_signal_that_was_taken_stands_after_the_run(rt: HostRuntime) -> Result<(), F
             Item::Run(Pid(16), 6),
             Item::Run(Pid(16), 6),
         ],
-    )
+    ),
+];
+
+#[test]
+fn the_schedule_of_a_log_is_its_runs_forks_and_takes(rt: HostRuntime) -> Result<(), Fail> {
+    for row in LOGS.iter() {
+        assert_items(rt.alloc(), row.0, row.1, row.2)?;
+    }
+    Ok(())
 }

@@ -2,24 +2,31 @@
 use crate::words::words::words;
 use std::alloc::Global;
 use std::test::Fail;
+use t32_base::lists::Text;
+use t32_base::streams::NoMemory;
 use test_asserts::same;
 use word_faults::fault::word_hint;
 
-// This is noted of the words of a line; no text is nothing.
-fn assert_noted(alloc: Global, line: &[u8], wanted: &str) -> Result<(), Fail> {
+// What is noted of the words of a line; no hint is no text.
+pub fn noted(alloc: Global, line: &[u8]) -> Result<Text, NoMemory> {
     let words = words(alloc, line)?;
-    let hint = word_hint(alloc, &words)?;
-    let shown = match &hint {
-        Some(hint) => hint.as_slice(),
-        None => b"",
-    };
-    same("what is noted", &(line, shown), &(line, wanted.as_bytes()))
+    match word_hint(alloc, &words)? {
+        Some(hint) => Ok(hint),
+        None => Ok(Text::new(alloc)),
+    }
+}
+
+fn assert_noted(alloc: Global, line: &[u8], wanted: &str) -> Result<(), Fail> {
+    let noted = noted(alloc, line)?;
+    let shown = (line, noted.as_slice());
+    same("what is noted", &shown, &(line, wanted.as_bytes()))
 }
 
 static NOTED: [(&[u8], &str); 13] = [
     (b"", ""),
     (b"--help", ""),
     (b"sim --log --pick 3 crash:1@bus:9", ""),
+    (b"run return:0@bus:1", ""),
     (b"load 7 --text return:0@bus:1 disk:0@1", ""),
     (
         b"simulate",
@@ -42,10 +49,6 @@ static NOTED: [(&[u8], &str); 13] = [
         "t32: word 3: --: --pick takes a number, 0 to 2147483647\n",
     ),
     (
-        b"run return:0@bus:1",
-        "t32: word 2: return:0@bus:1: it is read, but not built yet\n",
-    ),
-    (
         b"load --text",
         "t32: word 1: load: load takes its size, 1 to 1000, before any other word that is no option\n",
     ),
@@ -58,8 +61,8 @@ static NOTED: [(&[u8], &str); 13] = [
 
 #[test]
 fn the_first_wrong_word_is_noted(rt: HostRuntime) -> Result<(), Fail> {
-    for (line, wanted) in NOTED {
-        assert_noted(rt.alloc(), line, wanted)?;
+    for row in NOTED.iter() {
+        assert_noted(rt.alloc(), row.0, row.1)?;
     }
     Ok(())
 }

@@ -1,11 +1,11 @@
 //! A script of as many words as there may be, and of one more.
-use crate::words::words::{command, words};
+use crate::words::faults::noted;
+use crate::words::words::command;
 use std::alloc::Global;
 use std::test::Fail;
 use t32_base::lists::{Bytes, Text};
 use t32_base::streams::NoMemory;
 use test_asserts::same;
-use word_faults::fault::word_hint;
 
 // The line of `sim` with so many script words.
 fn line_of(alloc: Global, count: u32) -> Result<Text, NoMemory> {
@@ -16,17 +16,17 @@ fn line_of(alloc: Global, count: u32) -> Result<Text, NoMemory> {
     Ok(line)
 }
 
+fn assert_line(alloc: Global, line: &[u8], is_command: bool, wanted: &str) -> Result<(), Fail> {
+    let found = command(alloc, line)?.is_some();
+    same("a command", &found, &is_command)?;
+    let noted = noted(alloc, line)?;
+    same("what is noted", &noted.as_slice(), &wanted.as_bytes())
+}
+
 // Whether a line of so many script words is a command, and what is noted of it.
-fn assert_read(alloc: Global, count: u32, is_command: bool, noted: &str) -> Result<(), Fail> {
+fn assert_read(alloc: Global, count: u32, is_command: bool, wanted: &str) -> Result<(), Fail> {
     let line = line_of(alloc, count)?;
-    let found = command(alloc, line.as_slice())?.is_some();
-    same("a command", &(count, found), &(count, is_command))?;
-    let hint = word_hint(alloc, &words(alloc, line.as_slice())?)?;
-    let shown = match &hint {
-        Some(hint) => hint.as_slice(),
-        None => b"",
-    };
-    same("what is noted", &(count, shown), &(count, noted.as_bytes()))
+    assert_line(alloc, line.as_slice(), is_command, wanted)
 }
 
 #[test]

@@ -199,30 +199,24 @@ fn asks_for_help(line: &[u8]) -> bool {
         || line == b"-h".as_slice()
 }
 
-// A word is noted exactly where the words are no command that is built, but for no words and the wish for help.
-fn assert_noted(alloc: Global, line: &[u8], read: Read, script: &[ScriptWord]) -> Result<(), Fail> {
+// A word is noted exactly where the words are no command, but for no words and the wish for help.
+fn assert_noted(alloc: Global, line: &[u8], read: Read) -> Result<(), Fail> {
     let words = words(alloc, line)?;
-    let is_built = match read {
-        Read::Usage => asks_for_help(line),
-        Read::Load(_, true) => true,
-        _ => !script
-            .iter()
-            .any(|word| matches!(word, ScriptWord::ReturnAt { .. })),
-    };
+    let unnoted = read != Read::Usage || asks_for_help(line);
     same(
         "a note",
         &(line, fault_of(&words).is_none()),
-        &(line, is_built),
+        &(line, unnoted),
     )
 }
 
 #[test]
 fn a_word_is_noted_where_they_are_no_command(rt: HostRuntime) -> Result<(), Fail> {
     for row in OPTIONS.iter() {
-        assert_noted(rt.alloc(), row.0, row.1, &[])?;
+        assert_noted(rt.alloc(), row.0, row.1)?;
     }
     for row in SCRIPTS.iter() {
-        assert_noted(rt.alloc(), row.0, row.1, row.2)?;
+        assert_noted(rt.alloc(), row.0, row.1)?;
     }
     Ok(())
 }

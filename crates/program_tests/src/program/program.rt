@@ -47,7 +47,7 @@ fn a_long_input_is_refused(rt: HostRuntime) -> Result<(), Fail> {
 }
 
 // The words are read as `command_words` reads them; here are those that show it, with the status.
-static WORDS: [(&[u8], u8); 25] = [
+static WORDS: [(&[u8], u8); 26] = [
     (b"", 1),
     (b"help", 1),
     (b"Plain", 1),
@@ -72,7 +72,8 @@ static WORDS: [(&[u8], u8); 25] = [
     (b"sim crash:0@bus:0 crash:1@bus:1", 7),
     (b"sim disk:0@0", 0),
     (b"sim disk:0", 1),
-    (b"run return:0@bus:0", 1),
+    (b"sim return:0@bus:0", 0),
+    (b"run return:0@bus:0", 0),
 ];
 
 // The status, whether the program wrote how it is used, whether a run was handed out, and whether input was asked for.
@@ -106,7 +107,7 @@ fn words_are_a_command_or_usage(rt: HostRuntime) -> Result<(), Fail> {
 }
 
 // The same of `load`, which prints its workload where it is only to print it, and has the clusters of its script.
-static LOADS: [(&[u8], u8); 17] = [
+static LOADS: [(&[u8], u8); 18] = [
     (b"load 7 --text", 0),
     (b"load --text 0000000007", 0),
     (b"load 1000 --text --", 0),
@@ -122,6 +123,7 @@ static LOADS: [(&[u8], u8); 17] = [
     (b"load 7 --text --text", 1),
     (b"load -- 7 --text", 1),
     (b"load 7 crash:4@bus:1", 1),
+    (b"load 7 return:4@bus:1", 1),
     (b"load 7 crash:0@bus:1 crash:4@bus:1", 1),
     (b"load 1001", 1),
 ];

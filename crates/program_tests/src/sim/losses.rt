@@ -201,8 +201,8 @@ fn a_loss_stands_in_the_log(rt: HostRuntime) -> Result<(), Fail> {
     Ok(())
 }
 
-// A cluster that the system lacks is usage once the text was read, and a script that is not built is usage before.
-static REFUSED: [(&[u8], &str, u8, &str); 9] = [
+// A cluster that the system lacks is usage once the text was read.
+static REFUSED: [(&[u8], &str, u8, &str); 12] = [
     (b"sim crash:2@bus:0", HI, 1, "t32: usage\n"),
     (b"run crash:2@bus:0", HI, 1, "t32: usage\n"),
     (b"sim crash:2@step:1", HI, 1, "t32: usage\n"),
@@ -214,7 +214,20 @@ static REFUSED: [(&[u8], &str, u8, &str); 9] = [
         2,
         "t32: system line 6 rule 10\n",
     ),
-    (b"sim crash:0@bus:1 return:0@bus:4", CUT, 1, "t32: usage\n"),
+    (
+        b"sim crash:0@bus:1 return:0@bus:4",
+        CUT,
+        2,
+        "t32: system line 6 rule 10\n",
+    ),
+    (
+        b"run crash:0@bus:1 return:0@bus:4",
+        CUT,
+        2,
+        "t32: system line 6 rule 10\n",
+    ),
+    (b"sim return:2@bus:0", HI, 1, "t32: usage\n"),
+    (b"run return:2@bus:0", HI, 1, "t32: usage\n"),
     (b"sim disk:2@0", HI, 1, "t32: usage\n"),
     (
         b"sim disk:0@0 disk:1@4 crash:2@bus:0",

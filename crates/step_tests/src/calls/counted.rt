@@ -12,13 +12,13 @@ use t32_base::streams::NoMemory;
 use test_asserts::same;
 
 // li a7, 2 / li a0, 0 / la a1, m / li a2, 3 / ecall / li a7, 1 / li a0, 0 / ecall / m: .ascii "hi\n"
-const HI: [u8; 40] = [
+static HI: [u8; 40] = [
     147, 8, 32, 0, 19, 5, 0, 0, 183, 5, 1, 0, 147, 133, 69, 2, 19, 6, 48, 0, 115, 0, 0, 0, 147, 8,
     16, 0, 19, 5, 0, 0, 115, 0, 0, 0, 104, 105, 10, 0,
 ];
 
 // li a7, 5 / ecall
-const FORKER: [u8; 8] = [147, 8, 80, 0, 115, 0, 0, 0];
+static FORKER: [u8; 8] = [147, 8, 80, 0, 115, 0, 0, 0];
 
 fn hi(alloc: Global) -> Result<Process, NoMemory> {
     Process::root(alloc, Pid(16), 0x10000, 1, &HI, 1000, 0, 0)
@@ -32,56 +32,60 @@ fn sent(alloc: Global, p: &mut Process, steps: u64) -> Result<(Made, u64), NoMem
     }
 }
 
-fn both(alloc: Global, first: u64, then: u64) -> Result<[(Made, u64); 2], NoMemory> {
-    let mut p = hi(alloc)?;
-    Ok([sent(alloc, &mut p, first)?, sent(alloc, &mut p, then)?])
+fn send_both(
+    alloc: Global,
+    p: &mut Process,
+    first: u64,
+    then: u64,
+) -> Result<[(Made, u64); 2], NoMemory> {
+    Ok([sent(alloc, p, first)?, sent(alloc, p, then)?])
 }
 
-const LINES: Result<[(Made, u64); 2], NoMemory> = Ok([
+fn both(alloc: Global, first: u64, then: u64) -> Result<[(Made, u64); 2], NoMemory> {
+    let mut p = hi(alloc)?;
+    send_both(alloc, &mut p, first, then)
+}
+
+static LINES: [(Made, u64); 2] = [
     (Made::Said(To::Tty(0), 3), 6),
     (Made::Exit(End::Exit(0)), 10),
-]);
+];
 
 #[test]
 fn a_letter_and_the_end_are_sent_by_the_steps_of_their_lines(rt: HostRuntime) -> Result<(), Fail> {
-    let wanted = LINES;
-    same("what is sent", &both(rt.alloc(), 6, 4), &wanted)
+    same("what is sent", &both(rt.alloc(), 6, 4)?, &LINES)
 }
 
 // Whether so many silent steps can be made, by the steps.
+fn are_silent(alloc: Global, steps: u64) -> Result<bool, NoMemory> {
+    make_silent_steps(alloc, &mut hi(alloc)?, steps)
+}
+
 fn silent(alloc: Global) -> Result<[bool; 3], NoMemory> {
     Ok([
-        make_silent_steps(alloc, &mut hi(alloc)?, 0)?,
-        make_silent_steps(alloc, &mut hi(alloc)?, 5)?,
-        make_silent_steps(alloc, &mut hi(alloc)?, 6)?,
+        are_silent(alloc, 0)?,
+        are_silent(alloc, 5)?,
+        are_silent(alloc, 6)?,
     ])
 }
 
-const SILENT: Result<[bool; 3], NoMemory> = Ok([true, true, false]);
-
 #[test]
 fn the_steps_before_a_letter_are_silent(rt: HostRuntime) -> Result<(), Fail> {
-    let wanted = SILENT;
-    same("the steps", &silent(rt.alloc()), &wanted)
+    same("the steps", &silent(rt.alloc())?, &[true, true, false])
 }
 
 fn forker(alloc: Global) -> Result<Process, NoMemory> {
     Process::root(alloc, Pid(16), 0x10000, 1, &FORKER, 1000, 1, 0)
 }
 
-fn forks(alloc: Global) -> Result<[bool; 2], NoMemory> {
-    Ok([
-        come_to_fork(alloc, &mut forker(alloc)?, 0)?,
-        come_to_fork(alloc, &mut forker(alloc)?, 1)?,
-    ])
+fn forks(alloc: Global, before: u64) -> Result<bool, NoMemory> {
+    come_to_fork(alloc, &mut forker(alloc)?, before)
 }
-
-const FORKS: Result<[bool; 2], NoMemory> = Ok([false, true]);
 
 #[test]
 fn a_process_comes_to_its_fork_after_the_steps_before_it(rt: HostRuntime) -> Result<(), Fail> {
-    let wanted = FORKS;
-    same("the forks", &forks(rt.alloc()), &wanted)
+    let shown = [forks(rt.alloc(), 0)?, forks(rt.alloc(), 1)?];
+    same("the forks", &shown, &[false, true])
 }
 
 // One that waits for a letter from its end 1, which is linked.
@@ -91,17 +95,19 @@ fn waiting(alloc: Global) -> Result<Process, NoMemory> {
     Ok(p)
 }
 
-fn settled(alloc: Global) -> Result<[bool; 2], NoMemory> {
-    Ok([
-        settle(alloc, &mut waiting(alloc)?)?,
-        settle(alloc, &mut hi(alloc)?)?,
-    ])
+fn who_waits_settles(alloc: Global) -> Result<bool, NoMemory> {
+    settle(alloc, &mut waiting(alloc)?)
 }
 
-const SETTLED: Result<[bool; 2], NoMemory> = Ok([true, false]);
+fn who_sends_settles(alloc: Global) -> Result<bool, NoMemory> {
+    settle(alloc, &mut hi(alloc)?)
+}
 
 #[test]
 fn who_waits_rests_and_who_sends_does_not(rt: HostRuntime) -> Result<(), Fail> {
-    let wanted = SETTLED;
-    same("the rests", &settled(rt.alloc()), &wanted)
+    let shown = [
+        who_waits_settles(rt.alloc())?,
+        who_sends_settles(rt.alloc())?,
+    ];
+    same("the rests", &shown, &[true, false])
 }

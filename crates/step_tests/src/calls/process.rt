@@ -14,7 +14,7 @@ use t32_base::streams::NoMemory;
 use test_asserts::same;
 
 // The word of `ecall`.
-const ECALL: [u8; 4] = [0x73, 0, 0, 0];
+static ECALL: [u8; 4] = [0x73, 0, 0, 0];
 
 /// What a call answers where it has no such end.
 pub const REFUSED_END: u32 = 0xfffffff7;
@@ -167,14 +167,24 @@ pub fn begun(alloc: Global, begin: Begin) -> Result<Process, NoMemory> {
     Ok(p)
 }
 
+fn signal_twice(p: &mut Process) -> Result<(), NoMemory>
+    requires { p.old.mail.next < 10 }
+{
+    arrive(p, 0, Body::Signal(11))?;
+    arrive(p, 0, Body::Signal(12))
+}
+
+fn handle(small: &mut Small) {
+    set_call(small, &[0, 0, 0, 9]);
+    small.handler = 0x10000;
+    small.frame = Some(small.regs.copy());
+}
+
 /// One whose handler runs, at its first word, the call `sigreturn`; so does what it returns to. Signals 11 and 12 wait.
 pub fn signalled(alloc: Global) -> Result<Process, NoMemory> {
     let mut p = root(alloc)?;
-    arrive(&mut p, 0, Body::Signal(11))?;
-    arrive(&mut p, 0, Body::Signal(12))?;
-    set_call(&mut p.small, &[0, 0, 0, 9]);
-    p.small.handler = 0x10000;
-    p.small.frame = Some(p.small.regs.copy());
+    signal_twice(&mut p)?;
+    handle(&mut p.small);
     Ok(p)
 }
 

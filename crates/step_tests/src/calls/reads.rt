@@ -30,15 +30,19 @@ fn has_read(p: &Process) -> HasRead {
     (bytes, numbers)
 }
 
+fn read_all(alloc: Global, p: &mut Process) -> Result<(Reads, HasRead), NoMemory> {
+    let reads = read_thrice(alloc, p)?;
+    Ok((reads, has_read(p)))
+}
+
 fn all_read(alloc: Global) -> Result<(Reads, HasRead), NoMemory> {
     let mut p = begun(alloc, Begin::Ended)?;
-    let reads = read_thrice(alloc, &mut p)?;
-    Ok((reads, has_read(&p)))
+    read_all(alloc, &mut p)
 }
 
 const LETTER_ON_1: (bool, bool, bool) = (true, false, false);
 
-const READS: Result<(Reads, HasRead), NoMemory> = Ok((
+const READS: (Reads, HasRead) = (
     (
         Some(1),
         [
@@ -48,12 +52,12 @@ const READS: Result<(Reads, HasRead), NoMemory> = Ok((
         ],
     ),
     ([Some(0x6261), Some(0)], Some((0, 1))),
-));
+);
 
 #[test]
 fn a_read_takes_the_first_letter_of_its_end(rt: HostRuntime) -> Result<(), Fail> {
     let wanted = READS;
-    same("the reads", &all_read(rt.alloc()), &wanted)
+    same("the reads", &all_read(rt.alloc())?, &wanted)
 }
 
 fn link_three(p: &mut Process) -> [Option<u8>; 3] {
@@ -63,26 +67,30 @@ fn link_three(p: &mut Process) -> [Option<u8>; 3] {
 // The ends by which it is linked, and three reads of any end.
 type ReadsOfAny = ([Option<u8>; 3], [Shown; 3]);
 
+fn read_any(alloc: Global, p: &mut Process) -> Result<ReadsOfAny, NoMemory> {
+    let ends = link_three(p);
+    Ok((ends, call_thrice(alloc, p, &[0x10010, 8, 0, 4])?))
+}
+
 fn any_read(alloc: Global) -> Result<ReadsOfAny, NoMemory> {
     let mut p = begun(alloc, Begin::Two)?;
-    let ends = link_three(&mut p);
-    Ok((ends, call_thrice(alloc, &mut p, &[0x10010, 8, 0, 4])?))
+    read_any(alloc, &mut p)
 }
 
 // The third waits.
-const READS_OF_ANY: Result<ReadsOfAny, NoMemory> = Ok((
+const READS_OF_ANY: ReadsOfAny = (
     [Some(1), Some(2), Some(3)],
     [
         (true, Made::Silent, (5, 3), (0x10004, 1), LETTER_ON_1),
         (true, Made::Silent, (3, 1), (0x10004, 2), NO_LETTERS),
         (false, Made::Blocked, (0x10010, 8), (0x10000, 2), NO_LETTERS),
     ],
-));
+);
 
 #[test]
 fn a_read_of_any_end_takes_the_letters_as_they_came(rt: HostRuntime) -> Result<(), Fail> {
     let wanted = READS_OF_ANY;
-    same("the reads", &any_read(rt.alloc()), &wanted)
+    same("the reads", &any_read(rt.alloc())?, &wanted)
 }
 
 // The end, the address and the most bytes, and the number of the call; the answer.

@@ -19,36 +19,36 @@ fn taken(p: &mut Process) -> Result<Taken, NoMemory> {
     Ok((Some(signal), read(&p.small.regs, 10)))
 }
 
-// Before and after each of two returns, and what the returns were.
-fn taken_in_turn(alloc: Global) -> Result<([Taken; 5], [Made; 2]), NoMemory> {
-    let mut p = signalled(alloc)?;
-    let before = taken(&mut p)?;
-    let first_return = step_made(alloc, &mut p)?;
-    let first = taken(&mut p)?;
-    let between = taken(&mut p)?;
-    let second_return = step_made(alloc, &mut p)?;
-    let second = taken(&mut p)?;
-    let after = taken(&mut p)?;
-    Ok((
-        [before, first, between, second, after],
-        [first_return, second_return],
-    ))
+// What a return of the handler was, and two attempts to take a signal after it.
+type Turn = (Made, [Taken; 2]);
+
+fn turn(alloc: Global, p: &mut Process) -> Result<Turn, NoMemory> {
+    let made = step_made(alloc, p)?;
+    Ok((made, [taken(p)?, taken(p)?]))
 }
+
+// An attempt before any return, and two returns.
+type InTurn = (Taken, [Turn; 2]);
+
+fn take_in_turn(alloc: Global, p: &mut Process) -> Result<InTurn, NoMemory> {
+    Ok((taken(p)?, [turn(alloc, p)?, turn(alloc, p)?]))
+}
+
+fn taken_in_turn(alloc: Global) -> Result<InTurn, NoMemory> {
+    let mut p = signalled(alloc)?;
+    take_in_turn(alloc, &mut p)
+}
+
+const IN_TURN: InTurn = (
+    (None, 0),
+    [
+        (Made::Silent, [(Some(11), 11), (None, 11)]),
+        (Made::Silent, [(Some(12), 12), (None, 12)]),
+    ],
+);
 
 #[test]
 fn signals_are_taken_in_order_between_the_runs_of_a_handler(rt: HostRuntime) -> Result<(), Fail> {
-    same(
-        "the signals",
-        &taken_in_turn(rt.alloc())?,
-        &(
-            [
-                (None, 0),
-                (Some(11), 11),
-                (None, 11),
-                (Some(12), 12),
-                (None, 12),
-            ],
-            [Made::Silent, Made::Silent],
-        ),
-    )
+    let wanted = IN_TURN;
+    same("the signals", &taken_in_turn(rt.alloc())?, &wanted)
 }

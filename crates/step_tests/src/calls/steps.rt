@@ -71,16 +71,15 @@ fn closed(alloc: Global) -> Result<Steps, NoMemory> {
     step_on(alloc, &mut p)
 }
 
-const CLOSING: Result<Steps, NoMemory> = Ok([
+static CLOSING: Steps = [
     (Made::Closing(End::Exit(0)), 1),
     (Made::Shut(3, To::Proc(Pid(17), 5)), 2),
     (Made::Shut(31, To::Proc(Pid(17), 5)), 3),
     (Made::Exit(End::Exit(0)), 4),
     (Made::Over(End::Exit(0)), 4),
-]);
+];
 
 #[test]
 fn a_closing_process_shuts_its_ends_and_then_exits(rt: HostRuntime) -> Result<(), Fail> {
-    let wanted = CLOSING;
-    same("the steps", &closed(rt.alloc()), &wanted)
+    same("the steps", &closed(rt.alloc())?, &CLOSING)
 }

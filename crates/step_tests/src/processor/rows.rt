@@ -2,6 +2,7 @@
 //! each.
 use rv_insn::{Insn, decode, encode};
 use std::test::Fail;
+use test_asserts::same;
 
 macro_rules! upper {
     ($name:ident, $rd:expr, $imm:expr) => {
@@ -28,7 +29,7 @@ macro_rules! registers {
 }
 
 // An instruction, its word, and a word that no row takes.
-const TABLE: [(Insn, u32, u32); 40] = [
+static TABLE: [(Insn, u32, u32); 40] = [
     // lui x5, 0xfffff
     (upper!(Lui, 5, -4096), 0xfffff2b7, 0xfffff2b6),
     // auipc x31, 0x12345
@@ -164,19 +165,30 @@ fn is_same(found: Option<Insn>, insn: Insn) -> bool {
     }
 }
 
+// The word is the instruction's, and the other is no instruction's.
+fn assert_row(insn: Insn, word: u32, illegal: u32) -> Result<(), Fail> {
+    let shown = (is_same(decode(word), insn), decode(illegal).is_none());
+    same(
+        "the words",
+        &(word, illegal, shown),
+        &(word, illegal, (true, true)),
+    )
+}
+
 #[test]
-fn rows(rt: HostRuntime) -> Result<(), Fail> {
-    for (insn, word, illegal) in &TABLE {
-        assert!(rt; is_same(decode(*word), *insn), "{word}");
-        assert!(rt; decode(*illegal).is_none(), "{illegal}");
+fn rows() -> Result<(), Fail> {
+    for row in TABLE.iter() {
+        assert_row(row.0, row.1, row.2)?;
     }
     Ok(())
 }
 
 #[test]
-fn written(rt: HostRuntime) -> Result<(), Fail> {
-    assert_eq!(rt; encode(immediate!(Addi, 29, 30, -2048)), 0x800f0e93);
-    assert_eq!(rt; encode(sources!(Bne, 3, 4, -4096)), 0x80419063);
-    assert_eq!(rt; encode(Insn::Fence), 0x0ff0_000f);
-    Ok(())
+fn written() -> Result<(), Fail> {
+    let words = [
+        encode(immediate!(Addi, 29, 30, -2048)),
+        encode(sources!(Bne, 3, 4, -4096)),
+        encode(Insn::Fence),
+    ];
+    same("the words", &words, &[0x800f0e93, 0x80419063, 0x0ff0_000f])
 }

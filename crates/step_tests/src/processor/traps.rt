@@ -1,12 +1,14 @@
 //! Each trap at the last address inside and at the first outside, in a memory of one page.
 use rv_cpu::{Did, exec};
 use rv_mem::Ram;
+use std::alloc::Global;
 use std::test::Fail;
 use t32_base::process::Regs;
+use test_asserts::same;
 
 // A word, the address that it stands at, where that lies in memory, and register 5; and what the
 // instruction does. The words are those of the GNU assembler.
-const TABLE: [(u32, u32, u32, Did); 53] = [
+static TABLE: [(u32, u32, u32, Did); 53] = [
     // addi x0, x0, 0: a fetch at the last place
     (0x00000013, 0x100fc, 0x00000, Did::Stepped),
     // addi x0, x0, 0: a fetch that ends or begins outside
@@ -115,25 +117,48 @@ const TABLE: [(u32, u32, u32, Did); 53] = [
     (0x00000073, 0x10100, 0x00000, Did::Trap(1)),
 ];
 
+// Places the word in a memory: whether that is allowed just where four bytes lie inside.
+fn place(ram: &mut Ram, pc: u32, word: u32) -> bool {
+    let placed = ram.copy_in(pc, &word.to_le_bytes()).is_ok();
+    placed == ram.inside(pc, 4)
+}
+
+// The bytes of the memory, and whether they could be copied out.
+fn bytes(ram: &Ram) -> ([u8; 256], bool) {
+    let mut bytes = [0; 256];
+    let copied = ram.copy_out(0x10000, &mut bytes).is_ok();
+    (bytes, copied)
+}
+
+// What the instruction did; whether the bytes could be copied out before and after it; and whether the program counter, register
+// 6 and the bytes are as they were.
+fn executed(ram: &mut Ram, pc: u32, x5: u32) -> (Did, [bool; 2], bool) {
+    let mut regs = Regs::new(pc);
+    regs.x[5] = x5;
+    let (before, copied) = bytes(ram);
+    let did = exec(&mut regs, ram);
+    let (after, copied_again) = bytes(ram);
+    let kept = (regs.pc, regs.x[6], after) == (pc, 0, before);
+    (did, [copied, copied_again], kept)
+}
+
+// An instruction that traps or calls keeps all as it was.
+fn assert_did(alloc: Global, row: &(u32, u32, u32, Did)) -> Result<(), Fail> {
+    let (word, pc, x5, wanted) = *row;
+    let mut ram = Ram::filled(alloc, 1, &[])?;
+    let placed = place(&mut ram, pc, word);
+    let (did, copied, kept) = executed(&mut ram, pc, x5);
+    same(
+        "the word, where it stands, and what it did",
+        &(word, pc, did, (placed, copied, kept || did == Did::Stepped)),
+        &(word, pc, wanted, (true, [true; 2], true)),
+    )
+}
+
 #[test]
 fn traps(rt: HostRuntime) -> Result<(), Fail> {
-    for (word, pc, x5, expected) in &TABLE {
-        let mut ram = Ram::filled(rt.alloc(), 1, &[]).ok().ok_or("memory")?;
-        let mut regs = Regs::new(*pc);
-        regs.x[5] = *x5;
-        let placed = ram.copy_in(*pc, &word.to_le_bytes());
-        assert_eq!(rt; placed.is_ok(), ram.inside(*pc, 4));
-        let mut before = [0; 256];
-        assert!(rt; ram.copy_out(0x10000, &mut before).is_ok());
-        let did = exec(&mut regs, &mut ram);
-        assert_eq!(rt; did, *expected, "word {word} at {pc}");
-        if did != Did::Stepped {
-            assert_eq!(rt; regs.pc, *pc);
-            assert_eq!(rt; regs.x[6], 0);
-            let mut after = [0; 256];
-            assert!(rt; ram.copy_out(0x10000, &mut after).is_ok());
-            assert_eq!(rt; after.as_slice(), before.as_slice());
-        }
+    for row in TABLE.iter() {
+        assert_did(rt.alloc(), row)?;
     }
     Ok(())
 }

@@ -1,4 +1,4 @@
-use Rattle.cluster_run.proofs.DiskCalls.{calls_more}
+use Rattle.cluster_turns.proofs.DiskCalls.{calls_more}
 use Rattle.cluster_run.proofs.booting.calls_for.Goals as goal
 
 pub loop-word-preserved : goal.loop-word-preserved

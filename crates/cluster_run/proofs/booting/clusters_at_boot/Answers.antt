@@ -1,4 +1,4 @@
-use Rattle.std.proofs.Common.{◌≡◌, ℕ, ◌⊎◌, inl, inr, refl, ap, subst, sym, ◌∙◌, List, [], ◌∷◌, Bool, true, cond, Option, Some, None, is_some, arith}
+use Rattle.std.proofs.Common.{◌≡◌, ℕ, ◌⊎◌, inl, inr, refl, ap, subst, sym, ◌∙◌, List, [], ◌∷◌, take, Bool, true, false, cond, not, ◌&&◌, Option, Some, None, is_some, arith}
 use Rattle.std.specs.Prelude.{◌<◌, ◌^◌, nat_le, option_map}
 use Rattle.std.specs.List.{list_all}
 use Rattle.std.specs.Option.{IfSome}
@@ -7,14 +7,15 @@ use Rattle.std.proofs.lemmas.Bool.{and_from}
 use Rattle.std.proofs.lemmas.Bool.Decides.{nat_tests}
 use Rattle.t32_base.specs.declared.process.ClusterNo.{ClusterNo}
 use Rattle.sys_text.specs.declared.system.System.{System}
+use Rattle.cert_sched.specs.Losses.{was_lost_in}
 use Rattle.cert_sched.specs.Scripted.{is_server}
 use Rattle.page_server.specs.declared.mem_disk.MemDisk.{MemDisk}
 use Rattle.cluster_core.specs.Calls.{IsFirst}
 use Rattle.cluster_core.specs.Follows.{FollowsBuilt}
 use Rattle.cluster_core.specs.Serving.{IsFailing}
-use Rattle.cluster_core.specs.View.{ClusterView}
-use Rattle.cluster_run.specs.Disks.{HasFailed, IsDiskOf, calls_for}
-use Rattle.cluster_run.proofs.DiskCalls.{disk_named}
+use Rattle.cluster_core.specs.View.{ClusterView, failing_in}
+use Rattle.cluster_turns.specs.Disks.{HasFailed, IsDiskOf, calls_for}
+use Rattle.cluster_turns.proofs.DiskCalls.{disk_named}
 use Rattle.cluster_run.proofs.Together.{one_started}
 use Rattle.cluster_run.proofs.booting.clusters_at_boot.Goals as goal
 
@@ -55,13 +56,23 @@ loop-number-preserved c =
     begins : IsFirst system k v
     begins = c.in_ok-cluster.ensures.begins
 
-    disk : IsDiskOf c.args.script.now v
-    disk =
+    none_lost : was_lost_in (take v.cursor []) v.number ≡ false
+    none_lost = ap (λ n. was_lost_in (take n []) v.number) begins.cursor
+
+    whole : (a b : Bool) → b ≡ false → (a && not b) ≡ a
+    whole true b none = ap not none
+    whole false b none = refl
+
+    at_boot : failing_in v.server ≡ cond (is_server v.system v.number) (Some (Some (calls_for v.number c.args.script.now))) None
+    at_boot =
         c.in_ok-cluster.ensures.disk ∙ told c.in_ok-disk.disk (is_server system k) (calls_for k c.args.script.now) (c.in_ok-disk.ensures.there ∙ ap (λ (s : System). is_server s k) c.deref-in-loop-number.ensures) c.in_ok-disk.ensures.failing
         ∙ sym (λ i. cond (is_server (begins.system_is i) (begins.number_is i)) (Some (Some (calls_for (begins.number_is i) c.args.script.now))) None)
+
+    disk : IsDiskOf c.args.script.now [] v
+    disk = at_boot ∙ sym (λ i. cond (whole (is_server v.system v.number) (was_lost_in (take v.cursor []) v.number) none_lost i) (Some (Some (calls_for v.number c.args.script.now))) None)
 
     by_failed : (o : Option ℕ) → v.failed ≡ o → IfSome o (λ call. IsFailing v.server call × (v.here ≡ [])) → ((v.failed ≡ None) × FollowsBuilt system [] v) ⊎ HasFailed c.args.script.now v
     by_failed None unfailed fails = inl (unfailed, c.in_ok-cluster.ensures.follows unfailed (ahead c.in_ok-disk.disk c.in_ok-disk.ensures.unused))
     by_failed (Some call) failed fails =
-        let named = disk_named c.args.script.now v call disk fails.0 in
+        let named = disk_named c.args.script.now [] v call disk fails.0 in
         inr (record { call = call; failed = failed; named = named.0; fits = named.1; none = fails.1 })

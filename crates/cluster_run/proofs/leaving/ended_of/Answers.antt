@@ -3,8 +3,8 @@ use Rattle.std.specs.Option.{option_copied}
 use Rattle.std.proofs.lemmas.Option.{slice_get_cases}
 use Rattle.bus_order.specs.View.{BusView}
 use Rattle.cert_sched.specs.Scripted.{is_finished}
-use Rattle.cluster_run.specs.Ends.{ends_lost}
-use Rattle.cluster_run.proofs.CutOff.{run_out_parts}
+use Rattle.cluster_turns.specs.Ends.{ends_lost}
+use Rattle.cluster_turns.proofs.CutOff.{run_out_parts}
 use Rattle.cluster_run.proofs.Ended.{last_crash, lost_ends, run_out_long}
 use Rattle.cluster_run.proofs.leaving.ended_of.Goals as goal
 

@@ -8,7 +8,7 @@ use Rattle.log_laws.proofs.records.Standing.{built_stands}
 use Rattle.report_text.specs.Good.{EndsAs}
 use Rattle.cluster_run.proofs.Ended.{ends_finished}
 use Rattle.cluster_run.proofs.GoodRun.{good_run}
-use Rattle.cluster_run.proofs.Worded.{spread_closes}
+use Rattle.cluster_turns.proofs.Worded.{spread_closes}
 use Rattle.cluster_run.proofs.leaving.run_of.Goals as goal
 
 pub counts_of-requires-clause-valid : goal.counts_of-requires-clause-valid

@@ -1,6 +1,6 @@
 use Rattle.std.proofs.Common.{◌≡◌, ◌∙◌, arith, length}
-use Rattle.cluster_run.specs.Progress.{remaining}
-use Rattle.cluster_run.proofs.Progressing.{lasts_then, one_given}
+use Rattle.cluster_turns.specs.Progress.{remaining}
+use Rattle.cluster_turns.proofs.Progressing.{lasts_then, one_given}
 use Rattle.cluster_run.proofs.rounds.give_turns.Goals as goal
 
 pub loop-number-preserved : goal.loop-number-preserved
@@ -13,6 +13,8 @@ loop-number-preserved c =
     record {
       owned = one.owned;
       along = one.along;
+      stopped = one.stopped;
+      past = one.past;
       within = let long : length c.give_turn.new.clusters ≡ length c.loop-number.clusters = c.give_turn.auto.clusters in omega (arith, long, so_far.within);
       system = one.system ∙ so_far.system;
       script = one.script ∙ so_far.script;

@@ -1,6 +1,8 @@
 use Rattle.std.proofs.Common.{◌≡◌, ◌+◌, ◌<◌, ◌^◌, length, cond}
 use Rattle.cert_sched.specs.Rules.{is_over}
-use Rattle.cluster_run.specs.Along.{AllAlong, IsOwned}
+use Rattle.cluster_turns.specs.Along.{AllAlong, IsOwned}
+use Rattle.cluster_run.specs.Past.{AllPast}
+use Rattle.cluster_run.specs.Stopped.{AreStopped}
 use Rattle.cluster_run.proofs.Within.{left_to_do}
 use Rattle.cluster_run.proofs.rounds.run_rounds.Given as goal
 
@@ -8,6 +10,8 @@ abbrev pub invariant-rounds : goal.invariant-rounds
 invariant-rounds l = record {
   owned : IsOwned l.bus;
   along : AllAlong l.bus l.clusters;
+  stopped : AreStopped l.bus l.clusters l.stopped;
+  past : AllPast l.bus l.past.items l.clusters;
   some : 0 < length l.clusters;
   seed : l.seed < 2 ^ 31;
   system : l.bus.system ≡ l.fn.bus.system;

@@ -1,5 +1,5 @@
 use Rattle.std.proofs.Common.{◌≡◌, ◌∙◌, sym, true, false, Some}
-use Rattle.targon_cli.specs.Built.{reads_input}
+use Rattle.targon_cli.specs.Commands.{reads_input}
 use Rattle.targon_cli.proofs.Handing.{reads_needed, unread_needed, takes_nothing}
 use Rattle.targon_cli.proofs.top.read_needed.Goals as goal
 

@@ -5,7 +5,7 @@ use Rattle.std.specs.Arc.{arc_value}
 use Rattle.t32_base.specs.declared.process.Pid.{Pid}
 use Rattle.sys_text.specs.declared.system.System.{System}
 use Rattle.bus_msg.specs.declared.entry.Post.{Post}
-use Rattle.cert_sched.specs.Built.{is_unlost}
+use Rattle.cluster_core.specs.Sent.{is_sent}
 use Rattle.cert_sched.specs.Losses.{is_from}
 use Rattle.cert_sched.specs.Schedule.{places_at_boot}
 use Rattle.log_laws.specs.records.Kept.{KeepsRecords}
@@ -48,7 +48,7 @@ invariant_of-result g c =
       limits_are = c.in_ok-parts.ensures.limits ∙ ap limits_of (c.deref-2.ensures ∙ sym shared);
       residents = by_failed c.in_ok-parts.parts.failed refl;
       own = ap (list_all (λ (post : Post). is_from c.args.number post.by)) c.new.ensures.items;
-      built = ap (list_all (λ (post : Post). is_unlost post.what)) c.new.ensures.items;
+      built = ap (list_all (λ (post : Post). is_sent post.what)) c.new.ensures.items;
     }
   where
     here : List (Pid × Held)
@@ -64,3 +64,17 @@ returns-clause-fails g c = by_failed c.in_ok-parts.parts.failed c.in_ok-parts.en
     by_failed : (o : Option ℕ) → IfSome o (λ call. c.in_ok-parts.parts.here.here ≡ []) → IfSome o (IsFailing c.in_ok-parts.parts.server) → IfSome o (λ call. IsFailing c.in_ok-parts.parts.server call × (c.in_ok-parts.parts.here.here ≡ []))
     by_failed None none fails = tt
     by_failed (Some call) none fails = (fails, none)
+
+pub returns-clause-begins : goal.returns-clause-begins
+returns-clause-begins g c =
+    let system : System = arc_value c.args.system.now in
+    record {
+      system_is = c.in_ok-clone.ensures.cases;
+      number_is = refl;
+      cursor = refl;
+      places = c.in_ok-places.ensures ∙ ap places_at_boot c.deref.ensures ∙ placed_at_boot system;
+      family = c.none.ensures;
+      queue = c.new.ensures.items;
+      tried = refl;
+      steps = refl;
+    }

@@ -13,10 +13,21 @@ use Rattle.cluster_core.specs.Work.{WorksOn, next_pid}
 use Rattle.cluster_core.proofs.paging.Answering.{can_answer}
 use Rattle.cluster_core.proofs.absorbing.Serials.{next_fits}
 use Rattle.cluster_core.proofs.working.Turning.{worked_view, works}
+use Rattle.cluster_core.proofs.handing.Posts.{next_can}
+use Rattle.log_laws.proofs.records.Standing.{built_stands}
+use Rattle.standing_backups.specs.Standing.{CanBeNext}
 use Rattle.cluster_core.proofs.cluster.Cluster.do_work.Goals as goal
 
 pub work_on-requires-clause-queue : goal.work_on-requires-clause-queue
 work_on-requires-clause-queue g c = ap (λ (v : ClusterView). v.queue) c.self.view_is ∙ c.requires.empty
+
+pub work_on-requires-clause-standing : goal.work_on-requires-clause-standing
+work_on-requires-clause-standing g c =
+    let old : ClusterView = c.args.self.now in
+    let own = subst (λ (v : ClusterView). AllOwn v.cursor v.here) c.self.view_is c.self.invariant.residents in
+    let valid = subst (λ (v : ClusterView). is_system v.system ≡ true) c.self.view_is c.self.invariant.valid in
+    let some = c.requires.follows in
+    subst (λ (v : ClusterView). CanBeNext v.places v.family v.here v.owed) (sym c.self.view_is) (next_can old some.log valid (built_stands old.system some.log some.open_log.0) some.follows own)
 
 pub work_on-requires-clause-can : goal.work_on-requires-clause-can
 work_on-requires-clause-can g c =
@@ -41,7 +52,7 @@ returns-clause-follows g c =
     let own = subst (λ (v : ClusterView). AllOwn v.cursor v.here) c.self.view_is c.self.invariant.residents in
     let has = subst (λ (v : ClusterView). (v.number).0 < (v.system).clusters) c.self.view_is c.self.invariant.has in
     let valid = subst (λ (v : ClusterView). is_system v.system ≡ true) c.self.view_is c.self.invariant.valid in
-    let on = subst (λ (v : ClusterView). WorksOn v.number v.places v.family c.self.inside.here v.server c.in_ok-worked.worked c.work_on.new.here c.work_on.new.server c.work_on.new.queue.items) c.self.view_is c.in_ok-worked.ensures.ok in
+    let on = subst (λ (v : ClusterView). WorksOn v.number v.places v.family v.owed c.self.inside.here v.server c.in_ok-worked.worked c.work_on.new.here c.work_on.new.server c.work_on.new.queue.items) c.self.view_is c.in_ok-worked.ensures.ok in
     let limits = c.self.invariant.limits_are ∙ ap (λ (v : ClusterView). limits_of v.system) c.self.view_is in
     let done = works old c.requires.follows c.requires.empty own valid has c.self.inside.here c.work_on.new.here c.work_on.new.server c.in_ok-worked.worked c.work_on.new.queue.items limits (ap (λ (v : ClusterView). v.here) c.self.view_is) on in
     let whole : c.count_step.new.self ≡ worked_view old c.work_on.new.here.here c.work_on.new.server c.work_on.new.queue.items =
@@ -54,7 +65,7 @@ returns-clause-work g c =
     let own = subst (λ (v : ClusterView). AllOwn v.cursor v.here) c.self.view_is c.self.invariant.residents in
     let has = subst (λ (v : ClusterView). (v.number).0 < (v.system).clusters) c.self.view_is c.self.invariant.has in
     let valid = subst (λ (v : ClusterView). is_system v.system ≡ true) c.self.view_is c.self.invariant.valid in
-    let on = subst (λ (v : ClusterView). WorksOn v.number v.places v.family c.self.inside.here v.server c.in_ok-worked.worked c.work_on.new.here c.work_on.new.server c.work_on.new.queue.items) c.self.view_is c.in_ok-worked.ensures.ok in
+    let on = subst (λ (v : ClusterView). WorksOn v.number v.places v.family v.owed c.self.inside.here v.server c.in_ok-worked.worked c.work_on.new.here c.work_on.new.server c.work_on.new.queue.items) c.self.view_is c.in_ok-worked.ensures.ok in
     let limits = c.self.invariant.limits_are ∙ ap (λ (v : ClusterView). limits_of v.system) c.self.view_is in
     let done = works old c.requires.follows c.requires.empty own valid has c.self.inside.here c.work_on.new.here c.work_on.new.server c.in_ok-worked.worked c.work_on.new.queue.items limits (ap (λ (v : ClusterView). v.here) c.self.view_is) on in
     let whole : c.count_step.new.self ≡ worked_view old c.work_on.new.here.here c.work_on.new.server c.work_on.new.queue.items =
@@ -67,7 +78,7 @@ invariant_of-self-2 g c =
     let own = subst (λ (v : ClusterView). AllOwn v.cursor v.here) c.self.view_is c.self.invariant.residents in
     let has = subst (λ (v : ClusterView). (v.number).0 < (v.system).clusters) c.self.view_is c.self.invariant.has in
     let valid = subst (λ (v : ClusterView). is_system v.system ≡ true) c.self.view_is c.self.invariant.valid in
-    let on = subst (λ (v : ClusterView). WorksOn v.number v.places v.family c.self.inside.here v.server c.in_ok-worked.worked c.work_on.new.here c.work_on.new.server c.work_on.new.queue.items) c.self.view_is c.in_ok-worked.ensures.ok in
+    let on = subst (λ (v : ClusterView). WorksOn v.number v.places v.family v.owed c.self.inside.here v.server c.in_ok-worked.worked c.work_on.new.here c.work_on.new.server c.work_on.new.queue.items) c.self.view_is c.in_ok-worked.ensures.ok in
     let limits = c.self.invariant.limits_are ∙ ap (λ (v : ClusterView). limits_of v.system) c.self.view_is in
     let done = works old c.requires.follows c.requires.empty own valid has c.self.inside.here c.work_on.new.here c.work_on.new.server c.in_ok-worked.worked c.work_on.new.queue.items limits (ap (λ (v : ClusterView). v.here) c.self.view_is) on in
     record {

@@ -3,7 +3,7 @@ use Rattle.std.specs.Arc.{arc_value}
 use Rattle.std.specs.List.{list_all}
 use Rattle.bus_msg.specs.declared.entry.Post.{Post}
 use Rattle.bus_msg.specs.PlacedAfter.{what, placed_after}
-use Rattle.cert_sched.specs.Built.{is_unlost}
+use Rattle.cluster_core.specs.Sent.{is_sent}
 use Rattle.cert_sched.specs.Losses.{is_from}
 use Rattle.sys_text.specs.Valid.{is_system}
 use Rattle.sys_text.proofs.Bounds.{system_bounds}
@@ -102,7 +102,7 @@ invariant_of-self-in_err-take_over g c =
       limits_are = c.take_over.ensures.limits ∙ c.tell.ensures.limits ∙ c.self.invariant.limits_are;
       residents = own_either (c.self.inside.cursor + 1) c.tell.new.here.here c.take_over.new.here.here (subst (AllOwn (c.self.inside.cursor + 1)) (sym c.in_ok-tell.ensures.ok) told) c.in_err-take_over.ensures.err;
       own = subst (λ posts. list_all (λ (post : Post). is_from c.self.inside.number post.by) posts ≡ true) (sym c.drop_fallen.ensures) (left_all (λ (post : Post). is_from c.self.inside.number post.by) c.self.inside.places w c.self.inside.queue.items c.self.invariant.own);
-      built = subst (λ posts. list_all (λ (post : Post). is_unlost post.what) posts ≡ true) (sym c.drop_fallen.ensures) (left_all (λ (post : Post). is_unlost post.what) c.self.inside.places w c.self.inside.queue.items c.self.invariant.built);
+      built = subst (λ posts. list_all (λ (post : Post). is_sent post.what) posts ≡ true) (sym c.drop_fallen.ensures) (left_all (λ (post : Post). is_sent post.what) c.self.inside.places w c.self.inside.queue.items c.self.invariant.built);
     }
 
 pub invariant_of-self-in_err-absorb : goal.invariant_of-self-in_err-absorb
@@ -125,7 +125,7 @@ invariant_of-self-in_err-absorb g c =
       limits_are = c.take_over.ensures.limits ∙ c.tell.ensures.limits ∙ c.self.invariant.limits_are;
       residents = subst (AllOwn (c.self.inside.cursor + 1)) (sym here) mine;
       own = subst (λ posts. list_all (λ (post : Post). is_from c.self.inside.number post.by) posts ≡ true) (sym c.drop_fallen.ensures) (left_all (λ (post : Post). is_from c.self.inside.number post.by) c.self.inside.places w c.self.inside.queue.items c.self.invariant.own);
-      built = subst (λ posts. list_all (λ (post : Post). is_unlost post.what) posts ≡ true) (sym c.drop_fallen.ensures) (left_all (λ (post : Post). is_unlost post.what) c.self.inside.places w c.self.inside.queue.items c.self.invariant.built);
+      built = subst (λ posts. list_all (λ (post : Post). is_sent post.what) posts ≡ true) (sym c.drop_fallen.ensures) (left_all (λ (post : Post). is_sent post.what) c.self.inside.places w c.self.inside.queue.items c.self.invariant.built);
     }
 
 pub invariant_of-self-2 : goal.invariant_of-self-2
@@ -148,7 +148,7 @@ invariant_of-self-2 g c =
       limits_are = c.take_over.ensures.limits ∙ c.tell.ensures.limits ∙ c.self.invariant.limits_are;
       residents = subst (AllOwn (c.self.inside.cursor + 1)) (sym here) mine;
       own = subst (λ posts. list_all (λ (post : Post). is_from c.self.inside.number post.by) posts ≡ true) (sym c.drop_fallen.ensures) (left_all (λ (post : Post). is_from c.self.inside.number post.by) c.self.inside.places w c.self.inside.queue.items c.self.invariant.own);
-      built = subst (λ posts. list_all (λ (post : Post). is_unlost post.what) posts ≡ true) (sym c.drop_fallen.ensures) (left_all (λ (post : Post). is_unlost post.what) c.self.inside.places w c.self.inside.queue.items c.self.invariant.built);
+      built = subst (λ posts. list_all (λ (post : Post). is_sent post.what) posts ≡ true) (sym c.drop_fallen.ensures) (left_all (λ (post : Post). is_sent post.what) c.self.inside.places w c.self.inside.queue.items c.self.invariant.built);
     }
 
 pub returns-clause-follows : goal.returns-clause-follows

@@ -1,0 +1,10 @@
+use Rattle.std.proofs.Common.{◌≡◌}
+use Rattle.cluster_turns.specs.Lives.{begin_of_life}
+use Rattle.cluster_run.proofs.leaving.begin_of_life.Given as goal
+
+-- no later life begins before where the cluster is
+abbrev pub invariant-places : goal.invariant-places
+invariant-places l = begin_of_life l.log l.number l.cursor ≡ begin_of_life l.log l.number l.place
+
+abbrev pub decreases-places : goal.decreases-places
+decreases-places l = l.place

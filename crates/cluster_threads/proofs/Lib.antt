@@ -1,0 +1,5 @@
+pub mod Entering
+pub mod Later
+pub mod Parting
+pub mod Seats
+pub mod StepsLeft

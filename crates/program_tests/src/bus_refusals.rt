@@ -1,3 +1,0 @@
-//! Tests of what the bus refuses.
-#[cfg(test)]
-mod refusals;

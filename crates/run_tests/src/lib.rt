@@ -1,0 +1,5 @@
+//! Tests of runs of clusters on threads.
+#![tactic(auto)]
+
+#[cfg(test)]
+mod threads;
