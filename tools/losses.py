@@ -1,4 +1,4 @@
-"""One run of the program by words that lose clusters, and whether it is explained."""
+"""One run of the program by words that lose clusters and bring them back, and whether it is explained."""
 import re
 from dataclasses import dataclass, field
 from typing import Dict, List, Optional, Sequence, Tuple
@@ -10,13 +10,13 @@ KEPT = 4096
 # The kinds of losses by `sim` that name what the run without them comes to, so that a cluster has to be lost.
 REACHED = ("place", "step", "disk call")
 # What the program notes of a run beside its report: a word that it did not come to, and a process that ended by a trap.
-UNREACHED = re.compile(rb"t32: (?:crash|disk):[0-9@a-z:]+ was not reached; [a-z ]+: \d+\n")
+UNREACHED = re.compile(rb"t32: (?:crash|disk|return):[0-9@a-z:]+ was not reached; [a-z ]+: \d+\n")
 TRAP = re.compile(rb"t32: pid \d+: trap \d+ at pc 0x[0-9a-f]+(?:, line \d+ of the text)?\n")
 
 
 @dataclass(frozen=True)
 class Loss:
-    """One run of the campaign: its kind, and the words of the program, of which the last ones lose clusters."""
+    """One run of the campaign: its kind, and the words of the program, of which the last ones lose clusters and bring them back."""
 
     kind: str
     words: Tuple[str, ...]
@@ -72,7 +72,10 @@ def first_difference(one: bytes, other: bytes) -> str:
 
 
 def told_entry(word: str, place: int) -> bytes:
-    """The line of the log by which the loss of a word is told, at its place."""
+    """The line of the log by which the loss or the return of a word is told, at its place."""
+    back = re.fullmatch(r"return:(\d+)@bus:\d+", word)
+    if back is not None:
+        return b"%d bus return %d" % (place, int(back[1]))
     found = re.fullmatch(r"crash:(\d+)@(bus|step):(\d+)|disk:(\d+)@(\d+)", word)
     if found is None:
         raise ValueError(word)
@@ -82,26 +85,30 @@ def told_entry(word: str, place: int) -> bytes:
     return b"%d bus crash %d %s" % (place, int(found[1]), why)
 
 
-def wrong_losses(report: runs.Report, script: Sequence[str]) -> str:
-    """How what is told of losses differs from the script, or nothing."""
-    for cluster, place in report.losses:
+def wrong_turns(report: runs.Report, script: Sequence[str]) -> str:
+    """How what is told of losses and returns differs from the script, or nothing."""
+    told = [("crash", "is told as lost", "is lost", *it) for it in report.losses]
+    told += [("return", "is told as back", "comes back", *it) for it in report.returns]
+    for name, is_told, does, cluster, place in told:
         entry = report.log[place] if place < len(report.log) else b"nothing"
-        if entry not in [told_entry(word, place) for word in script]:
-            return f"cluster {cluster} is told as lost at {place}, where the log has: {entry.decode(errors='replace')}"
-        # Of two losses at one place the second is told behind the first.
-        named = [f"crash:{cluster}@bus:{place - later}" for later in range(len(script))]
-        if any(f"crash:{cluster}@bus:" in word for word in script) and not any(word in script for word in named):
-            return f"cluster {cluster} is lost at {place}, which no word names"
+        words = [word for word in script if f":{cluster}@" in word and word.startswith("return:") == (name == "return")]
+        if entry not in [told_entry(word, place) for word in words]:
+            return f"cluster {cluster} {is_told} at {place}, where the log has: {entry.decode(errors='replace')}"
+        # Of two words at one place the second is told behind the first.
+        named = [f"{name}:{cluster}@bus:{place - later}" for later in range(len(script))]
+        if (name == "return" or entry.endswith(b" place")) and not any(word in script for word in named):
+            return f"cluster {cluster} {does} at {place}, which no word names"
     return ""
 
 
 def wrong_notes(said: bytes, report: runs.Report, script: Sequence[str]) -> str:
-    """What is said of a run beside its notes, or that a word by which a cluster was lost is noted as not reached, or nothing."""
+    """What is said of a run beside its notes, or that a word by which a cluster was lost or came back is noted as not reached, or nothing."""
     unreached, others = UNREACHED.findall(said), TRAP.sub(b"", UNREACHED.sub(b"", said))
     if others:
         return f"it said on standard error: {others.decode(errors='replace').strip()}"
-    if len(unreached) + len(report.losses) > len(script):
-        return f"it lost {len(report.losses)} clusters, and noted {len(unreached)} of {len(script)} words as not reached"
+    if len(unreached) + len(report.losses) + len(report.returns) > len(script):
+        back = f" and brought {len(report.returns)} back" if report.returns else ""
+        return f"it lost {len(report.losses)} clusters{back}, and noted {len(unreached)} of {len(script)} words as not reached"
     return ""
 
 
@@ -127,7 +134,7 @@ def judged(setting: Setting, loss: Loss) -> Outcome:
     elif report.lost != (answer.status == 7):
         outcome.why = f"it ended with status {answer.status}, and a line says {'lost' if report.lost else 'nothing of lost'}"
     else:
-        outcome.why = wrong_losses(report, loss.script())
+        outcome.why = wrong_turns(report, loss.script())
     if not outcome.why and answer.status == 0:
         outcome.why = wrong_notes(answer.said, report, loss.script())
     if not outcome.why and not report.losses and loss.kind in REACHED:

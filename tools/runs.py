@@ -13,7 +13,7 @@ UNPROVED = os.path.join(TOP, "build", "unproved", "t32")
 
 TERMINAL = re.compile(rb"tty (\d+) (\d+)\n")
 PROCESS = re.compile(rb"pid (\d+) [^\n]*\n")
-LOSS = re.compile(rb"crash (\d+) at (\d+)")
+TURN = re.compile(rb"(crash|return) (\d+) at (\d+)")
 LOST = re.compile(rb"lost (\d+) at (\d+)")
 COUNTS = re.compile(rb"bus (\d+) syncs (\d+) withheld (\d+)")
 HEAD = re.compile(rb"(schedule|log) (\d+)")
@@ -121,6 +121,7 @@ class Report:
 
     front: bytes
     losses: List[Tuple[int, int]] = field(default_factory=list)
+    returns: List[Tuple[int, int]] = field(default_factory=list)
     lost: bool = False
     entries: int = 0
     synchronisations: int = 0
@@ -163,8 +164,9 @@ def read_report(output: bytes) -> Report:
     at = 0
     if lines[0] == b"crash none":
         at = 1
-    while at < len(lines) and (found := LOSS.fullmatch(lines[at])):
-        report.losses.append((int(found[1]), int(found[2])))
+    while at < len(lines) and (found := TURN.fullmatch(lines[at])):
+        told = report.losses if found[1] == b"crash" else report.returns
+        told.append((int(found[2]), int(found[3])))
         at += 1
     if at == 0:
         raise Unreadable("no line tells of a loss")
