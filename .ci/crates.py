@@ -20,12 +20,26 @@ class NoToolchain(Exception):
     """There is no toolchain to work with; the text says what is missing."""
 
 
-def load(path: str) -> Any:
-    """The library of the command rt, which is a script without a package."""
-    loader = importlib.machinery.SourceFileLoader("rtlib", path)
-    found = importlib.util.module_from_spec(importlib.util.spec_from_loader("rtlib", loader))
-    sys.modules["rtlib"] = found
+def load(path: str, name: str) -> Any:
+    """A script without a package, as a module with this name: the command rt or its library."""
+    loader = importlib.machinery.SourceFileLoader(name, path)
+    found = importlib.util.module_from_spec(importlib.util.spec_from_loader(name, loader))
+    sys.modules[name] = found
     loader.exec_module(found)
+    return found
+
+
+def command() -> Any:
+    """The command rt itself, for this repository, which becomes the current folder: it does nothing when it is loaded."""
+    rt = shutil.which("rt")
+    if rt is None:
+        raise NoToolchain("the toolchain's command rt is not on the PATH")
+    # The command would else leave a compiled copy of itself in the toolchain's folder.
+    sys.dont_write_bytecode = True
+    found = load(os.path.realpath(rt), "rt_command")
+    os.chdir(TOP)
+    found.rtlib.guarded()
+    found.Crate.allowed = found.handles_of(TOP)
     return found
 
 
@@ -51,7 +65,7 @@ def toolchain() -> Any:
         raise NoToolchain(f"the toolchain has no library beside its command rt: {path} is not there")
     # The library would else leave a compiled copy of itself in the toolchain's folder.
     sys.dont_write_bytecode = True
-    rtlib = load(path)
+    rtlib = load(path, "rtlib")
     os.chdir(TOP)
     rtlib.guarded()
     remember(rtlib)
