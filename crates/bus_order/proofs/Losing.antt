@@ -26,6 +26,7 @@ use Rattle.cert_sched.proofs.ThereLaws.{plain_there}
 use Rattle.bus_order.specs.Script.{IsFirst, is_loss_for, is_word_for}
 use Rattle.bus_order.specs.View.{BusView, IsKept, KeepsScript, MayLose}
 use Rattle.bus_order.proofs.WordsLaws.{find-filter, without-filter, filter-without, found_passes, count-without, length-without}
+use Rattle.bus_order.proofs.LeftLaws.{word_not_bus}
 use Rattle.bus_order.proofs.Keeping.{IsMore, accounts_more, reached_bus, words_stay}
 
 -- the crash of a cluster that lives may stand next in a log that goes on
@@ -96,17 +97,6 @@ pub place_loses : (b : BusView) (over : Bool) (places : Places) (cert : CertView
 place_loses b over places cert number w k kept goes_on first given = subst (MayLose b k Place) (sym first.2) (given_loses b w k kept.lawful.scripted goes_on first.0 given)
 
 -- ---- by a word for a step or a disk call
-
-word_not_bus : (k : ClusterNo) (cause : Cause) (w : ScriptWord) → is_word_for k cause w ≡ true → is_bus_word w ≡ false
-word_not_bus k Place w h = absurd (true≢false (sym h))
-word_not_bus k (Step n) (CrashAt j place) h = absurd (true≢false (sym h))
-word_not_bus k (Step n) (CrashStep j step) h = refl
-word_not_bus k (Step n) (DiskAt j call) h = refl
-word_not_bus k (Step n) (ReturnAt j place) h = absurd (true≢false (sym h))
-word_not_bus k (Disk n) (CrashAt j place) h = absurd (true≢false (sym h))
-word_not_bus k (Disk n) (CrashStep j step) h = refl
-word_not_bus k (Disk n) (DiskAt j call) h = refl
-word_not_bus k (Disk n) (ReturnAt j place) h = absurd (true≢false (sym h))
 
 -- the loss that it gives comes by no look
 word_unlooked : (k : ClusterNo) (cause : Cause) (w : ScriptWord) → is_word_for k cause w ≡ true → waits_for_no_word (Crash k cause) ≡ true

@@ -47,6 +47,17 @@ module _ {X : Type 0} (t u : X → Bool) (within : (x : X) → t x ≡ true → 
       by_tests false true is h more = ap (λ c. c || list_any t (filter u xs)) is ∙ more
       by_tests false false is h more = more
 
+  -- where none passes the weaker test, none passes the other
+  pub any-weaker : (xs : List X) → list_any u xs ≡ false → list_any t xs ≡ false
+  any-weaker [] none = refl
+  any-weaker (x ∷ xs) none = by_tests (t x) (u x) (within x) none (any-weaker xs)
+    where
+      by_tests : (a b : Bool) → (a ≡ true → b ≡ true) → (b || list_any u xs) ≡ false → (list_any u xs ≡ false → list_any t xs ≡ false) → (a || list_any t xs) ≡ false
+      by_tests true true h e more = absurd (true≢false e)
+      by_tests true false h e more = absurd (true≢false (sym (h refl)))
+      by_tests false true h e more = absurd (true≢false e)
+      by_tests false false h e more = more e
+
 -- ---- beside those that pass another
 
 pub filter-without : {X : Type 0} (t u : X → Bool) → ((x : X) → t x ≡ true → u x ≡ false) → (xs : List X) → filter u (without_first t xs) ≡ filter u xs
@@ -121,6 +132,14 @@ none-found t (x ∷ xs) none = by_test (t x) none (none-found t xs)
   where
     by_test : (a : Bool) → cond a (Some x) (find t xs) ≡ None → (find t xs ≡ None → list_any t xs ≡ false) → (a || list_any t xs) ≡ false
     by_test true e more = cc
+    by_test false e more = more e
+
+pub find-none : {X : Type 0} (t : X → Bool) (xs : List X) → list_any t xs ≡ false → find t xs ≡ None
+find-none t [] none = refl
+find-none t (x ∷ xs) none = by_test (t x) none (find-none t xs)
+  where
+    by_test : (a : Bool) → (a || list_any t xs) ≡ false → (list_any t xs ≡ false → find t xs ≡ None) → cond a (Some x) (find t xs) ≡ None
+    by_test true e more = absurd (true≢false e)
     by_test false e more = more e
 
 -- ---- its number

@@ -1,4 +1,4 @@
-//! The words of a script that are left.
+//! Words of a script: the first of several that is for something, and what one does.
 ghost use Rattle.std.specs.Prelude.{◌≡◌, None, find, length, position, IfNone, IfSome};
 ghost use Rattle.std.specs.Option.{option_map};
 ghost use Rattle.bus_msg.specs.Places.{is_lost_in};

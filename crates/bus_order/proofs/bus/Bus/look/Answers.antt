@@ -15,7 +15,7 @@ returns-then-not-branch-clause-ok c =
     let n = c.loop.counter in
     let stays : c.look_once.new.self ≡ c.loop.self = c.in_ok-look_once.ensures.none c.if-not-branch.true in
     let same : look_once c.loop.self ≡ c.loop.self = sym c.in_ok-look_once.ensures.ok ∙ stays in
-    let long : length b.left ≡ length c.self.inside.left.items = ap (λ (v : BusView). length v.left) (sym c.self.view_is) in
+    let long : length b.left ≡ length c.self.inside.left = ap (λ (v : BusView). length v.left) (sym c.self.view_is) in
     stays ∙ c.loop.invariant.0 ∙ sym (stays_to n (length b.left) b (omega (arith, c.loop-test.true, c.len-end.ensures, long)) (subst (λ v. look_once v ≡ v) c.loop.invariant.0 same))
 
 pub loop-preserved : goal.loop-preserved
@@ -28,6 +28,6 @@ loop-preserved c =
 pub returns-clause-ok : goal.returns-clause-ok
 returns-clause-ok c =
     let b = c.args.self.now in
-    let long : length b.left ≡ length c.self.inside.left.items = ap (λ (v : BusView). length v.left) (sym c.self.view_is) in
+    let long : length b.left ≡ length c.self.inside.left = ap (λ (v : BusView). length v.left) (sym c.self.view_is) in
     let n : c.loop.counter ≡ length b.left = omega (arith, c.loop-test.false, c.loop.auto.counter-end, c.len-end.ensures, long) in
     c.loop.invariant.0 ∙ ap (λ m. looks m b) n

@@ -10,7 +10,7 @@ use Rattle.bus_order.proofs.bus.Bus.look_once.Goals as goal
 pub look_at-requires-clause-first : goal.look_at-requires-clause-first
 look_at-requires-clause-first c =
     let n : c.len.result ≡ length c.args.self.now.log = c.len.ensures ∙ ap (λ (v : BusView). length v.log) c.self.view_is in
-    let words : c.deref.result.now ≡ c.args.self.now.left = c.deref.ensures.value ∙ ap (λ (v : BusView). v.left) c.self.view_is in
+    let words : c.self.inside.left ≡ c.args.self.now.left = ap (λ (v : BusView). v.left) c.self.view_is in
     subst (λ n. IsFirst (is_reached n) c.args.self.now.left c.in-Some.number c.in-Some.word) n
     (subst (λ ws. IsFirst (is_reached c.len.result) ws c.in-Some.number c.in-Some.word) words c.in-Some.ensures.some)
 
@@ -18,7 +18,7 @@ pub returns-in_ok-look_at-in-Some-clause-ok : goal.returns-in_ok-look_at-in-Some
 returns-in_ok-look_at-in-Some-clause-ok c =
     let b = c.args.self.now in
     let n : c.len.result ≡ length b.log = c.len.ensures ∙ ap (λ (v : BusView). length v.log) c.self.view_is in
-    let words : c.deref.result.now ≡ b.left = c.deref.ensures.value ∙ ap (λ (v : BusView). v.left) c.self.view_is in
+    let words : c.self.inside.left ≡ b.left = ap (λ (v : BusView). v.left) c.self.view_is in
     let first : IsFirst (is_reached (length b.log)) b.left c.in-Some.number c.in-Some.word =
     subst (λ n. IsFirst (is_reached n) b.left c.in-Some.number c.in-Some.word) n
     (subst (λ ws. IsFirst (is_reached c.len.result) ws c.in-Some.number c.in-Some.word) words c.in-Some.ensures.some) in

@@ -22,7 +22,7 @@ append-requires-clause-next c = subst (λ (e : Entry). CanBeAbsorbed c.self.insi
 
 pub invariant_of-self-2 : goal.invariant_of-self-2
 invariant_of-self-2 c =
-    let b : BusView = record { system = arc_value c.self.inside.system; script = c.self.inside.script.items; left = c.self.inside.left.items; log = c.self.inside.log; marks = c.self.inside.marks.items } in
+    let b : BusView = record { system = arc_value c.self.inside.system; script = c.self.inside.script.items; left = c.self.inside.left; log = c.self.inside.log; marks = c.self.inside.marks.items } in
     let k = c.args.k in
     let cause = c.args.cause in
     let left = remove b.left c.args.number in
@@ -36,14 +36,14 @@ invariant_of-self-2 c =
     let cleared : c.clear.new.marks ≡ no_marks b.marks = c.clear.ensures ∙ ap no_marks c.deref_mut.ensures.value in
     let long : length c.clear.new.marks ≡ c.self.inside.marks.len = omega (arith, c.deref_mut.ensures.len, c.clear.auto.marks) in
     let marks = (with_items c.self.inside.marks c.clear.new.marks).items in
-    subst (λ l. IsKept (record b { left = c.remove.new.self.items; log = l; marks = marks }) (not c.covered-over.result) c.append.new.places c.append.new.cert) (sym c.in_ok-place.ensures.log)
-    (subst (λ ws. IsKept (record b { left = ws; log = b.log ++ e ∷ []; marks = marks }) (not c.covered-over.result) c.append.new.places c.append.new.cert) (sym c.remove.ensures.items)
+    subst (λ l. IsKept (record b { left = c.remove.new.self; log = l; marks = marks }) (not c.covered-over.result) c.append.new.places c.append.new.cert) (sym c.in_ok-place.ensures.log)
+    (subst (λ ws. IsKept (record b { left = ws; log = b.log ++ e ∷ []; marks = marks }) (not c.covered-over.result) c.append.new.places c.append.new.cert) (sym c.remove.ensures)
     (kept_more b over (not c.covered-over.result) places c.append.new.places c.self.inside.cert c.append.new.cert e left marks c.self.invariant more (fits_as c.in_ok-place.ensures.log c.in_ok-place.ensures.fits) ends c.in_ok-place.ensures.places c.in_ok-place.ensures.cert
     (with_items_is c.self.inside.marks c.clear.new.marks long ∙ cleared)))
 
 pub returns-clause-lawful : goal.returns-clause-lawful
 returns-clause-lawful c =
-    let b : BusView = record { system = arc_value c.self.inside.system; script = c.self.inside.script.items; left = c.self.inside.left.items; log = c.self.inside.log; marks = c.self.inside.marks.items } in
+    let b : BusView = record { system = arc_value c.self.inside.system; script = c.self.inside.script.items; left = c.self.inside.left; log = c.self.inside.log; marks = c.self.inside.marks.items } in
     let k = c.args.k in
     let cause = c.args.cause in
     let left = remove b.left c.args.number in
@@ -52,6 +52,6 @@ returns-clause-lawful c =
     let may : MayLose b k cause left = subst (λ (v : BusView). MayLose v k cause (remove v.left c.args.number)) (sym c.self.view_is) c.requires.may in
     let more : IsMore b e left = subst (λ e. IsMore b e left) (sym same) (loss_more b k cause left c.self.invariant.lawful.legal may) in
     let marks = (with_items c.self.inside.marks c.clear.new.marks).items in
-    subst (λ l. IsLawful (record b { left = c.remove.new.self.items; log = l; marks = marks })) (sym c.in_ok-place.ensures.log)
-    (subst (λ ws. IsLawful (record b { left = ws; log = b.log ++ e ∷ []; marks = marks })) (sym c.remove.ensures.items)
+    subst (λ l. IsLawful (record b { left = c.remove.new.self; log = l; marks = marks })) (sym c.in_ok-place.ensures.log)
+    (subst (λ ws. IsLawful (record b { left = ws; log = b.log ++ e ∷ []; marks = marks })) (sym c.remove.ensures)
     (lawful_more b e left marks c.self.invariant.lawful more (fits_as c.in_ok-place.ensures.log c.in_ok-place.ensures.fits)))

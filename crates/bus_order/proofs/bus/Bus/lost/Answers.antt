@@ -30,13 +30,13 @@ lose-requires-clause-may c =
     let kept : IsKept b over places cert = subst (λ b. IsKept b over places cert) c.self.view_is c.self.invariant in
     let goes_on : is_over b.system b.log ≡ false = sym (over_as_kept c.self.view_is c.self.invariant) ∙ c.if-self.false in
     let off : off_at b.log by ≡ None = sym c.off_at.ensures.off ∙ c.in_default.is in
-    let words : c.deref.result.now ≡ b.left = c.deref.ensures.value ∙ ap (λ (v : BusView). v.left) c.self.view_is in
+    let words : c.self.inside.left ≡ b.left = ap (λ (v : BusView). v.left) c.self.view_is in
     let first : IsFirst (is_word_for by cause) b.left c.in-Some-first_for.number c.in-Some-first_for.field-0-1 =
     subst (λ ws. IsFirst (is_word_for by cause) ws c.in-Some-first_for.number c.in-Some-first_for.field-0-1) words c.in-Some-first_for.ensures.some in
     word_loses b over places cert c.in-Some-first_for.number c.in-Some-first_for.field-0-1 by cause kept goes_on (not_off_lives b.system b.log by kept.lawful.legal c.requires.has off) first (c.requires.may goes_on off)
 
 pub unreachable-requires : goal.unreachable-requires
 unreachable-requires c =
-    let words : c.deref.result.now ≡ c.args.self.now.left = c.deref.ensures.value ∙ ap (λ (v : BusView). v.left) c.self.view_is in
+    let words : c.self.inside.left ≡ c.args.self.now.left = ap (λ (v : BusView). v.left) c.self.view_is in
     let none = subst (λ ws. find (is_word_for c.args.by c.args.cause) ws ≡ None) words c.in-None.ensures.none in
     true≢false (sym c.requires.unused ∙ none-found (is_word_for c.args.by c.args.cause) c.args.self.now.left none)

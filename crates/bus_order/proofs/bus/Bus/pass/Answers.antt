@@ -16,10 +16,10 @@ passed b v over places cert number left is kept passes removed =
 
 pub invariant_of-self : goal.invariant_of-self
 invariant_of-self c =
-    let b : BusView = record { system = arc_value c.self.inside.system; script = c.self.inside.script.items; left = c.self.inside.left.items; log = c.self.inside.log; marks = c.self.inside.marks.items } in
-    passed b c.args.self.now c.self.inside.over c.self.inside.places c.self.inside.cert c.args.number c.remove.new.self.items c.self.view_is c.self.invariant c.requires c.remove.ensures.items
+    let b : BusView = record { system = arc_value c.self.inside.system; script = c.self.inside.script.items; left = c.self.inside.left; log = c.self.inside.log; marks = c.self.inside.marks.items } in
+    passed b c.args.self.now c.self.inside.over c.self.inside.places c.self.inside.cert c.args.number c.remove.new.self c.self.view_is c.self.invariant c.requires c.remove.ensures
 
 pub returns-clause-lawful : goal.returns-clause-lawful
 returns-clause-lawful c =
-    let b : BusView = record { system = arc_value c.self.inside.system; script = c.self.inside.script.items; left = c.self.inside.left.items; log = c.self.inside.log; marks = c.self.inside.marks.items } in
-    (passed b c.args.self.now c.self.inside.over c.self.inside.places c.self.inside.cert c.args.number c.remove.new.self.items c.self.view_is c.self.invariant c.requires c.remove.ensures.items).lawful
+    let b : BusView = record { system = arc_value c.self.inside.system; script = c.self.inside.script.items; left = c.self.inside.left; log = c.self.inside.log; marks = c.self.inside.marks.items } in
+    (passed b c.args.self.now c.self.inside.over c.self.inside.places c.self.inside.cert c.args.number c.remove.new.self c.self.view_is c.self.invariant c.requires c.remove.ensures).lawful
