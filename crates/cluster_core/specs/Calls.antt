@@ -26,7 +26,7 @@ use Rattle.birth_notice.specs.Family.{first_unsynced}
 use Rattle.sync_point.specs.Batch.{batch, synced}
 use Rattle.quanta.specs.declared.limits.Limits.{Limits}
 use Rattle.quanta.specs.Limited.{is_due}
-use Rattle.cluster_core.specs.View.{ClusterView, held_at, limits_of, next_count, counted_once, failed_at, with_server}
+use Rattle.cluster_core.specs.View.{ClusterView, held_at, limits_of, next_count, counted_once, failed_at, with_server, duty_by}
 use Rattle.residents.specs.Held.{Held, Runs, Rolls, Waits, held_of}
 use Rattle.cluster_core.specs.declared.hurt.Hurt.{Hurt}
 use Rattle.cluster_core.specs.declared.hurt.Hurt.TheVariants.{Disk, NoMemory}
@@ -169,7 +169,7 @@ pub record QueuesOne (old new : ClusterView) : Type 0 where
 
 -- it is due; or it is the child that is to synchronise in the place of a process that is due or is to end
 abbrev pub IsNextToSync : ClusterView → Pid → Process → Type 0
-IsNextToSync c p process = (is_due (limits_of c.system) process ≡ true) ⊎ ((parent : Pid) × (child_before (limits_of c.system) c.family c.here parent ≡ Some p))
+IsNextToSync c p process = (is_due (limits_of c.system) process ≡ true) ⊎ ((parent : Pid) × (child_before (duty_by (limits_of c.system)) c.family c.here parent ≡ Some p))
 
 -- one process whose turn it is to synchronise has done so, after its children, and the posts of its batch are those to be sent
 pub record QueuesBatch (old new : ClusterView) : Type 0 where

@@ -14,6 +14,7 @@ use Rattle.bus_msg.specs.declared.entry.What.TheVariants.{Rebackup}
 use Rattle.bus_msg.specs.Places.{Places}
 use Rattle.quanta.specs.declared.limits.Limits.{Limits}
 use Rattle.page_server.specs.Account.{Account, PagerState, account, no_pages}
+use Rattle.residents.specs.Duty.{DutyView}
 use Rattle.residents.specs.Held.{Held, Runs, Rolls, Waits, held_of, with_synced}
 
 -- its system and number, the length of the log that it has taken in, and the placement then; the processes at home here; the records of
@@ -39,6 +40,10 @@ pub record ClusterView : Type 0 where
 
 abbrev pub held_at : ClusterView → Pid → Option Held
 held_at c p = held_of c.here p
+
+-- what processes owe by these limits alone: none is to get a new backup
+abbrev pub duty_by : Limits → DutyView
+duty_by limits = record { limits = limits; owing = [] }
 
 -- after so many letters and steps the processes of a system are due to synchronise
 abbrev pub limits_of : System → Limits

@@ -30,7 +30,7 @@ pub fn tell(
     requires birth { CanBeBorn (what entry.now) here.old.here }
     ensures ok { OnOk result (here.new.here ≡ here_after (what entry.now) here.old.here) }
     ensures err { OnErr result ((here.new.here ≡ here.old.here) ⊎ (here.new.here ≡ [])) }
-    ensures limits { here.new.limits ≡ here.old.limits }
+    ensures duty { here.new.duty ≡ here.old.duty }
 {
     match &entry.post.what {
         What::Mail { letter, .. } => {

@@ -11,7 +11,7 @@ ghost use Rattle.cert_sched.specs.Schedule.{placement};
 ghost use Rattle.log_laws.specs.records.Kept.{KeepsRecords};
 ghost use Rattle.cluster_core.specs.Booting.{AreBooted, AreFirstRecords, RunFrom, belongs_to};
 ghost use Rattle.cluster_core.specs.Serving.{BeginsToServe, IsAheadThere, IsFailing};
-ghost use Rattle.cluster_core.specs.View.{failing_in, limits_of};
+ghost use Rattle.cluster_core.specs.View.{failing_in, duty_by, limits_of};
 ghost use Rattle.page_accounts.specs.Booting.{IsAhead};
 
 use crate::serving::serve_roots;
@@ -61,7 +61,7 @@ pub fn parts_at_boot<D: PageDisk + Drop>(
     ensures told { IfOk result (λ parts. failing_in parts.server ≡ option_map (λ d. (D.counts d).failing) disk) }
     ensures ahead { IfOk result (λ parts. parts.failed ≡ None → IfSome disk (λ d. IsAhead (D.counts d)) → IsAheadThere parts.server) }
     ensures fails { IfOk result (λ parts. IfSome parts.failed (IsFailing parts.server)) }
-    ensures limits { IfOk result (λ parts. parts.here.limits ≡ limits_of system.now) }
+    ensures duty { IfOk result (λ parts. parts.here.duty ≡ duty_by (limits_of system.now)) }
 {
     let starts = starts_of(alloc, system)?;
     let (server, failed) = serve_roots(alloc, disk, &starts)?;
@@ -120,7 +120,7 @@ fn residents_of(
     starts: BTreeMap<u32, Start>,
 ) -> Result<Residents, NoMemory>
     ensures here { IfOk result (λ r. RunFrom (starts_in starts.entry.entries) number r.here) }
-    ensures limits { IfOk result (λ r. r.limits ≡ limits) }
+    ensures duty { IfOk result (λ r. r.duty ≡ duty_by limits) }
 {
     let mut here = Residents::none(alloc, limits);
     for (pid, start) in starts {

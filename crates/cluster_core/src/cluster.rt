@@ -85,7 +85,7 @@ impl<D: PageDisk> Model for Cluster<D> {
       failed = c.failed;
     } };
 
-    ghost invariant = { λ c. IsSound (arc_value c.system) c.number c.cursor (c.here).limits (c.here).here (c.queue).items };
+    ghost invariant = { λ c. IsSound (arc_value c.system) c.number c.cursor (c.here).duty (c.here).here (c.queue).items };
 }
 
 impl<D: PageDisk + Drop> Cluster<D> {

@@ -16,7 +16,6 @@ use residents::resident::Resident;
 use residents::residents::Residents;
 use std::alloc::Global;
 use std::collections::VecDeque;
-use std::mem;
 use t32_base::lists::List;
 use t32_base::process::ClusterNo;
 use t32_base::streams::NoMemory;
@@ -38,7 +37,7 @@ pub fn take_over(
     ensures rising { OnOk result (are_rising (moved_by before.now number (what entry.now) records.old) ≡ true) }
     ensures here { OnOk result (here.new.here ≡ with_all_waiting (moved_by before.now number (what entry.now) records.old) here.old.here) }
     ensures err { OnErr result ((here.new.here ≡ here.old.here) ⊎ (here.new.here ≡ [])) }
-    ensures limits { here.new.limits ≡ here.old.limits }
+    ensures duty { here.new.duty ≡ here.old.duty }
 {
     match &entry.post.what {
         What::Crash { k, .. } => move_here(alloc, number, before, records, here, *k),
@@ -73,31 +72,31 @@ fn move_here(
     ensures rising { OnOk result (are_rising (filter (moves_here before.now lost number) records.old) ≡ true) }
     ensures here { OnOk result (here.new.here ≡ with_all_waiting (filter (moves_here before.now lost number) records.old) here.old.here) }
     ensures err { OnErr result ((here.new.here ≡ here.old.here) ⊎ (here.new.here ≡ [])) }
-    ensures limits { here.new.limits ≡ here.old.limits }
+    ensures duty { here.new.duty ≡ here.old.duty }
 {
     let moved = records.take_moved(alloc, lost, number, before)?;
-    let empty = Residents::none(alloc, here.limits());
-    let stayed = mem::replace(here, empty);
-    *here = begin_waits(alloc, moved, stayed)?;
+    if let Err(NoMemory) = begin_waits(alloc, moved, here) {
+        here.let_all_go(alloc);
+        return Err(NoMemory);
+    }
     Ok(())
 }
 
 // The processes of these records, which stand by rising pid, wait beside those that are here. After want of
-// memory all are dropped.
-fn begin_waits(alloc: Global, moved: List<Record>, here: Residents) -> Result<Residents, NoMemory>
+// memory some of them do.
+fn begin_waits(alloc: Global, moved: List<Record>, here: &mut Residents) -> Result<(), NoMemory>
     requires rising { are_rising moved ≡ true }
-    requires can { CanWait moved here.here }
-    ensures here { IfOk result (λ now. now.here ≡ with_all_waiting moved here.here) }
-    ensures limits { IfOk result (λ now. now.limits ≡ here.limits) }
+    requires can { CanWait moved here.old.here }
+    ensures here { OnOk result (here.new.here ≡ with_all_waiting moved here.old.here) }
+    ensures duty { here.new.duty ≡ here.old.duty }
 {
     let mut left = VecDeque::from_vec(moved.into_vec());
-    let mut here = here;
     'records: while let Some(kept) = left.pop_front() {
         let pid = kept.pid();
         let waiting = waiting_of(alloc, kept)?;
         here.add(pid, Resident::waiting(waiting))?;
     }
-    Ok(here)
+    Ok(())
 }
 
 // The process of a record waits for its pages; where the record has no state it waits for its parent's fork. After want of

@@ -17,8 +17,9 @@ use Rattle.t32_base.specs.declared.streams.NoMemory.{NoMemory}
 use Rattle.plain_kernel.specs.Maps.{at_key, pid_of}
 use Rattle.cert_sched.specs.Parts.{first_of}
 use Rattle.quanta.specs.declared.limits.Limits.{Limits}
+use Rattle.residents.specs.Duty.{DutyView, is_able}
 use Rattle.residents.specs.declared.quantum.Quantum.{Quantum}
-use Rattle.residents.specs.declared.quantum.Quantum.TheVariants.{Moved, Sent, Synced, Stuck, Forks}
+use Rattle.residents.specs.declared.quantum.Quantum.TheVariants.{Moved, Sent, Synced, Renewed, Stuck, Forks}
 use Rattle.residents.specs.Quantum.{RunsQuantum, RunsTo}
 use Rattle.residents.specs.Residents.{AsksOf, AsksPage, lacks_none_at}
 use Rattle.residents.specs.Changed.{with_changed}
@@ -31,20 +32,22 @@ use Rattle.residents.proofs.Kept.{first_some, written_back}
 -- ---- a process that is listed
 
 -- what is in the slot of a pid is ready where it can move
-pub able_listed : (limits : Limits) (slots : Slab Held) (ready asking : List ℕ) (n key : ℕ) (was : Held) (es : List (ℕ × ℕ)) → lookup (at_key n) es ≡ Some key → get slots key ≡ Some was → AllByRecursion (IsSlot limits slots ready asking) es → can_act limits was ≡ true
+pub able_listed : (duty : DutyView) (slots : Slab Held) (ready asking : List ℕ) (n key : ℕ) (was : Held) (es : List (ℕ × ℕ)) → lookup (at_key n) es ≡ Some key → get slots key ≡ Some was → AllByRecursion (IsSlot duty slots ready asking) es → is_able duty (pid_of n, was) ≡ true
     → list_any (at_key n) ready ≡ true
-able_listed limits slots ready asking n key was [] found there kept acts = cc
-able_listed limits slots ready asking n key was (e ∷ es) found there kept acts = by_test (at_key n e.0) (at_key_is n e.0) found (λ found. able_listed limits slots ready asking n key was es found there kept.1 acts)
+able_listed duty slots ready asking n key was [] found there kept acts = cc
+able_listed duty slots ready asking n key was (e ∷ es) found there kept acts = by_test (at_key n e.0) (at_key_is n e.0) found (λ found. able_listed duty slots ready asking n key was es found there kept.1 acts)
   where
     by_test : (b : Bool) → b ≡ eqb e.0 n → cond b (Some e.1) (lookup (at_key n) es) ≡ Some key → (lookup (at_key n) es ≡ Some key → list_any (at_key n) ready ≡ true) → list_any (at_key n) ready ≡ true
-    by_test true is found more = ap (λ m. list_any (at_key m) ready) (sym (eqb-true e.0 n (sym is))) ∙ (kept.0).able was (ap (get slots) (same_Some e.1 key found) ∙ there) acts
+    by_test true is found more =
+        let same : e.0 ≡ n = eqb-true e.0 n (sym is) in
+        ap (λ m. list_any (at_key m) ready) (sym same) ∙ (kept.0).able was (ap (get slots) (same_Some e.1 key found) ∙ there) (ap (λ m. is_able duty (pid_of m, was)) same ∙ acts)
     by_test false is found more = more found
 
 -- and asks where it has a page to ask for
-pub lacks_listed : (limits : Limits) (slots : Slab Held) (ready asking : List ℕ) (n key : ℕ) (was : Held) (es : List (ℕ × ℕ)) → lookup (at_key n) es ≡ Some key → get slots key ≡ Some was → AllByRecursion (IsSlot limits slots ready asking) es → is_some (page_lacked was) ≡ true
+pub lacks_listed : (duty : DutyView) (slots : Slab Held) (ready asking : List ℕ) (n key : ℕ) (was : Held) (es : List (ℕ × ℕ)) → lookup (at_key n) es ≡ Some key → get slots key ≡ Some was → AllByRecursion (IsSlot duty slots ready asking) es → is_some (page_lacked was) ≡ true
     → list_any (at_key n) asking ≡ true
-lacks_listed limits slots ready asking n key was [] found there kept some = cc
-lacks_listed limits slots ready asking n key was (e ∷ es) found there kept some = by_test (at_key n e.0) (at_key_is n e.0) found (λ found. lacks_listed limits slots ready asking n key was es found there kept.1 some)
+lacks_listed duty slots ready asking n key was [] found there kept some = cc
+lacks_listed duty slots ready asking n key was (e ∷ es) found there kept some = by_test (at_key n e.0) (at_key_is n e.0) found (λ found. lacks_listed duty slots ready asking n key was es found there kept.1 some)
   where
     by_test : (b : Bool) → b ≡ eqb e.0 n → cond b (Some e.1) (lookup (at_key n) es) ≡ Some key → (lookup (at_key n) es ≡ Some key → list_any (at_key n) asking ≡ true) → list_any (at_key n) asking ≡ true
     by_test true is found more = ap (λ m. list_any (at_key m) asking) (sym (eqb-true e.0 n (sym is))) ∙ (kept.0).lacks was (ap (get slots) (same_Some e.1 key found) ∙ there) some
@@ -64,6 +67,7 @@ pub ran_lacks : (limits : Limits) (by : ClusterNo) (childless : Bool) (made : �
 ran_lacks limits by childless made was now (Ok Moved) ran some = absurd (not_moved ran.silent was now ran.runs some)
 ran_lacks limits by childless made was now (Ok (Sent sending)) ran some = absurd (false≢true (ap (λ (h : Held). is_some (page_lacked h)) (sym (ran.0).new_is) ∙ some))
 ran_lacks limits by childless made was now (Ok (Synced posts)) ran some = absurd (false≢true (ap (λ (h : Held). is_some (page_lacked h)) (sym (ran.1).new_is) ∙ some))
+ran_lacks limits by childless made was now (Ok (Renewed posts)) ran some = absurd ran
 ran_lacks limits by childless made was now (Ok (Forks forking)) ran some = absurd (false≢true (ap (λ (h : Held). is_some (page_lacked h)) (sym ran.new_is) ∙ some))
 ran_lacks limits by childless made was now (Ok Stuck) ran some = ap (λ (h : Held). is_some (page_lacked h)) (sym ran.2) ∙ some
 ran_lacks limits by childless made was now (Err fault) ran some = ap (λ (h : Held). is_some (page_lacked h)) (sym ran.1) ∙ some
@@ -84,20 +88,20 @@ asked_lacks (Waits w) some =
 asked_lacks _ some = some
 
 -- and it moves no more than before
-asked_acts : (limits : Limits) (h : Held) → can_act limits (asked_held h) ≡ can_act limits h
-asked_acts limits (Runs p) = refl
-asked_acts limits _ = refl
+asked_acts : (duty : DutyView) (p : Pid) (h : Held) → is_able duty (p, asked_held h) ≡ is_able duty (p, h)
+asked_acts duty p (Runs q) = refl
+asked_acts duty p _ = refl
 
 pub after_ask_lacks : (was now : Held) (r : Option ℕ) → now ≡ cond (is_some r) (asked_held was) was → is_some (page_lacked now) ≡ true → is_some (page_lacked was) ≡ true
 after_ask_lacks was now None is some = ap (λ (h : Held). is_some (page_lacked h)) (sym is) ∙ some
 after_ask_lacks was now (Some i) is some = asked_lacks was (ap (λ (h : Held). is_some (page_lacked h)) (sym is) ∙ some)
 
-pub after_ask_acts : (limits : Limits) (was now : Held) (r : Option ℕ) → now ≡ cond (is_some r) (asked_held was) was → can_act limits now ≡ true → can_act limits was ≡ true
-after_ask_acts limits was now None is acts = ap (can_act limits) (sym is) ∙ acts
-after_ask_acts limits was now (Some i) is acts = sym (asked_acts limits was) ∙ ap (can_act limits) (sym is) ∙ acts
+pub after_ask_acts : (duty : DutyView) (p : Pid) (was now : Held) (r : Option ℕ) → now ≡ cond (is_some r) (asked_held was) was → is_able duty (p, now) ≡ true → is_able duty (p, was) ≡ true
+after_ask_acts duty p was now None is acts = ap (λ (h : Held). is_able duty (p, h)) (sym is) ∙ acts
+after_ask_acts duty p was now (Some i) is acts = sym (asked_acts duty p was) ∙ ap (λ (h : Held). is_able duty (p, h)) (sym is) ∙ acts
 
 -- what an ask of the process with a pid makes of those that are here
-module _ (limits : Limits) (slots new : Slab Held) (n key : ℕ) (keys : List (ℕ × ℕ)) (ready asking : List ℕ) (was now : Held) (old : List (Pid × Held)) (kept : IsKept limits slots keys ready asking) (found : lookup (at_key n) keys ≡ Some key)
+module _ (duty : DutyView) (slots new : Slab Held) (n key : ℕ) (keys : List (ℕ × ℕ)) (ready asking : List ℕ) (was now : Held) (old : List (Pid × Held)) (kept : IsKept duty slots keys ready asking) (found : lookup (at_key n) keys ≡ Some key)
     (there : get slots key ≡ Some was) (updates : Updates slots new key (Some now)) (same : stands_in slots keys ≡ old) where
   none_asked : page_lacked was ≡ None → lacks_none_at (pid_of n) (stands_in slots keys) ≡ true
   none_asked none = passes_there (λ h. is_none (page_lacked h)) slots n key was keys (one_key n key keys kept.ordered kept.apart found) there (ap is_none none)
@@ -118,9 +122,9 @@ module _ (limits : Limits) (slots new : Slab Held) (n key : ℕ) (keys : List (�
 -- ---- the lowest that asks
 
 -- where none asks none lacks a page
-none_lacks : (limits : Limits) (slots : Slab Held) (ready : List ℕ) (es : List (ℕ × ℕ)) → AllByRecursion (IsSlot limits slots ready []) es → any_lacks (stands_in slots es) ≡ false
-none_lacks limits slots ready [] kept = refl
-none_lacks limits slots ready (e ∷ es) kept = in_front (get slots e.1) (λ p is. (kept.0).lacks p is) (none_lacks limits slots ready es kept.1)
+none_lacks : (duty : DutyView) (slots : Slab Held) (ready : List ℕ) (es : List (ℕ × ℕ)) → AllByRecursion (IsSlot duty slots ready []) es → any_lacks (stands_in slots es) ≡ false
+none_lacks duty slots ready [] kept = refl
+none_lacks duty slots ready (e ∷ es) kept = in_front (get slots e.1) (λ p is. (kept.0).lacks p is) (none_lacks duty slots ready es kept.1)
   where
     without : (b : Bool) → (b ≡ true → false ≡ true) → b ≡ false
     without true lacks = absurd (false≢true (lacks refl))
@@ -130,14 +134,14 @@ none_lacks limits slots ready (e ∷ es) kept = in_front (get slots e.1) (λ p i
     in_front None lacks more = more
     in_front (Some p) lacks more = ap (λ b. b || any_lacks (stands_in slots es)) (without (is_some (page_lacked p)) (lacks p refl)) ∙ more
 
-pub none_asks : (limits : Limits) (slots : Slab Held) (keys : List (ℕ × ℕ)) (ready asking : List ℕ) → IsKept limits slots keys ready asking → first_of asking ≡ None → any_lacks (stands_in slots keys) ≡ false
-none_asks limits slots keys ready asking kept none = none_lacks limits slots ready keys (subst (λ asking. AllByRecursion (IsSlot limits slots ready asking) keys) (first_some asking none) kept.each)
+pub none_asks : (duty : DutyView) (slots : Slab Held) (keys : List (ℕ × ℕ)) (ready asking : List ℕ) → IsKept duty slots keys ready asking → first_of asking ≡ None → any_lacks (stands_in slots keys) ≡ false
+none_asks duty slots keys ready asking kept none = none_lacks duty slots ready keys (subst (λ asking. AllByRecursion (IsSlot duty slots ready asking) keys) (first_some asking none) kept.each)
 
 -- none below a number lacks a page where each number of those that ask is at least it
-lowest_each : (limits : Limits) (slots : Slab Held) (ready asking : List ℕ) (n : ℕ) (es : List (ℕ × ℕ)) → ((q : ℕ) → list_any (at_key q) asking ≡ true → ltb q n ≡ false) → AllByRecursion (IsSlot limits slots ready asking) es
+lowest_each : (duty : DutyView) (slots : Slab Held) (ready asking : List ℕ) (n : ℕ) (es : List (ℕ × ℕ)) → ((q : ℕ) → list_any (at_key q) asking ≡ true → ltb q n ≡ false) → AllByRecursion (IsSlot duty slots ready asking) es
     → is_lowest_lacking (pid_of n) (stands_in slots es) ≡ true
-lowest_each limits slots ready asking n [] least kept = refl
-lowest_each limits slots ready asking n (e ∷ es) least kept = in_front (get slots e.1) (λ p is. (kept.0).lacks p is) (lowest_each limits slots ready asking n es least kept.1)
+lowest_each duty slots ready asking n [] least kept = refl
+lowest_each duty slots ready asking n (e ∷ es) least kept = in_front (get slots e.1) (λ p is. (kept.0).lacks p is) (lowest_each duty slots ready asking n es least kept.1)
   where
     passes : (o : Option ℕ) (b : Bool) → ltb e.0 n ≡ b → (is_some o ≡ true → list_any (at_key e.0) asking ≡ true) → (not b || is_none o) ≡ true
     passes None true is lacks = refl
@@ -166,9 +170,9 @@ first_least : (r : Option (Bor ℕ)) (xs : List ℕ) (n : ℕ) → IfSome r (λ 
 first_least None xs n least is = cc
 first_least (Some k) xs n least is = subst (λ m. All (IsLeBy nat_cmp m) xs) (same_Some k.now n is) least
 
-pub lowest_asks : (limits : Limits) (slots : Slab Held) (keys : List (ℕ × ℕ)) (ready asking : List ℕ) (first : Option (Bor ℕ)) (n : ℕ) → IsKept limits slots keys ready asking → IfSome first (λ k. All (IsLeBy nat_cmp k.now) asking) → option_copied first ≡ Some n
+pub lowest_asks : (duty : DutyView) (slots : Slab Held) (keys : List (ℕ × ℕ)) (ready asking : List ℕ) (first : Option (Bor ℕ)) (n : ℕ) → IsKept duty slots keys ready asking → IfSome first (λ k. All (IsLeBy nat_cmp k.now) asking) → option_copied first ≡ Some n
     → is_lowest_lacking (pid_of n) (stands_in slots keys) ≡ true
-lowest_asks limits slots keys ready asking first n kept least is = lowest_each limits slots ready asking n keys (least_of n asking (first_least first asking n least is)) kept.each
+lowest_asks duty slots keys ready asking first n kept least is = lowest_each duty slots ready asking n keys (least_of n asking (first_least first asking n least is)) kept.each
 
 -- ---- the next page
 

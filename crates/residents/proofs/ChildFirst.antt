@@ -17,10 +17,11 @@ use Rattle.sync_point.specs.Batch.{cut_of, synced}
 use Rattle.sync_point.specs.Due.{is_due_by}
 use Rattle.sync_point.proofs.Cuts.{cut_keeps, cut_untaken, synced_takes_none}
 use Rattle.quanta.specs.declared.limits.Limits.{Limits}
+use Rattle.residents.specs.Duty.{DutyView, is_able, is_owed}
 use Rattle.quanta.specs.Limited.{is_due}
-use Rattle.residents.specs.ChildrenFirst.{child_before, comes_after_at, comes_after_children, is_hindered, runs_at}
+use Rattle.residents.specs.ChildrenFirst.{child_before, comes_after, comes_after_at, comes_after_children, is_hindered}
 use Rattle.residents.specs.Quantum.{SyncsNow}
-use Rattle.residents.specs.Held.{Held, Runs, can_act, held_of, page_lacked}
+use Rattle.residents.specs.Held.{Held, Runs, can_act, held_of, page_lacked, runs_at}
 
 -- ---- who comes after its children
 
@@ -68,40 +69,40 @@ synced_acts limits p acts = by_take (can_take (state_of p)) refl
 -- ---- the child that comes before
 
 -- a process that is here comes after its children, of which this is the first
-pub record Before (limits : Limits) (family : List (Pid × Pid)) (here : List (Pid × Held)) (p child : Pid) : Type 0 where
+pub record Before (duty : DutyView) (family : List (Pid × Pid)) (here : List (Pid × Held)) (p child : Pid) : Type 0 where
   pub held : Held
   pub there : held_of here p ≡ Some held
-  pub comes : comes_after_children limits held ≡ true
+  pub comes : comes_after duty (p, held) ≡ true
   pub first : first_unsynced family p ≡ Some child
 
-pub before_is : (limits : Limits) (family : List (Pid × Pid)) (here : List (Pid × Held)) (p child : Pid) → child_before limits family here p ≡ Some child → Before limits family here p child
-before_is limits family here p child is = by_held (held_of here p) refl is
+pub before_is : (duty : DutyView) (family : List (Pid × Pid)) (here : List (Pid × Held)) (p child : Pid) → child_before duty family here p ≡ Some child → Before duty family here p child
+before_is duty family here p child is = by_held (held_of here p) refl is
   where
-    by_comes : (h : Held) (b : Bool) → held_of here p ≡ Some h → comes_after_children limits h ≡ b → cond b (first_unsynced family p) None ≡ Some child → Before limits family here p child
+    by_comes : (h : Held) (b : Bool) → held_of here p ≡ Some h → comes_after duty (p, h) ≡ b → cond b (first_unsynced family p) None ≡ Some child → Before duty family here p child
     by_comes h true there comes first = record { held = h; there = there; comes = comes; first = first }
     by_comes h false there comes first = cc
 
-    by_held : (o : Option Held) → held_of here p ≡ o → option_and_then (λ (h : Held). cond (comes_after_children limits h) (first_unsynced family p) None) o ≡ Some child → Before limits family here p child
+    by_held : (o : Option Held) → held_of here p ≡ o → option_and_then (λ (h : Held). cond (comes_after duty (p, h)) (first_unsynced family p) None) o ≡ Some child → Before duty family here p child
     by_held None there first = cc
-    by_held (Some h) there first = by_comes h (comes_after_children limits h) there refl first
+    by_held (Some h) there first = by_comes h (comes_after duty (p, h)) there refl first
 
 -- and it is that child
-pub before_from : (limits : Limits) (family : List (Pid × Pid)) (here : List (Pid × Held)) (p : Pid) (h : Held) → held_of here p ≡ Some h → comes_after_children limits h ≡ true → child_before limits family here p ≡ first_unsynced family p
-before_from limits family here p h there comes =
-    ap (option_and_then (λ (h : Held). cond (comes_after_children limits h) (first_unsynced family p) None)) there ∙ ap (λ b. cond b (first_unsynced family p) None) comes
+pub before_from : (duty : DutyView) (family : List (Pid × Pid)) (here : List (Pid × Held)) (p : Pid) (h : Held) → held_of here p ≡ Some h → comes_after duty (p, h) ≡ true → child_before duty family here p ≡ first_unsynced family p
+before_from duty family here p h there comes =
+    ap (option_and_then (λ (h : Held). cond (comes_after duty (p, h)) (first_unsynced family p) None)) there ∙ ap (λ b. cond b (first_unsynced family p) None) comes
 
 -- one that does not come after its children has none before it
-pub none_before : (limits : Limits) (family : List (Pid × Pid)) (here : List (Pid × Held)) (p : Pid) (h : Held) → held_of here p ≡ Some h → comes_after_children limits h ≡ false → child_before limits family here p ≡ None
-none_before limits family here p h there comes =
-    ap (option_and_then (λ (h : Held). cond (comes_after_children limits h) (first_unsynced family p) None)) there ∙ ap (λ b. cond b (first_unsynced family p) None) comes
+pub none_before : (duty : DutyView) (family : List (Pid × Pid)) (here : List (Pid × Held)) (p : Pid) (h : Held) → held_of here p ≡ Some h → comes_after duty (p, h) ≡ false → child_before duty family here p ≡ None
+none_before duty family here p h there comes =
+    ap (option_and_then (λ (h : Held). cond (comes_after duty (p, h)) (first_unsynced family p) None)) there ∙ ap (λ b. cond b (first_unsynced family p) None) comes
 
 -- where none is before one that comes after its children, it has none
-pub last_childless : (limits : Limits) (family : List (Pid × Pid)) (here : List (Pid × Held)) (p : Pid) → child_before limits family here p ≡ None → comes_after_at limits here p ≡ true → is_none (first_unsynced family p) ≡ true
-last_childless limits family here p none comes = by_held (held_of here p) refl comes
+pub last_childless : (duty : DutyView) (family : List (Pid × Pid)) (here : List (Pid × Held)) (p : Pid) → child_before duty family here p ≡ None → comes_after_at duty.limits here p ≡ true → is_none (first_unsynced family p) ≡ true
+last_childless duty family here p none comes = by_held (held_of here p) refl comes
   where
-    by_held : (o : Option Held) → held_of here p ≡ o → option_map_or (comes_after_children limits) o false ≡ true → is_none (first_unsynced family p) ≡ true
+    by_held : (o : Option Held) → held_of here p ≡ o → option_map_or (comes_after_children duty.limits) o false ≡ true → is_none (first_unsynced family p) ≡ true
     by_held None there comes = absurd (true≢false (sym comes))
-    by_held (Some h) there comes = ap is_none (sym (before_from limits family here p h there comes) ∙ none)
+    by_held (Some h) there comes = ap is_none (sym (before_from duty family here p h there (or_right (is_owed duty (p, h)) (comes_after_children duty.limits h) comes)) ∙ none)
 
 -- it is told that there is none where there is none
 pub none_told : (o : Option Pid) (b : Bool) → is_some o ≡ not b → is_none o ≡ true → b ≡ true
@@ -109,11 +110,18 @@ none_told None true told none = refl
 none_told None false told none = absurd (true≢false (sym told))
 none_told (Some p) b told none = absurd (true≢false (sym none))
 
+-- it is told whether there is none
+pub none_is : (o : Option Pid) (b : Bool) → is_some o ≡ not b → b ≡ is_none o
+none_is None true told = refl
+none_is None false told = absurd (true≢false (sym told))
+none_is (Some p) true told = absurd (true≢false told)
+none_is (Some p) false told = refl
+
 -- ---- who is hindered
 
 -- the child before one that is not hindered runs
-pub free_runs : (limits : Limits) (family : List (Pid × Pid)) (here : List (Pid × Held)) (p child : Pid) → is_hindered limits family here p ≡ false → child_before limits family here p ≡ Some child → runs_at here child ≡ true
-free_runs limits family here p child free is = by_runs (runs_at here child) (sym (ap (λ o. option_map_or (λ (child : Pid). not (runs_at here child)) o false) is) ∙ free)
+pub free_runs : (duty : DutyView) (family : List (Pid × Pid)) (here : List (Pid × Held)) (p child : Pid) → is_hindered duty family here p ≡ false → child_before duty family here p ≡ Some child → runs_at here child ≡ true
+free_runs duty family here p child free is = by_runs (runs_at here child) (sym (ap (λ o. option_map_or (λ (child : Pid). not (runs_at here child)) o false) is) ∙ free)
   where
     by_runs : (b : Bool) → not b ≡ false → b ≡ true
     by_runs true free = refl

@@ -12,19 +12,20 @@ use Rattle.t32_base.specs.declared.process.ClusterNo.{ClusterNo}
 use Rattle.bus_msg.specs.Places.{same_pid}
 use Rattle.plain_kernel.specs.Maps.{at_key, pid_of}
 use Rattle.cert_sched.specs.Parts.{first_of}
-use Rattle.quanta.specs.declared.limits.Limits.{Limits}
+use Rattle.residents.specs.Duty.{DutyView, is_able}
 use Rattle.residents.specs.declared.quantum.Quantum.{Quantum}
-use Rattle.residents.specs.declared.quantum.Quantum.TheVariants.{Moved, Sent, Synced, Stuck, Forks}
+use Rattle.residents.specs.declared.quantum.Quantum.TheVariants.{Moved, Sent, Synced, Renewed, Stuck, Forks}
 use Rattle.residents.specs.ChildrenFirst.{has_turn, is_free, is_hindered}
 use Rattle.residents.specs.Residents.{ResidentsView, NextAble, are_rising, pids_in, pids_able, next_ready, none_has_turn, ChosenTurn, HasTurn, TurnIs, GivenTurnIs}
 use Rattle.residents.specs.Slots.{in_slot, stands_in, IsSlot, IsKept}
-use Rattle.residents.specs.Held.{Held, can_act, held_of}
-use Rattle.residents.proofs.ChildFirst.{before_is, comes_acts}
+use Rattle.residents.specs.Held.{Held, Runs, held_of}
+use Rattle.residents.proofs.ChildFirst.{before_is}
+use Rattle.residents.proofs.Owed.{acts_able, comes_able, owed_able}
 use Rattle.residents.proofs.Free.{any_filtered, filter_rises, filtered_passes, none_passes_next}
 use Rattle.residents.proofs.Changing.{pid_same}
 use Rattle.residents.proofs.Kept.{next_is_ready}
 use Rattle.residents.proofs.Slots.{at_key_is}
-use Rattle.residents.proofs.Acting.{fork_acts, moved_acts, sent_acts, synced_acts}
+use Rattle.residents.proofs.Acting.{ActsThere, fork_acts, moved_acts, sent_acts, synced_acts}
 use Rattle.birth_notice.specs.Family.{first_unsynced}
 
 -- ---- the first that passes, among numbers that rise
@@ -174,52 +175,53 @@ fewer_rise t (e ∷ here) rise = by_test (t e) (fewer_rise t here parts.1)
     by_test true more = ap (λ b. b && are_rising (pids_in (filter t here))) (all_fewer here parts.0) ∙ more
     by_test false more = more
 
-module _ (limits : Limits) (family : List (Pid × Pid)) (whole : List (Pid × Held)) where
+module _ (duty : DutyView) (family : List (Pid × Pid)) (whole : List (Pid × Held)) where
   abbrev turns : Pid × Held → Bool
-  turns = has_turn limits family whole
+  turns = has_turn duty family whole
 
   -- each of them is ready, and no child hinders it
-  able_ready : (slots : Slab Held) (ready asking : List ℕ) (es : List (ℕ × ℕ)) → AllByRecursion (IsSlot limits slots ready asking) es → (q : ℕ) → list_any (at_key q) (pids_in (filter turns (stands_in slots es))) ≡ true
-      → (list_any (at_key q) ready ≡ true) × (is_free limits family whole q ≡ true)
+  able_ready : (slots : Slab Held) (ready asking : List ℕ) (es : List (ℕ × ℕ)) → AllByRecursion (IsSlot duty slots ready asking) es → (q : ℕ) → list_any (at_key q) (pids_in (filter turns (stands_in slots es))) ≡ true
+      → (list_any (at_key q) ready ≡ true) × (is_free duty family whole q ≡ true)
   able_ready slots ready asking [] kept q any = cc
   able_ready slots ready asking (e ∷ es) kept q any = in_front (get slots e.1) (λ p is steps. (kept.0).able p is steps) any (able_ready slots ready asking es kept.1 q)
     where
-      by_step : (p : Held) (b h c : Bool) → is_hindered limits family whole (pid_of e.0) ≡ h → at_key q e.0 ≡ c → (b ≡ true → list_any (at_key e.0) ready ≡ true)
+      by_step : (p : Held) (b h c : Bool) → is_hindered duty family whole (pid_of e.0) ≡ h → at_key q e.0 ≡ c → (b ≡ true → list_any (at_key e.0) ready ≡ true)
           → list_any (at_key q) (pids_in (cond (b && not h) ((pid_of e.0, p) ∷ filter turns (stands_in slots es)) (filter turns (stands_in slots es)))) ≡ true
-          → (list_any (at_key q) (pids_in (filter turns (stands_in slots es))) ≡ true → (list_any (at_key q) ready ≡ true) × (is_free limits family whole q ≡ true)) → (list_any (at_key q) ready ≡ true) × (is_free limits family whole q ≡ true)
+          → (list_any (at_key q) (pids_in (filter turns (stands_in slots es))) ≡ true → (list_any (at_key q) ready ≡ true) × (is_free duty family whole q ≡ true)) → (list_any (at_key q) ready ≡ true) × (is_free duty family whole q ≡ true)
       by_step p true false true free at ready_if any more =
           let same : e.0 ≡ q = eqb-true e.0 q (sym (at_key_is q e.0) ∙ at) in
-          (ap (λ n. list_any (at_key n) ready) (sym same) ∙ ready_if refl, ap (is_free limits family whole) (sym same) ∙ ap not free)
+          (ap (λ n. list_any (at_key n) ready) (sym same) ∙ ready_if refl, ap (is_free duty family whole) (sym same) ∙ ap not free)
       by_step p true false false free at ready_if any more = more (sym (ap (λ b. b || list_any (at_key q) (pids_in (filter turns (stands_in slots es)))) at) ∙ any)
       by_step p true true c free at ready_if any more = more any
       by_step p false h c free at ready_if any more = more any
 
-      in_front : (o : Option Held) → ((p : Held) → o ≡ Some p → can_act limits p ≡ true → list_any (at_key e.0) ready ≡ true) → list_any (at_key q) (pids_in (filter turns (in_slot (pid_of e.0) o (stands_in slots es)))) ≡ true
-          → (list_any (at_key q) (pids_in (filter turns (stands_in slots es))) ≡ true → (list_any (at_key q) ready ≡ true) × (is_free limits family whole q ≡ true)) → (list_any (at_key q) ready ≡ true) × (is_free limits family whole q ≡ true)
+      in_front : (o : Option Held) → ((p : Held) → o ≡ Some p → is_able duty (pid_of e.0, p) ≡ true → list_any (at_key e.0) ready ≡ true) → list_any (at_key q) (pids_in (filter turns (in_slot (pid_of e.0) o (stands_in slots es)))) ≡ true
+          → (list_any (at_key q) (pids_in (filter turns (stands_in slots es))) ≡ true → (list_any (at_key q) ready ≡ true) × (is_free duty family whole q ≡ true)) → (list_any (at_key q) ready ≡ true) × (is_free duty family whole q ≡ true)
       in_front None ready_if any more = more any
-      in_front (Some p) ready_if any more = by_step p (can_act limits p) (is_hindered limits family whole (pid_of e.0)) (at_key q e.0) refl refl (ready_if p refl) any more
+      in_front (Some p) ready_if any more = by_step p (is_able duty (pid_of e.0, p)) (is_hindered duty family whole (pid_of e.0)) (at_key q e.0) refl refl (ready_if p refl) any more
 
   -- the process with a pid is one of them, where it has a step
-  able_there : (n : ℕ) (here : List (Pid × Held)) (p : Held) → held_of here (pid_of n) ≡ Some p → can_act limits p ≡ true → is_free limits family whole n ≡ true → list_any (at_key n) (pids_in (filter turns here)) ≡ true
+  able_there : (n : ℕ) (here : List (Pid × Held)) (p : Held) → held_of here (pid_of n) ≡ Some p → is_able duty (pid_of n, p) ≡ true → is_free duty family whole n ≡ true → list_any (at_key n) (pids_in (filter turns here)) ≡ true
   able_there n [] p there steps free = cc
-  able_there n (e ∷ here) p there steps free = by_tests (same_pid e.0 (pid_of n)) (can_act limits e.1) (is_hindered limits family whole e.0) refl refl refl there (λ there. able_there n here p there steps free)
+  able_there n (e ∷ here) p there steps free = by_tests (same_pid e.0 (pid_of n)) (is_able duty e) (is_hindered duty family whole e.0) refl refl refl there (λ there. able_there n here p there steps free)
     where
-      by_tests : (b c h : Bool) → same_pid e.0 (pid_of n) ≡ b → can_act limits e.1 ≡ c → is_hindered limits family whole e.0 ≡ h
+      by_tests : (b c h : Bool) → same_pid e.0 (pid_of n) ≡ b → is_able duty e ≡ c → is_hindered duty family whole e.0 ≡ h
           → option_map (λ (e : Pid × Held). e.1) (cond b (Some e) (find (λ (e : Pid × Held). same_pid e.0 (pid_of n)) here)) ≡ Some p
           → (held_of here (pid_of n) ≡ Some p → list_any (at_key n) (pids_in (filter turns here)) ≡ true) → list_any (at_key n) (pids_in (cond (c && not h) (e ∷ filter turns here) (filter turns here))) ≡ true
       by_tests true true false at has hinders there more = or_left (at_key n (e.0).0) (list_any (at_key n) (pids_in (filter turns here))) (at_key_is n (e.0).0 ∙ at)
       by_tests true true true at has hinders there more =
           let same : e.0 ≡ pid_of n = pid_same e.0 (pid_of n) (eqb-true (e.0).0 n at) in
-          absurd (true≢false (sym free ∙ ap (λ p. not (is_hindered limits family whole p)) (sym same) ∙ ap not hinders))
+          absurd (true≢false (sym free ∙ ap (λ p. not (is_hindered duty family whole p)) (sym same) ∙ ap not hinders))
       by_tests true false h at has hinders there more =
+          let pid : e.0 ≡ pid_of n = pid_same e.0 (pid_of n) (eqb-true (e.0).0 n at) in
           let same : e.1 ≡ p = same_Some e.1 p there in
-          absurd (true≢false (sym steps ∙ ap (can_act limits) (sym same) ∙ has))
+          absurd (true≢false (sym steps ∙ (λ i. is_able duty (sym pid i, sym same i)) ∙ has))
       by_tests false true false at has hinders there more = or_right (at_key n (e.0).0) (list_any (at_key n) (pids_in (filter turns here))) (more there)
       by_tests false true true at has hinders there more = more there
       by_tests false false h at has hinders there more = more there
 
   -- where none that is ready is free, none has a turn
-  none_turns : (slots : Slab Held) (ready asking : List ℕ) (es : List (ℕ × ℕ)) → AllByRecursion (IsSlot limits slots ready asking) es → ((q : ℕ) → list_any (at_key q) ready ≡ true → is_free limits family whole q ≡ false) → list_all (λ (e : Pid × Held). not (turns e)) (stands_in slots es) ≡ true
+  none_turns : (slots : Slab Held) (ready asking : List ℕ) (es : List (ℕ × ℕ)) → AllByRecursion (IsSlot duty slots ready asking) es → ((q : ℕ) → list_any (at_key q) ready ≡ true → is_free duty family whole q ≡ false) → list_all (λ (e : Pid × Held). not (turns e)) (stands_in slots es) ≡ true
   none_turns slots ready asking [] kept none = refl
   none_turns slots ready asking (e ∷ es) kept none = in_front (get slots e.1) (λ p is steps. none e.0 ((kept.0).able p is steps)) (none_turns slots ready asking es kept.1 none)
     where
@@ -227,42 +229,50 @@ module _ (limits : Limits) (family : List (Pid × Pid)) (whole : List (Pid × He
       quiet true h hinders = ap not (hinders refl)
       quiet false h hinders = refl
 
-      in_front : (o : Option Held) → ((p : Held) → o ≡ Some p → can_act limits p ≡ true → is_free limits family whole e.0 ≡ false) → list_all (λ (e : Pid × Held). not (turns e)) (stands_in slots es) ≡ true → list_all (λ (e : Pid × Held). not (turns e)) (in_slot (pid_of e.0) o (stands_in slots es)) ≡ true
+      in_front : (o : Option Held) → ((p : Held) → o ≡ Some p → is_able duty (pid_of e.0, p) ≡ true → is_free duty family whole e.0 ≡ false) → list_all (λ (e : Pid × Held). not (turns e)) (stands_in slots es) ≡ true → list_all (λ (e : Pid × Held). not (turns e)) (in_slot (pid_of e.0) o (stands_in slots es)) ≡ true
       in_front None hinders more = more
-      in_front (Some p) hinders more = and_from (not (turns (pid_of e.0, p))) (list_all (λ (e : Pid × Held). not (turns e)) (stands_in slots es)) (quiet (can_act limits p) (is_hindered limits family whole (pid_of e.0)) (hinders p refl)) more
+      in_front (Some p) hinders more = and_from (not (turns (pid_of e.0, p))) (list_all (λ (e : Pid × Held). not (turns e)) (stands_in slots es)) (quiet (is_able duty (pid_of e.0, p)) (is_hindered duty family whole (pid_of e.0)) (hinders p refl)) more
 
-module _ (limits : Limits) (family : List (Pid × Pid)) (slots : Slab Held) (keys : List (ℕ × ℕ)) (ready asking : List ℕ) (last : ℕ) (kept : IsKept limits slots keys ready asking) where
+module _ (duty : DutyView) (family : List (Pid × Pid)) (slots : Slab Held) (keys : List (ℕ × ℕ)) (ready asking : List ℕ) (last : ℕ) (kept : IsKept duty slots keys ready asking) where
   abbrev here : List (Pid × Held)
   here = stands_in slots keys
 
   -- where the next of those that are free can move, it is the next of those that can have a turn
-  pub next_able : (n : ℕ) (p : Held) → are_rising ready ≡ true → are_rising (pids_in here) ≡ true → next_ready (filter (is_free limits family here) ready) last ≡ Some n → held_of here (pid_of n) ≡ Some p → can_act limits p ≡ true
-      → next_ready (pids_able limits family here) last ≡ Some n
+  pub next_able : (n : ℕ) (p : Held) → are_rising ready ≡ true → are_rising (pids_in here) ≡ true → next_ready (filter (is_free duty family here) ready) last ≡ Some n → held_of here (pid_of n) ≡ Some p → is_able duty (pid_of n, p) ≡ true
+      → next_ready (pids_able duty family here) last ≡ Some n
   next_able n p rise rise_here next there steps =
-      let free = filtered_passes (is_free limits family here) ready n (next_is_ready (filter (is_free limits family here) ready) last n next) in
-      next_of_those (filter (is_free limits family here) ready) (pids_able limits family here) last n (filter_rises (is_free limits family here) ready rise) (fewer_rise (has_turn limits family here) here rise_here)
-      (λ q any. let both = able_ready limits family here slots ready asking keys kept.each q any in any_filtered (is_free limits family here) ready q both.0 both.1) next (able_there limits family here n here p there steps free)
+      let free = filtered_passes (is_free duty family here) ready n (next_is_ready (filter (is_free duty family here) ready) last n next) in
+      next_of_those (filter (is_free duty family here) ready) (pids_able duty family here) last n (filter_rises (is_free duty family here) ready rise) (fewer_rise (has_turn duty family here) here rise_here)
+      (λ q any. let both = able_ready duty family here slots ready asking keys kept.each q any in any_filtered (is_free duty family here) ready q both.0 both.1) next (able_there duty family here n here p there steps free)
 
   -- where none of them is next, none has a turn
-  pub none_next : next_ready (filter (is_free limits family here) ready) last ≡ None → none_has_turn limits family here ≡ true
-  none_next none = none_turns limits family here slots ready asking keys kept.each (none_passes_next (is_free limits family here) ready last none)
+  pub none_next : next_ready (filter (is_free duty family here) ready) last ≡ None → none_has_turn duty family here ≡ true
+  none_next none = none_turns duty family here slots ready asking keys kept.each (none_passes_next (is_free duty family here) ready last none)
 
 -- ---- the turn of the one that was chosen
 
 -- what a turn of the process with a pid makes is the turn of the one that was chosen
-module _ (by : ClusterNo) (family : List (Pid × Pid)) (n : ℕ) (was old given new : ResidentsView) (limits : old.limits ≡ was.limits) (here : old.here ≡ was.here) (last : old.last ≡ was.last) (able : NextAble n family old) (now : new.here ≡ given.here) (chosen : new.last ≡ n) where
-  took : (quantum : Quantum) (h : Held) → held_of old.here (pid_of n) ≡ Some h → can_act old.limits h ≡ true → HasTurn old.limits by family (pid_of n) old.here quantum given.here → ChosenTurn by family was quantum new
+module _ (by : ClusterNo) (family : List (Pid × Pid)) (n : ℕ) (was old given new : ResidentsView) (duty : old.duty ≡ was.duty) (here : old.here ≡ was.here) (last : old.last ≡ was.last) (able : NextAble n family old) (now : new.here ≡ given.here) (chosen : new.last ≡ n) where
+  took : (quantum : Quantum) (h : Held) → held_of old.here (pid_of n) ≡ Some h → is_able old.duty (pid_of n, h) ≡ true → HasTurn old.duty by family (pid_of n) old.here quantum given.here → ChosenTurn by family was quantum new
   took quantum h there acts takes = record {
-    chosen = (λ i. next_ready (pids_able (sym limits i) family (sym here i)) (sym last i)) ∙ able h there acts ∙ ap Some (sym chosen);
-    takes = subst (λ m. HasTurn was.limits by family (pid_of m) was.here quantum new.here) (sym chosen)
-        (subst (λ ls. HasTurn ls by family (pid_of n) was.here quantum new.here) limits
-        (subst (λ hs. HasTurn old.limits by family (pid_of n) hs quantum new.here) here (subst (λ hs. HasTurn old.limits by family (pid_of n) old.here quantum hs) (sym now) takes)));
+    chosen = (λ i. next_ready (pids_able (sym duty i) family (sym here i)) (sym last i)) ∙ able h there acts ∙ ap Some (sym chosen);
+    takes = subst (λ m. HasTurn was.duty by family (pid_of m) was.here quantum new.here) (sym chosen)
+        (subst (λ d. HasTurn d by family (pid_of n) was.here quantum new.here) duty
+        (subst (λ hs. HasTurn old.duty by family (pid_of n) hs quantum new.here) here (subst (λ hs. HasTurn old.duty by family (pid_of n) old.here quantum hs) (sym now) takes)));
   }
 
-  pub chosen_turn : (quantum : Quantum) → GivenTurnIs old.limits by family (pid_of n) old.here (Ok quantum) given.here → (quantum ≡ Stuck → ⊥) → TurnIs by family was (Ok quantum) new
-  chosen_turn Moved takes ran = let a = moved_acts old.limits by (is_none (first_unsynced family (pid_of n))) (pid_of n) old.here given.here takes.ran in took Moved a.held a.there a.acts takes
-  chosen_turn (Sent sending) takes ran = let a = sent_acts old.limits by (is_none (first_unsynced family (pid_of n))) (pid_of n) old.here given.here sending takes.ran in took (Sent sending) a.held a.there a.acts takes
-  chosen_turn (Synced posts) (inl takes) ran = let a = synced_acts old.limits by (is_none (first_unsynced family (pid_of n))) (pid_of n) old.here given.here posts takes.ran in took (Synced posts) a.held a.there a.acts (inl takes)
-  chosen_turn (Synced posts) (inr syncs) ran = let b = before_is old.limits family old.here (pid_of n) syncs.child syncs.before in took (Synced posts) b.held b.there (comes_acts old.limits b.held b.comes) (inr syncs)
-  chosen_turn (Forks forking) takes ran = let a = fork_acts old.limits by (is_none (first_unsynced family (pid_of n))) (pid_of n) old.here given.here forking takes.ran in took (Forks forking) a.held a.there a.acts takes
+  abbrev childless : Bool
+  childless = is_none (first_unsynced family (pid_of n))
+
+  -- one that acts
+  acted : (quantum : Quantum) → ActsThere (old.duty).limits (pid_of n) old.here → HasTurn old.duty by family (pid_of n) old.here quantum given.here → ChosenTurn by family was quantum new
+  acted quantum a takes = took quantum a.held a.there (acts_able old.duty (pid_of n) a.held a.acts) takes
+
+  pub chosen_turn : (quantum : Quantum) → GivenTurnIs old.duty by family (pid_of n) old.here (Ok quantum) given.here → (quantum ≡ Stuck → ⊥) → TurnIs by family was (Ok quantum) new
+  chosen_turn Moved takes ran = acted Moved (moved_acts (old.duty).limits by childless (pid_of n) old.here given.here takes.ran) takes
+  chosen_turn (Sent sending) takes ran = acted (Sent sending) (sent_acts (old.duty).limits by childless (pid_of n) old.here given.here sending takes.ran) takes
+  chosen_turn (Synced posts) (inl takes) ran = acted (Synced posts) (synced_acts (old.duty).limits by childless (pid_of n) old.here given.here posts takes.ran) (inl takes)
+  chosen_turn (Synced posts) (inr syncs) ran = let b = before_is old.duty family old.here (pid_of n) syncs.child syncs.before in took (Synced posts) b.held b.there (comes_able old.duty (pid_of n) b.held b.comes) (inr syncs)
+  chosen_turn (Renewed posts) takes ran = let r = takes.renews in took (Renewed posts) (Runs r.process) r.there (owed_able old.duty old.here (pid_of n) takes.to r.process r.there takes.owed) takes
+  chosen_turn (Forks forking) takes ran = acted (Forks forking) (fork_acts (old.duty).limits by childless (pid_of n) old.here given.here forking takes.ran) takes
   chosen_turn Stuck takes ran = absurd (ran refl)

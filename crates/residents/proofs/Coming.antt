@@ -17,7 +17,7 @@ use Rattle.cert_sched.specs.Deeds.{is_end_of}
 use Rattle.page_waits.specs.Waiting.{WaitingState, is_whole, next_page, rolling_of, with_page}
 use Rattle.roll_forward.specs.Rolling.{RollingState}
 use Rattle.roll_forward.specs.RunsOut.{nothing_left}
-use Rattle.quanta.specs.declared.limits.Limits.{Limits}
+use Rattle.residents.specs.Duty.{DutyView}
 use Rattle.residents.specs.Arriving.{with_page_come}
 use Rattle.residents.specs.Slots.{stands_in, IsKept}
 use Rattle.residents.specs.Held.{Held, Runs, Rolls, Waits, arrived_held, going_on, page_held, page_lacked, rolling_held}
@@ -28,9 +28,9 @@ use Rattle.residents.proofs.Slots.{no_entry, nobody_changed, one_key, written}
 flipped : (n m : ℕ) → eqb m n ≡ eqb n m
 flipped n m = grind (arith, nat_tests)
 
-pub arrival : (limits : Limits) (slots new : Slab Held) (n key : ℕ) (was now : Held) (letter : Letter) (keys : List (ℕ × ℕ)) (ready asking : List ℕ) (old : List (Pid × Held)) → IsKept limits slots keys ready asking → lookup (at_key n) keys ≡ Some key → get slots key ≡ Some was
+pub arrival : (duty : DutyView) (slots new : Slab Held) (n key : ℕ) (was now : Held) (letter : Letter) (keys : List (ℕ × ℕ)) (ready asking : List ℕ) (old : List (Pid × Held)) → IsKept duty slots keys ready asking → lookup (at_key n) keys ≡ Some key → get slots key ≡ Some was
     → Updates slots new key (Some now) → stands_in slots keys ≡ old → now ≡ arrived_held was letter → stands_in new keys ≡ map (λ (e : Pid × Held). cond (same_pid (pid_of n) e.0) (e.0, arrived_held e.1 letter) e) old
-arrival limits slots new n key was now letter keys ready asking old kept found there updates same is =
+arrival duty slots new n key was now letter keys ready asking old kept found there updates same is =
     written slots new n key was now (λ e. (e.0, arrived_held e.1 letter)) keys (one_key n key keys kept.ordered kept.apart found) there updates (ap (λ p. (pid_of n, p)) (sym is))
     ∙ (λ i. map (λ (e : Pid × Held). cond (flipped n (e.0).0 i) (e.0, arrived_held e.1 letter) e) (same i))
 
@@ -61,9 +61,9 @@ still_lacks was now letter (Err fault) is same some = ap (λ (h : Held). is_some
 
 -- ---- a page
 
-pub page_comes : (limits : Limits) (slots new : Slab Held) (n key i : ℕ) (bytes : List ℕ) (was now : Held) (keys : List (ℕ × ℕ)) (ready asking : List ℕ) (old : List (Pid × Held)) → IsKept limits slots keys ready asking → lookup (at_key n) keys ≡ Some key → get slots key ≡ Some was
+pub page_comes : (duty : DutyView) (slots new : Slab Held) (n key i : ℕ) (bytes : List ℕ) (was now : Held) (keys : List (ℕ × ℕ)) (ready asking : List ℕ) (old : List (Pid × Held)) → IsKept duty slots keys ready asking → lookup (at_key n) keys ≡ Some key → get slots key ≡ Some was
     → Updates slots new key (Some now) → stands_in slots keys ≡ old → now ≡ page_held i bytes was → stands_in new keys ≡ with_page_come (pid_of n) i bytes old
-page_comes limits slots new n key i bytes was now keys ready asking old kept found there updates same is =
+page_comes duty slots new n key i bytes was now keys ready asking old kept found there updates same is =
     written slots new n key was now (λ e. (e.0, page_held i bytes e.1)) keys (one_key n key keys kept.ordered kept.apart found) there updates (ap (λ h. (pid_of n, h)) (sym is)) ∙ ap (with_page_come (pid_of n) i bytes) same
 
 pub no_page_comes : (slots : Slab Held) (n i : ℕ) (bytes : List ℕ) (keys : List (ℕ × ℕ)) (old : List (Pid × Held)) → lookup (at_key n) keys ≡ None → stands_in slots keys ≡ old → old ≡ with_page_come (pid_of n) i bytes old

@@ -10,7 +10,7 @@ use Rattle.t32_base.specs.declared.streams.NoMemory.{NoMemory}
 use Rattle.proc_state.specs.declared.process.Process.{Process}
 use Rattle.bus_msg.specs.Places.{same_pid}
 use Rattle.plain_kernel.specs.Maps.{at_key, pid_of}
-use Rattle.quanta.specs.declared.limits.Limits.{Limits}
+use Rattle.residents.specs.Duty.{DutyView}
 use Rattle.residents.specs.Held.{Held, Runs, held_of, page_lacked}
 use Rattle.residents.specs.Residents.{pids_in}
 use Rattle.residents.specs.Changed.{with_changed, with_more}
@@ -31,7 +31,7 @@ still_lacks_forked child was now (Err fault) forks same some = ap (λ (h : Held)
 
 -- ---- in its slot
 
-module _ (limits : Limits) (slots new : Slab Held) (n key : ℕ) (keys : List (ℕ × ℕ)) (ready asking : List ℕ) (was now : Held) (old : List (Pid × Held)) (kept : IsKept limits slots keys ready asking) (found : lookup (at_key n) keys ≡ Some key)
+module _ (duty : DutyView) (slots new : Slab Held) (n key : ℕ) (keys : List (ℕ × ℕ)) (ready asking : List ℕ) (was now : Held) (old : List (Pid × Held)) (kept : IsKept duty slots keys ready asking) (found : lookup (at_key n) keys ≡ Some key)
     (there : get slots key ≡ Some was) (updates : Updates slots new key (Some now)) (same : stands_in slots keys ≡ old) where
   changed : (h : Held) → now ≡ h → stands_in new keys ≡ with_changed (pid_of n) h old
   changed h is =

@@ -17,19 +17,19 @@ use Rattle.std.proofs.lemmas.Option.{same_Some}
 use Rattle.slab.specs.Slab.{Slab, get, Updates}
 use Rattle.t32_base.specs.declared.process.Pid.{Pid}
 use Rattle.t32_base.specs.declared.process.ClusterNo.{ClusterNo}
-use Rattle.quanta.specs.declared.limits.Limits.{Limits}
+use Rattle.residents.specs.Duty.{DutyView, is_able}
 use Rattle.residents.specs.Held.{Held, can_act, page_lacked}
 use Rattle.residents.specs.Told.{rests_in}
 use Rattle.bus_msg.specs.Places.{same_pid}
 use Rattle.plain_kernel.specs.Maps.{at_key, pid_of}
 use Rattle.cert_sched.specs.Parts.{first_of}
 use Rattle.cert_sched.proofs.RisingLaws.{NoTwo}
-use Rattle.residents.specs.Residents.{is_stuck, are_rising, are_settled, pids_in, next_ready, is_stuck_at, lacks_none_at, RunsOnAt, RunsRest, SyncsAt}
+use Rattle.residents.specs.Residents.{is_stuck, are_rising, are_settled, pids_in, next_ready, is_stuck_at, lacks_none_at, stays_at, RunsOnAt, RunsRest, SyncsAt}
 use Rattle.residents.specs.Changed.{with_changed, with_more}
 use Rattle.residents.specs.Slots.{in_slot, stands_in, IsSlot, IsKept}
 use Rattle.t32_base.specs.declared.streams.NoMemory.{NoMemory}
 use Rattle.residents.specs.declared.quantum.Quantum.{Quantum}
-use Rattle.residents.specs.declared.quantum.Quantum.TheVariants.{Moved, Sent, Synced, Stuck, Forks}
+use Rattle.residents.specs.declared.quantum.Quantum.TheVariants.{Moved, Sent, Synced, Renewed, Stuck, Forks}
 use Rattle.bus_msg.specs.declared.entry.Post.{Post}
 use Rattle.residents.specs.Quantum.{RunsQuantum, SyncsNow}
 use Rattle.residents.proofs.Slots.{IsOne, all_more, all_removed, all_with, at_key_is, entry_goes, later_is_other, none_not_some, not_true, one_key, passes_each, passes_there, pids, process_there, slot_keys, taken_out, turned, written}
@@ -37,33 +37,33 @@ use Rattle.residents.proofs.Slots.{IsOne, all_more, all_removed, all_with, at_ke
 -- ---- what is kept
 
 -- more pids may be ready, and more may ask
-pub listed_more : (limits : Limits) (slots : Slab Held) (keys : List (ℕ × ℕ)) (ready more asking wider : List ℕ) → ((q : ℕ) → list_any (at_key q) ready ≡ true → list_any (at_key q) more ≡ true)
-    → ((q : ℕ) → list_any (at_key q) asking ≡ true → list_any (at_key q) wider ≡ true) → IsKept limits slots keys ready asking → IsKept limits slots keys more wider
-listed_more limits slots keys ready more asking wider adds widens k = record {
+pub listed_more : (duty : DutyView) (slots : Slab Held) (keys : List (ℕ × ℕ)) (ready more asking wider : List ℕ) → ((q : ℕ) → list_any (at_key q) ready ≡ true → list_any (at_key q) more ≡ true)
+    → ((q : ℕ) → list_any (at_key q) asking ≡ true → list_any (at_key q) wider ≡ true) → IsKept duty slots keys ready asking → IsKept duty slots keys more wider
+listed_more duty slots keys ready more asking wider adds widens k = record {
   ordered = k.ordered;
   apart = k.apart;
-  each = all_more (IsSlot limits slots ready asking) (IsSlot limits slots more wider) (λ e s. record { filled = s.filled; able = λ p is steps. adds e.0 (s.able p is steps); lacks = λ p is some. widens e.0 (s.lacks p is some) }) keys k.each;
+  each = all_more (IsSlot duty slots ready asking) (IsSlot duty slots more wider) (λ e s. record { filled = s.filled; able = λ p is steps. adds e.0 (s.able p is steps); lacks = λ p is some. widens e.0 (s.lacks p is some) }) keys k.each;
 }
 
 -- a process was written, whose pid is ready where it can move, and asks where it has a page to ask for
-pub kept_written : (limits : Limits) (slots new : Slab Held) (n key : ℕ) (now : Held) (keys : List (ℕ × ℕ)) (ready asking : List ℕ) → (can_act limits now ≡ true → list_any (at_key n) ready ≡ true) → (is_some (page_lacked now) ≡ true → list_any (at_key n) asking ≡ true)
-    → lookup (at_key n) keys ≡ Some key → Updates slots new key (Some now) → IsKept limits slots keys ready asking → IsKept limits new keys ready asking
-kept_written limits slots new n key now keys ready asking able_now lacks_now found updates k = record {
+pub kept_written : (duty : DutyView) (slots new : Slab Held) (n key : ℕ) (now : Held) (keys : List (ℕ × ℕ)) (ready asking : List ℕ) → (is_able duty (pid_of n, now) ≡ true → list_any (at_key n) ready ≡ true) → (is_some (page_lacked now) ≡ true → list_any (at_key n) asking ≡ true)
+    → lookup (at_key n) keys ≡ Some key → Updates slots new key (Some now) → IsKept duty slots keys ready asking → IsKept duty new keys ready asking
+kept_written duty slots new n key now keys ready asking able_now lacks_now found updates k = record {
   ordered = k.ordered;
   apart = k.apart;
-  each = all_with (IsOne n key) (IsSlot limits slots ready asking) (IsSlot limits new ready asking) each keys (one_key n key keys k.ordered k.apart found) k.each;
+  each = all_with (IsOne n key) (IsSlot duty slots ready asking) (IsSlot duty new ready asking) each keys (one_key n key keys k.ordered k.apart found) k.each;
 }
   where
-    each : (e : ℕ × ℕ) → IsOne n key e → IsSlot limits slots ready asking e → IsSlot limits new ready asking e
+    each : (e : ℕ × ℕ) → IsOne n key e → IsSlot duty slots ready asking e → IsSlot duty new ready asking e
     each e one s = by_test (eqb e.1 key) refl
       where
-        by_test : (b : Bool) → eqb e.1 key ≡ b → IsSlot limits new ready asking e
+        by_test : (b : Bool) → eqb e.1 key ≡ b → IsSlot duty new ready asking e
         by_test true is =
             let at : get new e.1 ≡ Some now = ap (get new) (eqb-true e.1 key is) ∙ updates.changed in
             let pid : e.0 ≡ n = eqb-true e.0 n (one ∙ is) in
             record {
               filled = ap is_some at;
-              able = λ p there steps. ap (λ m. list_any (at_key m) ready) pid ∙ able_now (ap (can_act limits) (same_Some now p (sym at ∙ there)) ∙ steps);
+              able = λ p there steps. ap (λ m. list_any (at_key m) ready) pid ∙ able_now (ap (λ (h : Held). is_able duty (pid_of n, h)) (same_Some now p (sym at ∙ there)) ∙ ap (λ m. is_able duty (pid_of m, p)) (sym pid) ∙ steps);
               lacks = λ p there some. ap (λ m. list_any (at_key m) asking) pid ∙ lacks_now (ap (λ (h : Held). is_some (page_lacked h)) (same_Some now p (sym at ∙ there)) ∙ some);
             }
         by_test false is =
@@ -75,17 +75,17 @@ kept_written limits slots new n key now keys ready asking able_now lacks_now fou
             }
 
 -- a process is in a slot that no entry names
-pub unnamed : (limits : Limits) (slots : Slab Held) (ready asking : List ℕ) (key : ℕ) (es : List (ℕ × ℕ)) → AllByRecursion (IsSlot limits slots ready asking) es → get slots key ≡ None → AllByRecursion (λ (e : ℕ × ℕ). eqb e.1 key ≡ false) es
-unnamed limits slots ready asking key es kept none = all_more (IsSlot limits slots ready asking) (λ (e : ℕ × ℕ). eqb e.1 key ≡ false) (λ e s. ne_eqb e.1 key (λ same. none_not_some (get slots e.1) (ap (get slots) same ∙ none) s.filled)) es kept
+pub unnamed : (duty : DutyView) (slots : Slab Held) (ready asking : List ℕ) (key : ℕ) (es : List (ℕ × ℕ)) → AllByRecursion (IsSlot duty slots ready asking) es → get slots key ≡ None → AllByRecursion (λ (e : ℕ × ℕ). eqb e.1 key ≡ false) es
+unnamed duty slots ready asking key es kept none = all_more (IsSlot duty slots ready asking) (λ (e : ℕ × ℕ). eqb e.1 key ≡ false) (λ e s. ne_eqb e.1 key (λ same. none_not_some (get slots e.1) (ap (get slots) same ∙ none) s.filled)) es kept
 
-pub kept_beside : (limits : Limits) (slots new : Slab Held) (key : ℕ) (o : Option Held) (keys : List (ℕ × ℕ)) (ready asking : List ℕ) → get slots key ≡ None → Updates slots new key o → IsKept limits slots keys ready asking → IsKept limits new keys ready asking
-kept_beside limits slots new key o keys ready asking none updates k = record {
+pub kept_beside : (duty : DutyView) (slots new : Slab Held) (key : ℕ) (o : Option Held) (keys : List (ℕ × ℕ)) (ready asking : List ℕ) → get slots key ≡ None → Updates slots new key o → IsKept duty slots keys ready asking → IsKept duty new keys ready asking
+kept_beside duty slots new key o keys ready asking none updates k = record {
   ordered = k.ordered;
   apart = k.apart;
-  each = all_with (λ (e : ℕ × ℕ). eqb e.1 key ≡ false) (IsSlot limits slots ready asking) (IsSlot limits new ready asking) each keys (unnamed limits slots ready asking key keys k.each none) k.each;
+  each = all_with (λ (e : ℕ × ℕ). eqb e.1 key ≡ false) (IsSlot duty slots ready asking) (IsSlot duty new ready asking) each keys (unnamed duty slots ready asking key keys k.each none) k.each;
 }
   where
-    each : (e : ℕ × ℕ) → eqb e.1 key ≡ false → IsSlot limits slots ready asking e → IsSlot limits new ready asking e
+    each : (e : ℕ × ℕ) → eqb e.1 key ≡ false → IsSlot duty slots ready asking e → IsSlot duty new ready asking e
     each e other s =
         let same : get new e.1 ≡ get slots e.1 = updates.others e.1 (λ same. true≢false (sym (eq-eqb e.1 key same) ∙ other)) in
         record {
@@ -114,19 +114,19 @@ put_first n key e es other = by_test (ltb n e.0) refl
     by_test false is = rw (after_it n e.0 is other) refl
 
 -- no entry has the pid of a process that is not here
-pub none_here : (limits : Limits) (slots : Slab Held) (ready asking : List ℕ) (n : ℕ) (es : List (ℕ × ℕ)) → AllByRecursion (IsSlot limits slots ready asking) es → list_any (λ (e : Pid × Held). same_pid e.0 (pid_of n)) (stands_in slots es) ≡ false → OtherPids n es
-none_here limits slots ready asking n [] kept none = tt
-none_here limits slots ready asking n (e ∷ es) kept none = let parts = in_front (get slots e.1) (kept.0).filled none in (parts.0, none_here limits slots ready asking n es kept.1 parts.1)
+pub none_here : (duty : DutyView) (slots : Slab Held) (ready asking : List ℕ) (n : ℕ) (es : List (ℕ × ℕ)) → AllByRecursion (IsSlot duty slots ready asking) es → list_any (λ (e : Pid × Held). same_pid e.0 (pid_of n)) (stands_in slots es) ≡ false → OtherPids n es
+none_here duty slots ready asking n [] kept none = tt
+none_here duty slots ready asking n (e ∷ es) kept none = let parts = in_front (get slots e.1) (kept.0).filled none in (parts.0, none_here duty slots ready asking n es kept.1 parts.1)
   where
     in_front : (o : Option Held) → IsSome o → list_any (λ (e : Pid × Held). same_pid e.0 (pid_of n)) (in_slot (pid_of e.0) o (stands_in slots es)) ≡ false
         → (eqb e.0 n ≡ false) × (list_any (λ (e : Pid × Held). same_pid e.0 (pid_of n)) (stands_in slots es) ≡ false)
     in_front None there none = absurd (false≢true there)
     in_front (Some p) there none = or_parts (eqb e.0 n) (list_any (λ (e : Pid × Held). same_pid e.0 (pid_of n)) (stands_in slots es)) none
 
-pub stands_put : (limits : Limits) (slots : Slab Held) (ready asking : List ℕ) (n key : ℕ) (p : Held) (es : List (ℕ × ℕ)) → get slots key ≡ Some p → AllByRecursion (IsSlot limits slots ready asking) es → OtherPids n es
+pub stands_put : (duty : DutyView) (slots : Slab Held) (ready asking : List ℕ) (n key : ℕ) (p : Held) (es : List (ℕ × ℕ)) → get slots key ≡ Some p → AllByRecursion (IsSlot duty slots ready asking) es → OtherPids n es
     → stands_in slots (insert_entry nat_cmp es n key) ≡ with_more (pid_of n) p (stands_in slots es)
-stands_put limits slots ready asking n key p [] there kept others = ap (λ o. in_slot (pid_of n) o []) there
-stands_put limits slots ready asking n key p (e ∷ es) there kept others = ap (stands_in slots) (put_first n key e es others.0) ∙ by_slot (get slots e.1) refl (kept.0).filled (stands_put limits slots ready asking n key p es there kept.1 others.1)
+stands_put duty slots ready asking n key p [] there kept others = ap (λ o. in_slot (pid_of n) o []) there
+stands_put duty slots ready asking n key p (e ∷ es) there kept others = ap (stands_in slots) (put_first n key e es others.0) ∙ by_slot (get slots e.1) refl (kept.0).filled (stands_put duty slots ready asking n key p es there kept.1 others.1)
   where
     by_slot : (o : Option Held) → get slots e.1 ≡ o → IsSome o → stands_in slots (insert_entry nat_cmp es n key) ≡ with_more (pid_of n) p (stands_in slots es)
         → stands_in slots (cond (ltb n e.0) ((n, key) ∷ e ∷ es) (e ∷ insert_entry nat_cmp es n key)) ≡ with_more (pid_of n) p (in_slot (pid_of e.0) o (stands_in slots es))
@@ -165,12 +165,12 @@ all_put P n key (e ∷ es) others all mine = subst (AllByRecursion P) (sym (put_
     by_test true more = (mine, all)
     by_test false more = (all.0, more)
 
-pub kept_added : (limits : Limits) (slots : Slab Held) (n key : ℕ) (keys : List (ℕ × ℕ)) (ready asking : List ℕ) → IsSome (get slots key) → AllByRecursion (λ (e : ℕ × ℕ). eqb e.1 key ≡ false) keys → OtherPids n keys
-    → list_any (at_key n) ready ≡ true → list_any (at_key n) asking ≡ true → IsStrictlySortedBy nat_cmp (pids (insert_entry nat_cmp keys n key)) → IsKept limits slots keys ready asking → IsKept limits slots (insert_entry nat_cmp keys n key) ready asking
-kept_added limits slots n key keys ready asking there unkeyed others listed asks ordered k = record {
+pub kept_added : (duty : DutyView) (slots : Slab Held) (n key : ℕ) (keys : List (ℕ × ℕ)) (ready asking : List ℕ) → IsSome (get slots key) → AllByRecursion (λ (e : ℕ × ℕ). eqb e.1 key ≡ false) keys → OtherPids n keys
+    → list_any (at_key n) ready ≡ true → list_any (at_key n) asking ≡ true → IsStrictlySortedBy nat_cmp (pids (insert_entry nat_cmp keys n key)) → IsKept duty slots keys ready asking → IsKept duty slots (insert_entry nat_cmp keys n key) ready asking
+kept_added duty slots n key keys ready asking there unkeyed others listed asks ordered k = record {
   ordered = ordered;
   apart = apart_put n key keys others k.apart unkeyed;
-  each = all_put (IsSlot limits slots ready asking) n key keys others k.each (record { filled = there; able = λ p is steps. listed; lacks = λ p is some. asks });
+  each = all_put (IsSlot duty slots ready asking) n key keys others k.each (record { filled = there; able = λ p is steps. listed; lacks = λ p is some. asks });
 }
 
 -- ---- one less
@@ -210,18 +210,18 @@ gone n (e ∷ es) ordered = by_test (at_key n e.0) (at_key_is n e.0) (gone n es 
 abbrev pub LeavesOthers : ℕ → List ℕ → List ℕ → Type 0
 LeavesOthers n old less = (q : ℕ) → at_key n q ≡ false → list_any (at_key q) less ≡ list_any (at_key q) old
 
-pub kept_gone : (limits : Limits) (slots new : Slab Held) (n key : ℕ) (keys : List (ℕ × ℕ)) (ready less asking fewer : List ℕ) → lookup (at_key n) keys ≡ Some key → Updates slots new key None → LeavesOthers n ready less → LeavesOthers n asking fewer
-    → IsStrictlySortedBy nat_cmp (pids (remove_entry (at_key n) keys)) → IsKept limits slots keys ready asking → IsKept limits new (remove_entry (at_key n) keys) less fewer
-kept_gone limits slots new n key keys ready less asking fewer found updates keeps leaves ordered k = record {
+pub kept_gone : (duty : DutyView) (slots new : Slab Held) (n key : ℕ) (keys : List (ℕ × ℕ)) (ready less asking fewer : List ℕ) → lookup (at_key n) keys ≡ Some key → Updates slots new key None → LeavesOthers n ready less → LeavesOthers n asking fewer
+    → IsStrictlySortedBy nat_cmp (pids (remove_entry (at_key n) keys)) → IsKept duty slots keys ready asking → IsKept duty new (remove_entry (at_key n) keys) less fewer
+kept_gone duty slots new n key keys ready less asking fewer found updates keeps leaves ordered k = record {
   ordered = ordered;
   apart = apart_removed (at_key n) keys k.apart;
   each =
-      all_with (λ (e : ℕ × ℕ). eqb e.0 n ≡ false) (λ (e : ℕ × ℕ). IsOne n key e × IsSlot limits slots ready asking e) (IsSlot limits new less fewer) each (remove_entry (at_key n) keys) (gone n keys k.ordered)
-      (all_removed (λ (e : ℕ × ℕ). IsOne n key e × IsSlot limits slots ready asking e) (at_key n) keys
-      (all_with (IsOne n key) (IsSlot limits slots ready asking) (λ (e : ℕ × ℕ). IsOne n key e × IsSlot limits slots ready asking e) (λ e one s. (one, s)) keys (one_key n key keys k.ordered k.apart found) k.each));
+      all_with (λ (e : ℕ × ℕ). eqb e.0 n ≡ false) (λ (e : ℕ × ℕ). IsOne n key e × IsSlot duty slots ready asking e) (IsSlot duty new less fewer) each (remove_entry (at_key n) keys) (gone n keys k.ordered)
+      (all_removed (λ (e : ℕ × ℕ). IsOne n key e × IsSlot duty slots ready asking e) (at_key n) keys
+      (all_with (IsOne n key) (IsSlot duty slots ready asking) (λ (e : ℕ × ℕ). IsOne n key e × IsSlot duty slots ready asking e) (λ e one s. (one, s)) keys (one_key n key keys k.ordered k.apart found) k.each));
 }
   where
-    each : (e : ℕ × ℕ) → eqb e.0 n ≡ false → IsOne n key e × IsSlot limits slots ready asking e → IsSlot limits new less fewer e
+    each : (e : ℕ × ℕ) → eqb e.0 n ≡ false → IsOne n key e × IsSlot duty slots ready asking e → IsSlot duty new less fewer e
     each e other s =
         let same : get new e.1 ≡ get slots e.1 = updates.others e.1 (λ same. true≢false (sym (eq-eqb e.1 key same) ∙ sym s.0 ∙ other)) in
         record {
@@ -232,41 +232,41 @@ kept_gone limits slots new n key keys ready less asking fewer found updates keep
 
 -- ---- one rests
 
-filled_each : (limits : Limits) (slots : Slab Held) (ready asking : List ℕ) (es : List (ℕ × ℕ)) → AllByRecursion (IsSlot limits slots ready asking) es → AllByRecursion (λ (e : ℕ × ℕ). IsSome (get slots e.1)) es
-filled_each limits slots ready asking es kept = all_more (IsSlot limits slots ready asking) (λ (e : ℕ × ℕ). IsSome (get slots e.1)) (λ e s. s.filled) es kept
+filled_each : (duty : DutyView) (slots : Slab Held) (ready asking : List ℕ) (es : List (ℕ × ℕ)) → AllByRecursion (IsSlot duty slots ready asking) es → AllByRecursion (λ (e : ℕ × ℕ). IsSome (get slots e.1)) es
+filled_each duty slots ready asking es kept = all_more (IsSlot duty slots ready asking) (λ (e : ℕ × ℕ). IsSome (get slots e.1)) (λ e s. s.filled) es kept
 
 -- one that cannot move is no longer ready
-pub kept_resting : (limits : Limits) (slots : Slab Held) (n : ℕ) (keys : List (ℕ × ℕ)) (ready less asking : List ℕ) → is_stuck_at limits (pid_of n) (stands_in slots keys) ≡ true → LeavesOthers n ready less → IsKept limits slots keys ready asking → IsKept limits slots keys less asking
-kept_resting limits slots n keys ready less asking stuck keeps k = record {
+pub kept_resting : (duty : DutyView) (slots : Slab Held) (n : ℕ) (keys : List (ℕ × ℕ)) (ready less asking : List ℕ) → is_stuck_at duty (pid_of n) (stands_in slots keys) ≡ true → LeavesOthers n ready less → IsKept duty slots keys ready asking → IsKept duty slots keys less asking
+kept_resting duty slots n keys ready less asking stuck keeps k = record {
   ordered = k.ordered;
   apart = k.apart;
   each =
-      all_with (λ (e : ℕ × ℕ). (p : Held) → get slots e.1 ≡ Some p → eqb e.0 n ≡ true → is_stuck limits p ≡ true) (IsSlot limits slots ready asking) (IsSlot limits slots less asking) each keys
-      (passes_each (λ p. is_stuck limits p) slots n keys (filled_each limits slots ready asking keys k.each) stuck) k.each;
+      all_with (λ (e : ℕ × ℕ). (p : Held) → get slots e.1 ≡ Some p → eqb e.0 n ≡ true → is_stuck duty (pid_of n, p) ≡ true) (IsSlot duty slots ready asking) (IsSlot duty slots less asking) each keys
+      (passes_each (λ p. is_stuck duty (pid_of n, p)) slots n keys (filled_each duty slots ready asking keys k.each) stuck) k.each;
 }
   where
-    each : (e : ℕ × ℕ) → ((p : Held) → get slots e.1 ≡ Some p → eqb e.0 n ≡ true → is_stuck limits p ≡ true) → IsSlot limits slots ready asking e → IsSlot limits slots less asking e
+    each : (e : ℕ × ℕ) → ((p : Held) → get slots e.1 ≡ Some p → eqb e.0 n ≡ true → is_stuck duty (pid_of n, p) ≡ true) → IsSlot duty slots ready asking e → IsSlot duty slots less asking e
     each e quiet s = record { filled = s.filled; able = λ p there steps. by_test (eqb e.0 n) refl p there steps; lacks = s.lacks }
       where
-        by_test : (b : Bool) → eqb e.0 n ≡ b → (p : Held) → get slots e.1 ≡ Some p → can_act limits p ≡ true → list_any (at_key e.0) less ≡ true
-        by_test true is p there steps = absurd (true≢false (sym steps ∙ not_true (can_act limits p) (quiet p there is)))
+        by_test : (b : Bool) → eqb e.0 n ≡ b → (p : Held) → get slots e.1 ≡ Some p → is_able duty (pid_of e.0, p) ≡ true → list_any (at_key e.0) less ≡ true
+        by_test true is p there steps = absurd (true≢false (sym steps ∙ ap (λ m. is_able duty (pid_of m, p)) (eqb-true e.0 n is) ∙ not_true (is_able duty (pid_of n, p)) (quiet p there is)))
         by_test false is p there steps = keeps e.0 (at_key_is n e.0 ∙ is) ∙ s.able p there steps
 
 -- one that has no page to ask for asks no longer
-pub kept_asked : (limits : Limits) (slots : Slab Held) (n : ℕ) (keys : List (ℕ × ℕ)) (ready asking fewer : List ℕ) → lacks_none_at (pid_of n) (stands_in slots keys) ≡ true → LeavesOthers n asking fewer → IsKept limits slots keys ready asking → IsKept limits slots keys ready fewer
-kept_asked limits slots n keys ready asking fewer none leaves k = record {
+pub kept_asked : (duty : DutyView) (slots : Slab Held) (n : ℕ) (keys : List (ℕ × ℕ)) (ready asking fewer : List ℕ) → lacks_none_at (pid_of n) (stands_in slots keys) ≡ true → LeavesOthers n asking fewer → IsKept duty slots keys ready asking → IsKept duty slots keys ready fewer
+kept_asked duty slots n keys ready asking fewer none leaves k = record {
   ordered = k.ordered;
   apart = k.apart;
   each =
-      all_with (λ (e : ℕ × ℕ). (p : Held) → get slots e.1 ≡ Some p → eqb e.0 n ≡ true → is_none (page_lacked p) ≡ true) (IsSlot limits slots ready asking) (IsSlot limits slots ready fewer) each keys
-      (passes_each (λ p. is_none (page_lacked p)) slots n keys (filled_each limits slots ready asking keys k.each) none) k.each;
+      all_with (λ (e : ℕ × ℕ). (p : Held) → get slots e.1 ≡ Some p → eqb e.0 n ≡ true → is_none (page_lacked p) ≡ true) (IsSlot duty slots ready asking) (IsSlot duty slots ready fewer) each keys
+      (passes_each (λ p. is_none (page_lacked p)) slots n keys (filled_each duty slots ready asking keys k.each) none) k.each;
 }
   where
     not_both : (o : Option ℕ) → is_none o ≡ true → is_some o ≡ true → ⊥
     not_both None none some = absurd (false≢true some)
     not_both (Some i) none some = absurd (false≢true none)
 
-    each : (e : ℕ × ℕ) → ((p : Held) → get slots e.1 ≡ Some p → eqb e.0 n ≡ true → is_none (page_lacked p) ≡ true) → IsSlot limits slots ready asking e → IsSlot limits slots ready fewer e
+    each : (e : ℕ × ℕ) → ((p : Held) → get slots e.1 ≡ Some p → eqb e.0 n ≡ true → is_none (page_lacked p) ≡ true) → IsSlot duty slots ready asking e → IsSlot duty slots ready fewer e
     each e has s = record { filled = s.filled; able = s.able; lacks = λ p there some. by_test (eqb e.0 n) refl p there some }
       where
         by_test : (b : Bool) → eqb e.0 n ≡ b → (p : Held) → get slots e.1 ≡ Some p → is_some (page_lacked p) ≡ true → list_any (at_key e.0) fewer ≡ true
@@ -324,33 +324,33 @@ unfolding IsStrictlySortedBy
 in_order [] ordered = refl
 in_order (n ∷ ns) ordered = ap (λ b. b && are_rising ns) (all_after n ns ordered.0) ∙ in_order ns ordered.1
 
-pub pids_stand : (limits : Limits) (slots : Slab Held) (ready asking : List ℕ) (es : List (ℕ × ℕ)) → AllByRecursion (IsSlot limits slots ready asking) es → pids_in (stands_in slots es) ≡ pids es
-pids_stand limits slots ready asking [] kept = refl
-pids_stand limits slots ready asking (e ∷ es) kept = in_front (get slots e.1) (kept.0).filled (pids_stand limits slots ready asking es kept.1)
+pub pids_stand : (duty : DutyView) (slots : Slab Held) (ready asking : List ℕ) (es : List (ℕ × ℕ)) → AllByRecursion (IsSlot duty slots ready asking) es → pids_in (stands_in slots es) ≡ pids es
+pids_stand duty slots ready asking [] kept = refl
+pids_stand duty slots ready asking (e ∷ es) kept = in_front (get slots e.1) (kept.0).filled (pids_stand duty slots ready asking es kept.1)
   where
     in_front : (o : Option Held) → IsSome o → pids_in (stands_in slots es) ≡ pids es → pids_in (in_slot (pid_of e.0) o (stands_in slots es)) ≡ e.0 ∷ pids es
     in_front None there more = absurd (false≢true there)
     in_front (Some p) there more = ap (λ ns. e.0 ∷ ns) more
 
-pub rising_here : (limits : Limits) (slots : Slab Held) (keys : List (ℕ × ℕ)) (ready asking : List ℕ) → IsKept limits slots keys ready asking → are_rising (pids_in (stands_in slots keys)) ≡ true
-rising_here limits slots keys ready asking k = ap are_rising (pids_stand limits slots ready asking keys k.each) ∙ in_order (pids keys) k.ordered
+pub rising_here : (duty : DutyView) (slots : Slab Held) (keys : List (ℕ × ℕ)) (ready asking : List ℕ) → IsKept duty slots keys ready asking → are_rising (pids_in (stands_in slots keys)) ≡ true
+rising_here duty slots keys ready asking k = ap are_rising (pids_stand duty slots ready asking keys k.each) ∙ in_order (pids keys) k.ordered
 
 -- what rests, after some: all, or nothing where one of them can move or waits
-abbrev pub rests_with : Limits → List (Pid × ℕ) → List (Pid × Held) → Option (List (Pid × ℕ))
-rests_with limits before here = cond (are_settled limits here) (Some (before ++ rests_in here)) None
+abbrev pub rests_with : DutyView → List (Pid × ℕ) → List (Pid × Held) → Option (List (Pid × ℕ))
+rests_with duty before here = cond (are_settled duty here) (Some (before ++ rests_in here)) None
 
 -- ---- one process of those that are kept
 
-filled_at : (limits : Limits) (slots : Slab Held) (ready asking : List ℕ) (n key : ℕ) (es : List (ℕ × ℕ)) → lookup (at_key n) es ≡ Some key → AllByRecursion (IsSlot limits slots ready asking) es → IsSome (get slots key)
-filled_at limits slots ready asking n key [] found kept = cc
-filled_at limits slots ready asking n key (e ∷ es) found kept = by_test (at_key n e.0) found (λ found. filled_at limits slots ready asking n key es found kept.1)
+filled_at : (duty : DutyView) (slots : Slab Held) (ready asking : List ℕ) (n key : ℕ) (es : List (ℕ × ℕ)) → lookup (at_key n) es ≡ Some key → AllByRecursion (IsSlot duty slots ready asking) es → IsSome (get slots key)
+filled_at duty slots ready asking n key [] found kept = cc
+filled_at duty slots ready asking n key (e ∷ es) found kept = by_test (at_key n e.0) found (λ found. filled_at duty slots ready asking n key es found kept.1)
   where
     by_test : (b : Bool) → cond b (Some e.1) (lookup (at_key n) es) ≡ Some key → (lookup (at_key n) es ≡ Some key → IsSome (get slots key)) → IsSome (get slots key)
     by_test true found more = ap (λ k. is_some (get slots k)) (sym (same_Some e.1 key found)) ∙ (kept.0).filled
     by_test false found more = more found
 
-pub never_empty : (limits : Limits) (slots : Slab Held) (n key : ℕ) (keys : List (ℕ × ℕ)) (ready asking : List ℕ) → IsKept limits slots keys ready asking → lookup (at_key n) keys ≡ Some key → get slots key ≡ None → ⊥
-never_empty limits slots n key keys ready asking k found none = none_not_some (get slots key) none (filled_at limits slots ready asking n key keys found k.each)
+pub never_empty : (duty : DutyView) (slots : Slab Held) (n key : ℕ) (keys : List (ℕ × ℕ)) (ready asking : List ℕ) → IsKept duty slots keys ready asking → lookup (at_key n) keys ≡ Some key → get slots key ≡ None → ⊥
+never_empty duty slots n key keys ready asking k found none = none_not_some (get slots key) none (filled_at duty slots ready asking n key keys found k.each)
 
 -- a slot that is written as it was
 pub written_back : (slots new : Slab Held) (key : ℕ) (was now : Held) (es : List (ℕ × ℕ)) → get slots key ≡ Some was → Updates slots new key (Some now) → now ≡ was → stands_in new es ≡ stands_in slots es
@@ -367,11 +367,11 @@ written_back slots new key was now (e ∷ es) there updates same =
     by_test false is = updates.others e.1 (λ same. true≢false (sym (eq-eqb e.1 key same) ∙ is))
 
 -- a process had its turn
-module _ (limits : Limits) (by : ClusterNo) (childless : Bool) (made : ℕ) (slots new : Slab Held) (n key : ℕ) (keys : List (ℕ × ℕ)) (ready asking : List ℕ) (was now : Held) (old : List (Pid × Held)) (kept : IsKept limits slots keys ready asking) (found : lookup (at_key n) keys ≡ Some key)
+module _ (duty : DutyView) (by : ClusterNo) (childless : Bool) (made : ℕ) (slots new : Slab Held) (n key : ℕ) (keys : List (ℕ × ℕ)) (ready asking : List ℕ) (was now : Held) (old : List (Pid × Held)) (kept : IsKept duty slots keys ready asking) (found : lookup (at_key n) keys ≡ Some key)
     (there : get slots key ≡ Some was) (updates : Updates slots new key (Some now)) (same : stands_in slots keys ≡ old) where
-  took : (quantum : Quantum) → RunsQuantum limits by 64 childless made was (Ok quantum) now → RunsRest limits by childless made (pid_of n) old quantum (stands_in new keys)
+  took : (quantum : Quantum) → RunsQuantum duty.limits by 64 childless made was (Ok quantum) now → RunsRest duty.limits by childless made (pid_of n) old quantum (stands_in new keys)
   took quantum ran =
-      subst (λ old. RunsRest limits by childless made (pid_of n) old quantum (stands_in new keys)) same
+      subst (λ old. RunsRest duty.limits by childless made (pid_of n) old quantum (stands_in new keys)) same
       (record {
         was = was;
         now = now;
@@ -380,22 +380,23 @@ module _ (limits : Limits) (by : ClusterNo) (childless : Bool) (made : ℕ) (slo
         here = written slots new n key was now (λ e. (pid_of n, now)) keys (one_key n key keys kept.ordered kept.apart found) there updates refl;
       })
 
-  pub ran_at : (r : Result Quantum NoMemory) → RunsQuantum limits by 64 childless made was r now → RunsOnAt limits by childless made (pid_of n) old r (stands_in new keys)
+  pub ran_at : (r : Result Quantum NoMemory) → RunsQuantum duty.limits by 64 childless made was r now → RunsOnAt duty.limits by childless made (pid_of n) old r (stands_in new keys)
   ran_at (Ok Moved) ran = took Moved ran
   ran_at (Ok (Sent sending)) ran = took (Sent sending) ran
   ran_at (Ok (Synced posts)) ran = took (Synced posts) ran
+  ran_at (Ok (Renewed posts)) ran = absurd ran
   ran_at (Ok (Forks forking)) ran = took (Forks forking) ran
   ran_at (Ok Stuck) ran = (
     ran.0,
-    ap (is_stuck_at limits (pid_of n)) (sym same) ∙ passes_there (λ p. is_stuck limits p) slots n key was keys (one_key n key keys kept.ordered kept.apart found) there (ap not ran.1),
+    ap (stays_at duty.limits (pid_of n)) (sym same) ∙ passes_there (λ p. not (can_act duty.limits p)) slots n key was keys (one_key n key keys kept.ordered kept.apart found) there (ap not ran.1),
     written_back slots new key was now keys there updates ran.2 ∙ same,
   )
   ran_at (Err fault) ran = (ran.0, written_back slots new key was now keys there updates ran.1 ∙ same)
 
 -- a process that runs synchronised
-pub syncs_at : (limits : Limits) (by : ClusterNo) (slots new : Slab Held) (n key : ℕ) (keys : List (ℕ × ℕ)) (ready asking : List ℕ) (was now : Held) (old : List (Pid × Held)) → IsKept limits slots keys ready asking → lookup (at_key n) keys ≡ Some key → get slots key ≡ Some was
+pub syncs_at : (duty : DutyView) (by : ClusterNo) (slots new : Slab Held) (n key : ℕ) (keys : List (ℕ × ℕ)) (ready asking : List ℕ) (was now : Held) (old : List (Pid × Held)) → IsKept duty slots keys ready asking → lookup (at_key n) keys ≡ Some key → get slots key ≡ Some was
     → Updates slots new key (Some now) → stands_in slots keys ≡ old → (r : Result (List Post) NoMemory) → IfOk r (λ posts. SyncsNow by was posts now) → IfOk r (λ posts. SyncsAt by (pid_of n) old posts (stands_in new keys))
-syncs_at limits by slots new n key keys ready asking was now old kept found there updates same (Ok posts) s =
+syncs_at duty by slots new n key keys ready asking was now old kept found there updates same (Ok posts) s =
     subst (λ old. SyncsAt by (pid_of n) old posts (stands_in new keys)) same
     (record {
       process = s.process;
@@ -403,12 +404,12 @@ syncs_at limits by slots new n key keys ready asking was now old kept found ther
       posts_are = s.posts_are;
       here = written slots new n key was now (λ e. (pid_of n, now)) keys (one_key n key keys kept.ordered kept.apart found) there updates refl ∙ ap (λ (h : Held). with_changed (pid_of n) h (stands_in slots keys)) s.new_is;
     })
-syncs_at limits by slots new n key keys ready asking was now old kept found there updates same (Err fault) s = tt
+syncs_at duty by slots new n key keys ready asking was now old kept found there updates same (Err fault) s = tt
 
 -- a process goes with its entry
-pub goes : (limits : Limits) (slots new : Slab Held) (n key : ℕ) (keys : List (ℕ × ℕ)) (ready asking : List ℕ) → IsKept limits slots keys ready asking → lookup (at_key n) keys ≡ Some key → Updates slots new key None
+pub goes : (duty : DutyView) (slots new : Slab Held) (n key : ℕ) (keys : List (ℕ × ℕ)) (ready asking : List ℕ) → IsKept duty slots keys ready asking → lookup (at_key n) keys ≡ Some key → Updates slots new key None
     → stands_in new (remove_entry (at_key n) keys) ≡ filter (λ (e : Pid × Held). not (same_pid e.0 (pid_of n))) (stands_in slots keys)
-goes limits slots new n key keys ready asking kept found updates = entry_goes new (at_key n) key keys found updates.changed ∙ taken_out slots new n key keys (one_key n key keys kept.ordered kept.apart found) updates
+goes duty slots new n key keys ready asking kept found updates = entry_goes new (at_key n) key keys found updates.changed ∙ taken_out slots new n key keys (one_key n key keys kept.ordered kept.apart found) updates
 
 -- ---- the first of those above
 
@@ -460,16 +461,16 @@ PutsOne n old more = (q : ℕ) → list_any (at_key q) more ≡ cond (at_key n q
 pub puts_more : (n : ℕ) (old more : List ℕ) → PutsOne n old more → (q : ℕ) → list_any (at_key q) old ≡ true → list_any (at_key q) more ≡ true
 puts_more n old more puts q h = adds (at_key n q) (list_any (at_key q) old) (list_any (at_key q) more) (puts q) h
 
-pub ready_put : (limits : Limits) (slots : Slab Held) (keys : List (ℕ × ℕ)) (n : ℕ) (ready more asking : List ℕ) → PutsOne n ready more → IsKept limits slots keys ready asking → IsKept limits slots keys more asking
-ready_put limits slots keys n ready more asking puts kept = listed_more limits slots keys ready more asking asking (puts_more n ready more puts) (λ q h. h) kept
+pub ready_put : (duty : DutyView) (slots : Slab Held) (keys : List (ℕ × ℕ)) (n : ℕ) (ready more asking : List ℕ) → PutsOne n ready more → IsKept duty slots keys ready asking → IsKept duty slots keys more asking
+ready_put duty slots keys n ready more asking puts kept = listed_more duty slots keys ready more asking asking (puts_more n ready more puts) (λ q h. h) kept
 
-pub asking_put : (limits : Limits) (slots : Slab Held) (keys : List (ℕ × ℕ)) (n : ℕ) (ready asking more : List ℕ) → PutsOne n asking more → IsKept limits slots keys ready asking → IsKept limits slots keys ready more
-asking_put limits slots keys n ready asking more puts kept = listed_more limits slots keys ready ready asking more (λ q h. h) (puts_more n asking more puts) kept
+pub asking_put : (duty : DutyView) (slots : Slab Held) (keys : List (ℕ × ℕ)) (n : ℕ) (ready asking more : List ℕ) → PutsOne n asking more → IsKept duty slots keys ready asking → IsKept duty slots keys ready more
+asking_put duty slots keys n ready asking more puts kept = listed_more duty slots keys ready ready asking more (λ q h. h) (puts_more n asking more puts) kept
 
-pub more_room : (limits : Limits) (slots new : Slab Held) (keys : List (ℕ × ℕ)) (ready asking : List ℕ) → new.slots ≡ slots.slots → IsKept limits slots keys ready asking → IsKept limits new keys ready asking
-more_room limits slots new keys ready asking same kept = record { ordered = kept.ordered; apart = kept.apart; each = all_more (IsSlot limits slots ready asking) (IsSlot limits new ready asking) each keys kept.each }
+pub more_room : (duty : DutyView) (slots new : Slab Held) (keys : List (ℕ × ℕ)) (ready asking : List ℕ) → new.slots ≡ slots.slots → IsKept duty slots keys ready asking → IsKept duty new keys ready asking
+more_room duty slots new keys ready asking same kept = record { ordered = kept.ordered; apart = kept.apart; each = all_more (IsSlot duty slots ready asking) (IsSlot duty new ready asking) each keys kept.each }
   where
-    each : (e : ℕ × ℕ) → IsSlot limits slots ready asking e → IsSlot limits new ready asking e
+    each : (e : ℕ × ℕ) → IsSlot duty slots ready asking e → IsSlot duty new ready asking e
     each e s =
         let at : get new e.1 ≡ get slots e.1 = ap (λ l. slice_index_or l e.1 None) same in
         record { filled = ap is_some at ∙ s.filled; able = λ p there steps. s.able p (sym at ∙ there) steps; lacks = λ p there some. s.lacks p (sym at ∙ there) some }

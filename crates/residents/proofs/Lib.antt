@@ -11,7 +11,9 @@ pub mod Free
 pub mod KeepsForking
 pub mod Kept
 pub mod KeptForks
+pub mod Owed
 pub mod Quanta
+pub mod Renewing
 pub mod RestTold
 pub mod RollingParts
 pub mod RollingQuantum

@@ -15,11 +15,10 @@ use Rattle.bus_msg.specs.Places.{same_pid}
 use Rattle.page_waits.specs.Waiting.{WaitingState}
 use Rattle.residents.specs.Bearing.{forked, newborn}
 use Rattle.residents.specs.Changed.{with_changed}
-use Rattle.residents.specs.ChildrenFirst.{is_running, runs_at}
 use Rattle.residents.specs.ForkingAgain.{begun_with, child_again, going_held, is_rolling, rolls_at, waits_for_fork_at, waits_for_fork, with_begun, with_mail_of, AtFront, BearsAgain, CanBeginAgain, CanBeginWith, CanForkAgainNow, ForksAgain, HasForkedAgain, NoPart, Part, RollsAgain, RollsPart}
 use Rattle.residents.specs.Quantum.{RollsTo}
 use Rattle.residents.specs.Residents.{are_rising, pids_in}
-use Rattle.residents.specs.Held.{Held, Runs, Rolls, Waits, held_of}
+use Rattle.residents.specs.Held.{Held, Runs, Rolls, Waits, held_of, is_running, runs_at}
 use Rattle.residents.proofs.Changing.{changed_there, pid_same, pids_changed}
 
 -- ---- who is where

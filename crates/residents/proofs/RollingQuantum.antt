@@ -6,11 +6,11 @@ use Rattle.t32_base.specs.declared.process.Pid.{Pid}
 use Rattle.t32_base.specs.declared.streams.NoMemory.{NoMemory}
 use Rattle.quanta.specs.declared.limits.Limits.{Limits}
 use Rattle.residents.specs.declared.quantum.Quantum.{Quantum}
-use Rattle.residents.specs.declared.quantum.Quantum.TheVariants.{Moved, Sent, Synced, Stuck, Forks}
-use Rattle.residents.specs.ChildrenFirst.{comes_after_at, runs_at}
+use Rattle.residents.specs.declared.quantum.Quantum.TheVariants.{Moved, Sent, Synced, Renewed, Stuck, Forks}
+use Rattle.residents.specs.ChildrenFirst.{comes_after_at}
 use Rattle.residents.specs.ForkingAgain.{rolls_at, CanForkAgainAt, CanForkAgainNow, NoPart, Part, RollsAgain, RollsPartAt, RollsQuantum, RollsStepsAt}
-use Rattle.residents.specs.Residents.{RunsAt, RunsOnAt, are_rising, is_stuck_at, pids_in}
-use Rattle.residents.specs.Held.{Held, Rolls}
+use Rattle.residents.specs.Residents.{RunsAt, RunsOnAt, are_rising, pids_in, stays_at}
+use Rattle.residents.specs.Held.{Held, Rolls, runs_at}
 use Rattle.residents.proofs.KeepsForking.{forks_now, part_keeps}
 use Rattle.residents.proofs.RollingParts.{again_runs, changed_same, none_again, rolls_there}
 
@@ -45,10 +45,11 @@ module _ (limits : Limits) (by : ClusterNo) (childless : Bool) (p : Pid) (made :
   runs_after new (Ok Moved) r = record { made = made; mid = mid; again = q.again; was = r.was; now = r.now; there = r.there; ran = r.ran; here = r.here }
   runs_after new (Ok (Sent sending)) r = record { made = made; mid = mid; again = q.again; was = r.was; now = r.now; there = r.there; ran = r.ran; here = r.here }
   runs_after new (Ok (Synced posts)) r = record { made = made; mid = mid; again = q.again; was = r.was; now = r.now; there = r.there; ran = r.ran; here = r.here }
+  runs_after new (Ok (Renewed posts)) r = absurd r
   runs_after new (Ok (Forks forking)) r = record { made = made; mid = mid; again = q.again; was = r.was; now = r.now; there = r.there; ran = r.ran; here = r.here }
   runs_after new (Ok Stuck) r =
       let same : mid ≡ old = none_again p made old mid q.again r.0 in
-      (ap (λ hs. is_stuck_at limits p hs) (sym same) ∙ r.1, r.2 ∙ same)
+      (ap (λ hs. stays_at limits p hs) (sym same) ∙ r.1, r.2 ∙ same)
   runs_after new (Err fault) r = r.1 ∙ none_again p made old mid q.again r.0
 
   -- none where it rolls forward still

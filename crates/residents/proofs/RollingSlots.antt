@@ -11,7 +11,7 @@ use Rattle.t32_base.specs.declared.streams.NoMemory.{NoMemory}
 use Rattle.proc_state.specs.declared.process.Process.{Process}
 use Rattle.roll_forward.specs.RunsOut.{nothing_left}
 use Rattle.plain_kernel.specs.Maps.{at_key, pid_of}
-use Rattle.quanta.specs.declared.limits.Limits.{Limits}
+use Rattle.residents.specs.Duty.{DutyView}
 use Rattle.residents.specs.Bearing.{forked}
 use Rattle.residents.specs.Changed.{with_changed}
 use Rattle.residents.specs.ForkingAgain.{begun_with, going_held, is_rolling, with_begun, with_mail_of, BearsAgain, HasForkedAgain, HasRolled, RollsStepsAt, StandsAtForkAgain}
@@ -65,7 +65,7 @@ begun_lacks born _ some = some
 
 -- ---- what is here
 
-module _ (limits : Limits) (slots new : Slab Held) (n key : ℕ) (keys : List (ℕ × ℕ)) (ready asking : List ℕ) (was now : Held) (old : List (Pid × Held)) (kept : IsKept limits slots keys ready asking) (found : lookup (at_key n) keys ≡ Some key) (there : get slots key ≡ Some was)
+module _ (duty : DutyView) (slots new : Slab Held) (n key : ℕ) (keys : List (ℕ × ℕ)) (ready asking : List ℕ) (was now : Held) (old : List (Pid × Held)) (kept : IsKept duty slots keys ready asking) (found : lookup (at_key n) keys ≡ Some key) (there : get slots key ≡ Some was)
     (updates : Updates slots new key (Some now)) (same : stands_in slots keys ≡ old) where
   at : held_of old (pid_of n) ≡ Some was
   at = ap (λ hs. held_of hs (pid_of n)) (sym same) ∙ process_there slots n key was keys found there

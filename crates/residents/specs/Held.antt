@@ -28,6 +28,15 @@ pub data Held : Type 0 where
 abbrev pub held_of : List (Pid × Held) → Pid → Option Held
 held_of here p = option_map (λ (e : Pid × Held). e.1) (find (λ (e : Pid × Held). same_pid e.0 p) here)
 
+abbrev pub is_running : Held → Bool
+is_running (Runs p) = true
+is_running (Rolls p counts births) = false
+is_running (Waits waiting) = false
+
+-- the process is here and runs
+abbrev pub runs_at : List (Pid × Held) → Pid → Bool
+runs_at here p = option_map_or is_running (held_of here p) false
+
 -- one that runs can move where it has a step or is due, one that rolls forward always
 abbrev pub can_act : Limits → Held → Bool
 can_act limits (Runs p) = has_step (next_step (state_of p)) || is_due limits p

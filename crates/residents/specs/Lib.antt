@@ -3,6 +3,7 @@ pub mod Asking
 pub mod Bearing
 pub mod Changed
 pub mod ChildrenFirst
+pub mod Duty
 pub mod ForkingAgain
 pub mod Held
 pub mod Quantum

@@ -20,6 +20,7 @@ use Rattle.bus_msg.specs.declared.entry.What.TheVariants.{Mail, Exit}
 use Rattle.bus_msg.specs.declared.entry.By.TheVariants.{Cluster}
 use Rattle.bus_msg.specs.declared.entry.Post.{Post}
 use Rattle.sync_point.specs.Batch.{batch, synced}
+use Rattle.backup_mode.specs.Renewal.{cleared, renewal}
 use Rattle.quanta.specs.declared.limits.Limits.{Limits}
 use Rattle.quanta.specs.declared.quantum.Ran.{Ran}
 use Rattle.quanta.specs.declared.quantum.Ran.TheVariants.{Moved as RanOn, Refused, Sent as RanSending, Stuck as RanStuck, Forks as RanToFork, Ends as RanToEnd}
@@ -28,7 +29,7 @@ use Rattle.quanta.specs.Quantum.{RunsOn, Moves as MovesAlone, StandsAtFork}
 use Rattle.residents.specs.declared.quantum.Sending.{Sending}
 use Rattle.residents.specs.declared.quantum.Forking.{Forking}
 use Rattle.residents.specs.declared.quantum.Quantum.{Quantum}
-use Rattle.residents.specs.declared.quantum.Quantum.TheVariants.{Moved, Sent, Synced, Stuck, Forks as AtFork}
+use Rattle.residents.specs.declared.quantum.Quantum.TheVariants.{Moved, Sent, Synced, Renewed, Stuck, Forks as AtFork}
 use Rattle.residents.specs.Held.{Held, Runs, Rolls, Waits, IsHeldWithin, can_act}
 
 -- ---- what is withheld
@@ -119,6 +120,7 @@ abbrev pub RunsQuantum : Limits → ClusterNo → ℕ → Bool → ℕ → Held 
 RunsQuantum limits by most childless made old (Ok Moved) new = Moves limits most made old new
 RunsQuantum limits by most childless made old (Ok (Sent sending)) new = Sends limits most made old sending new × EndsChildless childless sending.emission
 RunsQuantum limits by most childless made old (Ok (Synced posts)) new = (made ≡ 0) × Syncs limits by old posts new
+RunsQuantum limits by most childless made old (Ok (Renewed posts)) new = ⊥
 RunsQuantum limits by most childless made old (Ok Stuck) new = (made ≡ 0) × (can_act limits old ≡ false) × (new ≡ old)
 RunsQuantum limits by most childless made old (Ok (AtFork forking)) new = ComesToFork limits most made old forking new
 RunsQuantum limits by most childless made old (Err fault) new = (made ≡ 0) × (new ≡ old)
@@ -129,6 +131,13 @@ pub record SyncsNow (by : ClusterNo) (old : Held) (posts : List Post) (new : Hel
   pub old_is : old ≡ Runs process
   pub posts_are : posts ≡ batch process by
   pub new_is : new ≡ Runs (synced process)
+
+-- one that runs sends what brings it its new backup
+pub record RenewsNow (to by : ClusterNo) (old : Held) (posts : List Post) (new : Held) : Type 0 where
+  pub process : Process
+  pub old_is : old ≡ Runs process
+  pub posts_are : posts ≡ renewal process to by
+  pub new_is : new ≡ Runs (cleared process)
 
 -- ---- its part in which the process runs
 
@@ -192,6 +201,7 @@ abbrev pub ActsOn : Limits → ClusterNo → ℕ → Bool → ℕ → Process �
 ActsOn limits by most childless made old (Ok Moved) new = RestMoves limits most made old new
 ActsOn limits by most childless made old (Ok (Sent sending)) new = RestSends limits most made old sending new × EndsChildless childless sending.emission
 ActsOn limits by most childless made old (Ok (Synced posts)) new = (made ≡ 0) × (is_due limits old ≡ true) × (posts ≡ batch old by) × (new ≡ synced old)
+ActsOn limits by most childless made old (Ok (Renewed posts)) new = ⊥
 ActsOn limits by most childless made old (Ok Stuck) new = (made ≡ 0) × (is_due limits old ≡ false) × (has_step (next_step (state_of old)) ≡ false) × (new ≡ old)
 ActsOn limits by most childless made old (Ok (AtFork forking)) new = RestComesToFork limits most made old forking new
 ActsOn limits by most childless made old (Err fault) new = (made ≡ 0) × (new ≡ old)

@@ -10,20 +10,22 @@ use Rattle.bus_msg.specs.declared.entry.Post.{Post}
 use Rattle.bus_msg.specs.Places.{same_pid}
 use Rattle.birth_notice.specs.Family.{first_unsynced}
 use Rattle.sync_point.specs.Batch.{batch, synced}
+use Rattle.backup_mode.specs.Renewal.{cleared, renewal}
 use Rattle.plain_kernel.specs.Maps.{pid_of}
 use Rattle.cert_sched.specs.Parts.{first_of}
 use Rattle.quanta.specs.declared.limits.Limits.{Limits}
 use Rattle.residents.specs.declared.quantum.Quantum.{Quantum}
-use Rattle.residents.specs.declared.quantum.Quantum.TheVariants.{Moved, Sent, Synced, Stuck, Forks}
+use Rattle.residents.specs.declared.quantum.Quantum.TheVariants.{Moved, Sent, Synced, Renewed, Stuck, Forks}
 use Rattle.residents.specs.Quantum.{RunsQuantum}
 pub use Rattle.residents.specs.Changed.{with_changed, with_more}
 use Rattle.residents.specs.ChildrenFirst.{child_before, has_turn}
 use Rattle.residents.specs.ForkingAgain.{RollsAgain}
+use Rattle.residents.specs.Duty.{DutyView, is_able, owed_at}
 use Rattle.residents.specs.Held.{Held, Runs, asked_held, can_act, held_of, is_waiting, next_number, page_lacked}
 
--- the limits by which they synchronise; the processes by rising pid; the pids of those that may move, rising; those of which some may have pages to ask for, rising; and the pid that was chosen last, 0 before any was
+-- what they owe beside their steps; the processes by rising pid; the pids of those that may move, rising; those of which some may have pages to ask for, rising; and the pid that was chosen last, 0 before any was
 pub record ResidentsView : Type 0 where
-  pub limits : Limits
+  pub duty : DutyView
   pub here : List (Pid × Held)
   pub ready : List ℕ
   pub asking : List ℕ
@@ -33,24 +35,24 @@ pub record ResidentsView : Type 0 where
 abbrev pub HasRoom : List (Pid × Held) → Type 0
 HasRoom here = (pid : Pid) (h : Held) → held_of here pid ≡ Some h → next_number h < 2 ^ 64 - 1
 
--- it cannot move
-abbrev pub is_stuck : Limits → Held → Bool
-is_stuck limits h = not (can_act limits h)
+-- it cannot have a turn
+abbrev pub is_stuck : DutyView → Pid × Held → Bool
+is_stuck duty e = not (is_able duty e)
 
--- none of them can move
-abbrev pub are_stuck : Limits → List (Pid × Held) → Bool
-are_stuck limits here = list_all (λ (e : Pid × Held). is_stuck limits e.1) here
+-- none of them can
+abbrev pub are_stuck : DutyView → List (Pid × Held) → Bool
+are_stuck duty here = list_all (is_stuck duty) here
 
 abbrev pub pids_in : List (Pid × Held) → List ℕ
 pids_in here = map (λ (e : Pid × Held). (e.0).0) here
 
 -- the pids of those that can have a turn
-abbrev pub pids_able : Limits → List (Pid × Pid) → List (Pid × Held) → List ℕ
-pids_able limits family here = pids_in (filter (has_turn limits family here) here)
+abbrev pub pids_able : DutyView → List (Pid × Pid) → List (Pid × Held) → List ℕ
+pids_able duty family here = pids_in (filter (has_turn duty family here) here)
 
 -- none of them can
-abbrev pub none_has_turn : Limits → List (Pid × Pid) → List (Pid × Held) → Bool
-none_has_turn limits family here = list_all (λ (e : Pid × Held). not (has_turn limits family here e)) here
+abbrev pub none_has_turn : DutyView → List (Pid × Pid) → List (Pid × Held) → Bool
+none_has_turn duty family here = list_all (λ (e : Pid × Held). not (has_turn duty family here e)) here
 
 -- each number is below those after it
 abbrev pub are_rising : List ℕ → Bool
@@ -61,9 +63,9 @@ are_rising (n ∷ ns) = list_all (λ m. nat_lt n m) ns && are_rising ns
 abbrev pub next_ready : List ℕ → ℕ → Option ℕ
 next_ready ready last = option_or (find (λ n. nat_lt last n) ready) (first_of ready)
 
--- the process with a pid is the next one that can have a turn, where it can move
+-- the process with a pid is the next one that can have a turn, where it can by itself
 abbrev pub NextAble : ℕ → List (Pid × Pid) → ResidentsView → Type 0
-NextAble n family rs = (h : Held) → held_of rs.here (pid_of n) ≡ Some h → can_act rs.limits h ≡ true → next_ready (pids_able rs.limits family rs.here) rs.last ≡ Some n
+NextAble n family rs = (h : Held) → held_of rs.here (pid_of n) ≡ Some h → is_able rs.duty (pid_of n, h) ≡ true → next_ready (pids_able rs.duty family rs.here) rs.last ≡ Some n
 
 -- ---- a turn
 
@@ -85,46 +87,63 @@ pub record RunsOne (limits : Limits) (by : ClusterNo) (childless : Bool) (pid : 
   pub ran : RunsQuantum limits by 64 childless made was (Ok quantum) now
   pub here : new ≡ with_changed pid now mid
 
--- the process with a pid, before which no child is to synchronise, had its turn in a cluster, and the others stayed
-pub record TakesTurn (limits : Limits) (by : ClusterNo) (family : List (Pid × Pid)) (pid : Pid) (old : List (Pid × Held)) (quantum : Quantum) (new : List (Pid × Held)) : Type 0 where
-  pub alone : child_before limits family old pid ≡ None
-  pub ran : RunsOne limits by (is_none (first_unsynced family pid)) pid old quantum new
+-- the process with a pid, which runs here, sends what brings it its new backup in a cluster: its changed pages, and its record as it is
+pub record RenewsAt (by to : ClusterNo) (pid : Pid) (old : List (Pid × Held)) (posts : List Post) (new : List (Pid × Held)) : Type 0 where
+  pub process : Process
+  pub there : held_of old pid ≡ Some (Runs process)
+  pub posts_are : posts ≡ renewal process to by
+  pub here : new ≡ with_changed pid (Runs (cleared process)) old
+
+-- the process with a pid, before which no child is to synchronise and which is to get no new backup, had its turn in a cluster, and the others stayed
+pub record TakesTurn (duty : DutyView) (by : ClusterNo) (family : List (Pid × Pid)) (pid : Pid) (old : List (Pid × Held)) (quantum : Quantum) (new : List (Pid × Held)) : Type 0 where
+  pub alone : child_before duty family old pid ≡ None
+  pub unowed : owed_at duty old pid ≡ None
+  pub ran : RunsOne duty.limits by (is_none (first_unsynced family pid)) pid old quantum new
 
 -- in its place the child that is to synchronise before it did so, by the posts of its batch
-pub record SyncsChild (limits : Limits) (by : ClusterNo) (family : List (Pid × Pid)) (pid : Pid) (old : List (Pid × Held)) (posts : List Post) (new : List (Pid × Held)) : Type 0 where
+pub record SyncsChild (duty : DutyView) (by : ClusterNo) (family : List (Pid × Pid)) (pid : Pid) (old : List (Pid × Held)) (posts : List Post) (new : List (Pid × Held)) : Type 0 where
   pub child : Pid
-  pub before : child_before limits family old pid ≡ Some child
+  pub before : child_before duty family old pid ≡ Some child
   pub syncs : SyncsAt by child old posts new
 
--- one or the other
-abbrev pub HasTurn : Limits → ClusterNo → List (Pid × Pid) → Pid → List (Pid × Held) → Quantum → List (Pid × Held) → Type 0
-HasTurn limits by family pid old Moved new = TakesTurn limits by family pid old Moved new
-HasTurn limits by family pid old (Sent sending) new = TakesTurn limits by family pid old (Sent sending) new
-HasTurn limits by family pid old (Synced posts) new = TakesTurn limits by family pid old (Synced posts) new ⊎ SyncsChild limits by family pid old posts new
-HasTurn limits by family pid old (Forks forking) new = TakesTurn limits by family pid old (Forks forking) new
-HasTurn limits by family pid old Stuck new = TakesTurn limits by family pid old Stuck new
+-- no child is to synchronise before it, and it sends what brings it the new backup that it is to get
+pub record Renews (duty : DutyView) (by : ClusterNo) (family : List (Pid × Pid)) (pid : Pid) (old : List (Pid × Held)) (posts : List Post) (new : List (Pid × Held)) : Type 0 where
+  pub alone : child_before duty family old pid ≡ None
+  pub to : ClusterNo
+  pub owed : owed_at duty old pid ≡ Some to
+  pub renews : RenewsAt by to pid old posts new
+
+-- one of these
+abbrev pub HasTurn : DutyView → ClusterNo → List (Pid × Pid) → Pid → List (Pid × Held) → Quantum → List (Pid × Held) → Type 0
+HasTurn duty by family pid old Moved new = TakesTurn duty by family pid old Moved new
+HasTurn duty by family pid old (Sent sending) new = TakesTurn duty by family pid old (Sent sending) new
+HasTurn duty by family pid old (Synced posts) new = TakesTurn duty by family pid old (Synced posts) new ⊎ SyncsChild duty by family pid old posts new
+HasTurn duty by family pid old (Renewed posts) new = Renews duty by family pid old posts new
+HasTurn duty by family pid old (Forks forking) new = TakesTurn duty by family pid old (Forks forking) new
+HasTurn duty by family pid old Stuck new = TakesTurn duty by family pid old Stuck new
 
 -- it was the next process that can have a turn, in rising pid order after the one that was chosen last, cyclically
 pub record ChosenTurn (by : ClusterNo) (family : List (Pid × Pid)) (old : ResidentsView) (quantum : Quantum) (new : ResidentsView) : Type 0 where
-  pub chosen : next_ready (pids_able old.limits family old.here) old.last ≡ Some new.last
-  pub takes : HasTurn old.limits by family (pid_of new.last) old.here quantum new.here
+  pub chosen : next_ready (pids_able old.duty family old.here) old.last ≡ Some new.last
+  pub takes : HasTurn old.duty by family (pid_of new.last) old.here quantum new.here
 
--- one of them moved, or sent something, or synchronised, or came to its fork, or none can have a turn; after want of memory no process has changed
+-- one of them moved, or sent something, or synchronised, or sent what brings it its new backup, or came to its fork, or none can have a turn; after want of memory no process has changed
 abbrev pub TurnIs : ClusterNo → List (Pid × Pid) → ResidentsView → Result Quantum NoMemory → ResidentsView → Type 0
 TurnIs by family old (Ok Moved) new = ChosenTurn by family old Moved new
 TurnIs by family old (Ok (Sent sending)) new = ChosenTurn by family old (Sent sending) new
 TurnIs by family old (Ok (Synced posts)) new = ChosenTurn by family old (Synced posts) new
+TurnIs by family old (Ok (Renewed posts)) new = ChosenTurn by family old (Renewed posts) new
 TurnIs by family old (Ok (Forks forking)) new = ChosenTurn by family old (Forks forking) new
-TurnIs by family old (Ok Stuck) new = (none_has_turn old.limits family old.here ≡ true) × (new.here ≡ old.here) × (new.last ≡ old.last)
+TurnIs by family old (Ok Stuck) new = (none_has_turn old.duty family old.here ≡ true) × (new.here ≡ old.here) × (new.last ≡ old.last)
 TurnIs by family old (Err fault) new = new.here ≡ old.here
 
--- it cannot move, and does not wait for a page
-abbrev pub is_settled : Limits → Held → Bool
-is_settled limits h = is_stuck limits h && not (is_waiting h)
+-- it cannot have a turn, and does not wait for a page
+abbrev pub is_settled : DutyView → Pid × Held → Bool
+is_settled duty e = is_stuck duty e && not (is_waiting e.1)
 
 -- so it is of each of them
-abbrev pub are_settled : Limits → List (Pid × Held) → Bool
-are_settled limits here = list_all (λ (e : Pid × Held). is_settled limits e.1) here
+abbrev pub are_settled : DutyView → List (Pid × Held) → Bool
+are_settled duty here = list_all (is_settled duty) here
 
 -- ---- pages to ask for
 
@@ -146,9 +165,13 @@ AsksOf pid old (Some index) new = AsksPage pid old index new
 
 -- ---- a turn of one of them
 
--- the process with a pid cannot move, if it is there
-abbrev pub is_stuck_at : Limits → Pid → List (Pid × Held) → Bool
-is_stuck_at limits pid here = list_all (λ (e : Pid × Held). not (same_pid e.0 pid) || is_stuck limits e.1) here
+-- the process with a pid cannot have a turn, if it is there
+abbrev pub is_stuck_at : DutyView → Pid → List (Pid × Held) → Bool
+is_stuck_at duty pid here = list_all (λ (e : Pid × Held). not (same_pid e.0 pid) || is_stuck duty (pid, e.1)) here
+
+-- it cannot move, if it is there
+abbrev pub stays_at : Limits → Pid → List (Pid × Held) → Bool
+stays_at limits pid here = list_all (λ (e : Pid × Held). not (same_pid e.0 pid) || not (can_act limits e.1)) here
 
 -- so many steps of the quantum were made before
 pub record RunsRest (limits : Limits) (by : ClusterNo) (childless : Bool) (made : ℕ) (pid : Pid) (old : List (Pid × Held)) (quantum : Quantum) (new : List (Pid × Held)) : Type 0 where
@@ -164,7 +187,8 @@ RunsOnAt limits by childless made pid old (Ok Moved) new = RunsRest limits by ch
 RunsOnAt limits by childless made pid old (Ok (Sent sending)) new = RunsRest limits by childless made pid old (Sent sending) new
 RunsOnAt limits by childless made pid old (Ok (Synced posts)) new = RunsRest limits by childless made pid old (Synced posts) new
 RunsOnAt limits by childless made pid old (Ok (Forks forking)) new = RunsRest limits by childless made pid old (Forks forking) new
-RunsOnAt limits by childless made pid old (Ok Stuck) new = (made ≡ 0) × (is_stuck_at limits pid old ≡ true) × (new ≡ old)
+RunsOnAt limits by childless made pid old (Ok (Renewed posts)) new = ⊥
+RunsOnAt limits by childless made pid old (Ok Stuck) new = (made ≡ 0) × (stays_at limits pid old ≡ true) × (new ≡ old)
 RunsOnAt limits by childless made pid old (Err fault) new = (made ≡ 0) × (new ≡ old)
 
 -- so it did, or it cannot move, if it is there; where memory is refused for the first step, nothing has changed
@@ -173,14 +197,16 @@ RunsAt limits by childless pid old (Ok Moved) new = RunsOne limits by childless 
 RunsAt limits by childless pid old (Ok (Sent sending)) new = RunsOne limits by childless pid old (Sent sending) new
 RunsAt limits by childless pid old (Ok (Synced posts)) new = RunsOne limits by childless pid old (Synced posts) new
 RunsAt limits by childless pid old (Ok (Forks forking)) new = RunsOne limits by childless pid old (Forks forking) new
-RunsAt limits by childless pid old (Ok Stuck) new = (is_stuck_at limits pid old ≡ true) × (new ≡ old)
+RunsAt limits by childless pid old (Ok (Renewed posts)) new = ⊥
+RunsAt limits by childless pid old (Ok Stuck) new = (stays_at limits pid old ≡ true) × (new ≡ old)
 RunsAt limits by childless pid old (Err fault) new = new ≡ old
 
--- the process with a pid, which no child hinders, had its turn, or cannot move; after want of memory nothing has changed
-abbrev pub GivenTurnIs : Limits → ClusterNo → List (Pid × Pid) → Pid → List (Pid × Held) → Result Quantum NoMemory → List (Pid × Held) → Type 0
-GivenTurnIs limits by family pid old (Ok Moved) new = HasTurn limits by family pid old Moved new
-GivenTurnIs limits by family pid old (Ok (Sent sending)) new = HasTurn limits by family pid old (Sent sending) new
-GivenTurnIs limits by family pid old (Ok (Synced posts)) new = HasTurn limits by family pid old (Synced posts) new
-GivenTurnIs limits by family pid old (Ok (Forks forking)) new = HasTurn limits by family pid old (Forks forking) new
-GivenTurnIs limits by family pid old (Ok Stuck) new = (is_stuck_at limits pid old ≡ true) × (new ≡ old)
-GivenTurnIs limits by family pid old (Err fault) new = new ≡ old
+-- the process with a pid, which no child hinders, had its turn, or cannot have one; after want of memory nothing has changed
+abbrev pub GivenTurnIs : DutyView → ClusterNo → List (Pid × Pid) → Pid → List (Pid × Held) → Result Quantum NoMemory → List (Pid × Held) → Type 0
+GivenTurnIs duty by family pid old (Ok Moved) new = HasTurn duty by family pid old Moved new
+GivenTurnIs duty by family pid old (Ok (Sent sending)) new = HasTurn duty by family pid old (Sent sending) new
+GivenTurnIs duty by family pid old (Ok (Synced posts)) new = HasTurn duty by family pid old (Synced posts) new
+GivenTurnIs duty by family pid old (Ok (Renewed posts)) new = HasTurn duty by family pid old (Renewed posts) new
+GivenTurnIs duty by family pid old (Ok (Forks forking)) new = HasTurn duty by family pid old (Forks forking) new
+GivenTurnIs duty by family pid old (Ok Stuck) new = (is_stuck_at duty pid old ≡ true) × (new ≡ old)
+GivenTurnIs duty by family pid old (Err fault) new = new ≡ old

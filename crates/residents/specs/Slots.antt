@@ -7,8 +7,8 @@ use Rattle.slab.specs.Slab.{Slab, get}
 use Rattle.t32_base.specs.declared.process.Pid.{Pid}
 use Rattle.plain_kernel.specs.Maps.{at_key, pid_of}
 use Rattle.cert_sched.proofs.RisingLaws.{NoTwo}
-use Rattle.quanta.specs.declared.limits.Limits.{Limits}
-use Rattle.residents.specs.Held.{Held, can_act, page_lacked}
+use Rattle.residents.specs.Duty.{DutyView, is_able}
+use Rattle.residents.specs.Held.{Held, page_lacked}
 
 -- a process that is in its slot, before others
 abbrev pub in_slot : Pid → Option Held → List (Pid × Held) → List (Pid × Held)
@@ -20,14 +20,14 @@ abbrev pub stands_in : Slab Held → List (ℕ × ℕ) → List (Pid × Held)
 stands_in slots [] = []
 stands_in slots (e ∷ es) = in_slot (pid_of e.0) (get slots e.1) (stands_in slots es)
 
--- the key of a pid has a process; one that can move is among those that are ready, and one with a page to ask for among those that ask
-pub record IsSlot (limits : Limits) (slots : Slab Held) (ready asking : List ℕ) (e : ℕ × ℕ) : Type 0 where
+-- the key of a pid has a process; one that can have a turn is among those that are ready, and one with a page to ask for among those that ask
+pub record IsSlot (duty : DutyView) (slots : Slab Held) (ready asking : List ℕ) (e : ℕ × ℕ) : Type 0 where
   pub filled : IsSome (get slots e.1)
-  pub able : (h : Held) → get slots e.1 ≡ Some h → can_act limits h ≡ true → list_any (at_key e.0) ready ≡ true
+  pub able : (h : Held) → get slots e.1 ≡ Some h → is_able duty (pid_of e.0, h) ≡ true → list_any (at_key e.0) ready ≡ true
   pub lacks : (h : Held) → get slots e.1 ≡ Some h → is_some (page_lacked h) ≡ true → list_any (at_key e.0) asking ≡ true
 
 -- The pids rise, and no two of them have one key. A pid that is ready or asks need not be there: where a process was refused, its pid may stay, and goes once it is asked.
-pub record IsKept (limits : Limits) (slots : Slab Held) (keys : List (ℕ × ℕ)) (ready asking : List ℕ) : Type 0 where
+pub record IsKept (duty : DutyView) (slots : Slab Held) (keys : List (ℕ × ℕ)) (ready asking : List ℕ) : Type 0 where
   pub ordered : IsStrictlySortedBy nat_cmp (map (λ (e : ℕ × ℕ). e.0) keys)
   pub apart : NoTwo (map (λ (e : ℕ × ℕ). e.1) keys)
-  pub each : AllByRecursion (IsSlot limits slots ready asking) keys
+  pub each : AllByRecursion (IsSlot duty slots ready asking) keys

@@ -15,12 +15,13 @@ use t32_base::lists::List;
 use t32_base::process::{Pid, Small};
 
 /// What a process did in its turn: it made silent steps; or its last step sent something; or it synchronised, by these posts; or it
-/// had no step; or, after silent steps or none, it stands before its fork.
+/// sent these, which bring it its new backup; or it had no step; or, after silent steps or none, it stands before its fork.
 #[derive(Drop)]
 pub enum Quantum {
     Moved,
     Sent(Sending),
     Synced(List<Post>),
+    Renewed(List<Post>),
     Stuck,
     Forks(Forking),
 }

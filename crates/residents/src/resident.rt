@@ -4,15 +4,16 @@ ghost use Rattle.std.specs.Option.{option_copied};
 ghost use Rattle.proc_state.specs.State.{state_of};
 ghost use Rattle.roll_forward.specs.RunsOut.{RunsOut, nothing_left};
 ghost use Rattle.page_waits.specs.Waiting.{next_page};
-ghost use Rattle.residents.specs.Held.{Runs, Rolls, Waits, arrived_held, asked_held, can_act, is_waiting, next_number, page_held, page_lacked, rolling_held, steps_of_held};
-ghost use Rattle.residents.specs.ChildrenFirst.{comes_after_children, is_running};
-ghost use Rattle.residents.specs.Quantum.{ActsOn, RunsQuantum, SyncsNow};
+ghost use Rattle.residents.specs.Held.{Runs, Rolls, Waits, arrived_held, asked_held, can_act, is_running, is_waiting, next_number, page_held, page_lacked, rolling_held, steps_of_held};
+ghost use Rattle.residents.specs.ChildrenFirst.{comes_after_children};
+ghost use Rattle.residents.specs.Quantum.{ActsOn, RenewsNow, RunsQuantum, SyncsNow};
 ghost use Rattle.residents.specs.Bearing.{CanForkNow, HasForked};
 ghost use Rattle.residents.specs.ForkingAgain.{begun_with, born_by, child_again, is_rolling, waits_for_fork, CanBeginWith, HasForkedAgain, HasRolled, StandsAtForkAgain};
 ghost use Rattle.residents.specs.Records.{record_told};
 ghost use Rattle.residents.specs.Resident.{gone_on, held_standing, running_on, CanComeTo, CanGoOnFrom, HasCaughtUp, StandsSo};
 
 use crate::quantum::{Quantum, tell};
+use backup_mode::posts::fresh;
 use backup_queue::record::Record;
 use bus_msg::entry::Post;
 use page_waits::waiting::Waiting;
@@ -176,6 +177,24 @@ impl Resident {
     {
         match &mut self.standing {
             Some(Standing::Runs(process)) => build(alloc, process, by),
+            _ => unreachable!(),
+        }
+    }
+
+    /// One that runs sends, in the cluster `by`, what brings it its backup in the cluster `to`: the posts by which it does. After want
+    /// of memory nothing has changed.
+    pub fn renew(
+        &mut self,
+        alloc: Global,
+        by: ClusterNo,
+        to: ClusterNo,
+    ) -> Result<List<Post>, NoMemory>
+        requires { is_running self.old ≡ true }
+        ensures ok { IfOk result (λ posts. RenewsNow to by self.old posts self.new) }
+        ensures err { OnErr result (self.new ≡ self.old) }
+    {
+        match &mut self.standing {
+            Some(Standing::Runs(process)) => fresh(alloc, process, to, by),
             _ => unreachable!(),
         }
     }

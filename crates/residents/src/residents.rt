@@ -11,14 +11,16 @@ ghost use Rattle.residents.specs.Told.{rests_in};
 ghost use Rattle.residents.specs.Arriving.{with_letter, with_page_come};
 ghost use Rattle.residents.specs.Bearing.{CanBear, CanForkAt, ForksAt, with_born};
 ghost use Rattle.residents.specs.ForkingAgain.{child_again, rolls_at, waits_for_fork_at, with_begun, BearsAgain, CanBeginWith, CanForkAgain, CanForkAgainAt, CanForkAgainNow, ForksAgain, RollsPartAt, RollsQuantum, RollsStepsAt, StandsThere};
-ghost use Rattle.residents.specs.ChildrenFirst.{child_before, comes_after_at, is_free, is_hindered, runs_at};
+ghost use Rattle.residents.specs.ChildrenFirst.{child_before, comes_after, comes_after_at, is_free, is_hindered};
+ghost use Rattle.residents.specs.Duty.{is_able, is_owed, owed_at};
 ghost use Rattle.residents.specs.Records.{record_at};
-ghost use Rattle.residents.specs.Residents.{AsksOf, GivenTurnIs, HasRoom, NextAble, RunsAt, RunsOnAt, SyncsAt, TurnIs, are_rising, are_settled, is_settled, is_stuck_at, lacks_none_at, next_ready, none_has_turn, pids_in};
+ghost use Rattle.residents.specs.Residents.{AsksOf, GivenTurnIs, HasRoom, NextAble, RenewsAt, RunsAt, RunsOnAt, SyncsAt, TurnIs, are_rising, are_settled, is_settled, is_stuck_at, lacks_none_at, next_ready, none_has_turn, pids_in};
 ghost use Rattle.residents.specs.Changed.{with_more};
 ghost use Rattle.residents.specs.Resident.{CanComeTo};
-ghost use Rattle.residents.specs.Held.{Held, arrived_held, held_of};
+ghost use Rattle.residents.specs.Held.{Held, arrived_held, held_of, runs_at};
 ghost use Rattle.residents.specs.Asking.{AsksNext, any_lacks, any_waits, is_lowest_lacking};
 
+use crate::duty::Duty;
 use crate::quantum::Quantum;
 use crate::resident::Resident;
 use backup_queue::record::Record;
@@ -32,7 +34,6 @@ use slab::Slab;
 use std::alloc::Global;
 use std::collections::{BTreeMap, BTreeSet};
 use std::marker::Model;
-use std::mem;
 use std::ops::Bound;
 use t32_base::letter::{Letter, To};
 use t32_base::lists::List;
@@ -44,7 +45,7 @@ use t32_base::streams::NoMemory;
 /// is kept until one changes, so that it is told again without a look at them.
 #[derive(Drop)]
 pub struct Residents {
-    limits: Limits,
+    duty: Duty,
     residents: Slab<Resident>,
     keys: BTreeMap<u32, usize>,
     ready: BTreeSet<u32>,
@@ -61,20 +62,20 @@ impl Model for Residents {
 
     ghost Value = { ResidentsView };
 
-    ghost view = { λ r. record { limits = r.limits; here = stands_in r.residents r.keys.entries; ready = r.ready.keys; asking = r.asking.keys; last = r.last } };
+    ghost view = { λ r. record { duty = r.duty; here = stands_in r.residents r.keys.entries; ready = r.ready.keys; asking = r.asking.keys; last = r.last } };
 
-    ghost invariant = { λ r. IsKept r.limits r.residents r.keys.entries r.ready.keys r.asking.keys × IsTold r.limits (stands_in r.residents r.keys.entries) r.told };
+    ghost invariant = { λ r. IsKept r.duty r.residents r.keys.entries r.ready.keys r.asking.keys × IsTold r.duty (stands_in r.residents r.keys.entries) r.told };
 }
 
 impl Residents {
-    /// No process; those that come synchronise by these limits.
+    /// No process; those that come synchronise by these limits, and none is to get a new backup.
     pub fn none(alloc: Global, limits: Limits) -> Residents
-        ensures limits { result.limits ≡ limits }
+        ensures duty { result.duty ≡ record { limits = limits; owing = [] } }
         ensures here { result.here ≡ [] }
         ensures last { result.last ≡ 0 }
     {
         Residents {
-            limits,
+            duty: Duty::of(alloc, limits),
             residents: Slab::new(alloc),
             keys: BTreeMap::new(alloc),
             ready: BTreeSet::new(alloc),
@@ -86,9 +87,24 @@ impl Residents {
 
     /// The limits by which the processes here synchronise. Takes no memory.
     pub fn limits(&self) -> Limits
-        ensures { result ≡ self.now.limits }
+        ensures { result ≡ self.now.duty.limits }
     {
-        self.limits
+        self.duty.limits()
+    }
+
+    /// These processes are to get a new backup, each in its cluster, and no others. After want of memory nothing has changed.
+    pub fn owe(&mut self, owing: BTreeMap<u32, ClusterNo>) -> Result<(), NoMemory>
+        ensures here { self.new.here ≡ self.old.here }
+        ensures last { self.new.last ≡ self.old.last }
+        ensures ok { OnOk result (self.new.duty ≡ record self.old.duty { owing = owing.entries }) }
+        ensures err { OnErr result (self.new.duty ≡ self.old.duty) }
+    {
+        for (pid, _) in &owing {
+            self.make_ready(*pid)?;
+        }
+        self.told = None;
+        self.duty.owe(owing);
+        Ok(())
     }
 
     /// One process more, whose pid none has that is here. After want of memory nothing is said but that the
@@ -97,7 +113,7 @@ impl Residents {
         requires { list_any (λ e. same_pid e.0 pid) self.old.here ≡ false }
         ensures here { OnOk result (self.new.here ≡ with_more pid resident self.old.here) }
         ensures last { OnOk result (self.new.last ≡ self.old.last) }
-        ensures limits { self.new.limits ≡ self.old.limits }
+        ensures duty { self.new.duty ≡ self.old.duty }
     {
         self.told = None;
         self.ready.insert(pid.0)?;
@@ -108,8 +124,9 @@ impl Residents {
     }
 
     /// Gives the next process that can move its turn in the cluster `by`: the next one in rising pid order after the
-    /// one that was chosen last, cyclically. It synchronises where it is due, and else runs for a quantum. Where it is due or is to end and one of
-    /// these children is to synchronise before it, that child does so in its place; where that child does not run yet, it is passed over.
+    /// one that was chosen last, cyclically. It sends what brings it a new backup where it is to get one, synchronises where it is due, and
+    /// else runs for a quantum. Where it is to get one, is due or is to end and one of these children is to synchronise before it, that
+    /// child does so in its place; where that child does not run yet, it is passed over.
     /// `Stuck` is that of all. After want of memory no process has changed.
     pub fn take_turn(
         &mut self,
@@ -119,7 +136,7 @@ impl Residents {
     ) -> Result<Quantum, NoMemory>
         requires { CanForkAgain self.old.here }
         ensures turn { TurnIs by family.now self.old result self.new }
-        ensures limits { self.new.limits ≡ self.old.limits }
+        ensures duty { self.new.duty ≡ self.old.duty }
     {
         'choices: while let Some(pid) = self.next(family) {
             match self.give_turn(alloc, by, pid, family)? {
@@ -135,8 +152,8 @@ impl Residents {
 
     // The next of those that may move, but for those that a child hinders. Takes no memory.
     fn next(&self, family: &Family) -> Option<u32>
-        ensures next { result ≡ next_ready (filter (is_free self.now.limits family.now self.now.here) self.now.ready) self.now.last }
-        ensures stuck { result ≡ None → none_has_turn self.now.limits family.now self.now.here ≡ true }
+        ensures next { result ≡ next_ready (filter (is_free self.now.duty family.now self.now.here) self.now.ready) self.now.last }
+        ensures stuck { result ≡ None → none_has_turn self.now.duty family.now self.now.here ≡ true }
         ensures able { (pid : ℕ) → result ≡ Some pid → NextAble pid family.now self.now }
     {
         if self.ready.is_empty() {
@@ -150,7 +167,7 @@ impl Residents {
 
     // The next of them above the one that was chosen last. Takes no memory.
     fn next_above(&self, family: &Family) -> Option<u32>
-        ensures found { result ≡ find (λ n. nat_lt self.now.last n && is_free self.now.limits family.now self.now.here n) self.now.ready }
+        ensures found { result ≡ find (λ n. nat_lt self.now.last n && is_free self.now.duty family.now self.now.here n) self.now.ready }
         ensures ordered { are_rising self.now.ready ≡ true }
     {
         let above = (Bound::Excluded(self.last), Bound::Unbounded);
@@ -164,7 +181,7 @@ impl Residents {
 
     // The lowest of them. Takes no memory.
     fn lowest_free(&self, family: &Family) -> Option<u32>
-        ensures { result ≡ find (is_free self.now.limits family.now self.now.here) self.now.ready }
+        ensures { result ≡ find (is_free self.now.duty family.now self.now.here) self.now.ready }
     {
         for pid in &self.ready {
             if !self.is_hindered(*pid, family) {
@@ -176,7 +193,7 @@ impl Residents {
 
     // Whether the child that is to synchronise before the process with a pid does not run yet. Takes no memory.
     fn is_hindered(&self, pid: u32, family: &Family) -> bool
-        ensures { result ≡ is_hindered self.now.limits family.now self.now.here (pid_of pid) }
+        ensures { result ≡ is_hindered self.now.duty family.now self.now.here (pid_of pid) }
     {
         match self.child_before(pid, family) {
             Some(child) => !self.runs(child),
@@ -186,7 +203,7 @@ impl Residents {
 
     // The child that is to synchronise in the place of the process with a pid. Takes no memory.
     fn child_before(&self, pid: u32, family: &Family) -> Option<Pid>
-        ensures { result ≡ child_before self.now.limits family.now self.now.here (pid_of pid) }
+        ensures { result ≡ child_before self.now.duty family.now self.now.here (pid_of pid) }
     {
         let first = family.first_unsynced(Pid(pid));
         if first.is_none() {
@@ -194,7 +211,7 @@ impl Residents {
         }
         match self.resident(pid) {
             Some(resident) => {
-                if resident.comes_after_children(self.limits) {
+                if self.comes_after(pid, resident) {
                     first
                 } else {
                     None
@@ -204,9 +221,50 @@ impl Residents {
         }
     }
 
+    // Whether a process, which is this one, can have no turn by itself and waits for no page. Takes no memory.
+    fn is_settled(&self, pid: u32, resident: &Resident) -> bool
+        ensures { result ≡ is_settled self.now.duty (pid_of pid, resident.now) }
+    {
+        !self.is_able(pid, resident) && !resident.waits()
+    }
+
+    // Whether a process, which is this one, can have a turn by itself. Takes no memory.
+    fn is_able(&self, pid: u32, resident: &Resident) -> bool
+        ensures { result ≡ is_able self.now.duty (pid_of pid, resident.now) }
+    {
+        self.is_owed(pid, resident) || resident.can_act(self.duty.limits())
+    }
+
+    // Whether a process, which is this one, comes after its children. Takes no memory.
+    fn comes_after(&self, pid: u32, resident: &Resident) -> bool
+        ensures { result ≡ comes_after self.now.duty (pid_of pid, resident.now) }
+    {
+        self.is_owed(pid, resident) || resident.comes_after_children(self.duty.limits())
+    }
+
+    // Whether a process, which is this one, is to get a new backup now. Takes no memory.
+    fn is_owed(&self, pid: u32, resident: &Resident) -> bool
+        ensures { result ≡ is_owed self.now.duty (pid_of pid, resident.now) }
+    {
+        self.duty.backup_owed(pid).is_some() && resident.runs()
+    }
+
+    // The cluster in which the process with a pid is to get its new backup now. Takes no memory.
+    fn owed(&self, pid: u32) -> Option<ClusterNo>
+        ensures ordered { are_rising (pids_in self.now.here) ≡ true }
+        ensures owed { result ≡ owed_at self.now.duty self.now.here (pid_of pid) }
+    {
+        if self.runs(Pid(pid)) {
+            self.duty.backup_owed(pid)
+        } else {
+            None
+        }
+    }
+
     // Whether a process is here and runs. Takes no memory.
     fn runs(&self, pid: Pid) -> bool
-        ensures { result ≡ runs_at self.now.here pid }
+        ensures ordered { are_rising (pids_in self.now.here) ≡ true }
+        ensures runs { result ≡ runs_at self.now.here pid }
     {
         match self.resident(pid.0) {
             Some(resident) => resident.runs(),
@@ -238,19 +296,66 @@ impl Residents {
         family: &Family,
     ) -> Result<Quantum, NoMemory>
         requires ready { list_any (at_key pid) self.old.ready ≡ true }
-        requires free { is_hindered self.old.limits family.now self.old.here (pid_of pid) ≡ false }
+        requires free { is_hindered self.old.duty family.now self.old.here (pid_of pid) ≡ false }
         requires forks { CanForkAgainAt self.old.here (pid_of pid) }
-        ensures turn { GivenTurnIs self.old.limits by family.now (pid_of pid) self.old.here result self.new.here }
+        ensures turn { GivenTurnIs self.old.duty by family.now (pid_of pid) self.old.here result self.new.here }
         ensures ready { IfOk result (λ quantum. quantum ≡ Quantum.Stuck → self.new.ready ≡ self.old.ready) }
         ensures last { self.new.last ≡ self.old.last }
-        ensures limits { self.new.limits ≡ self.old.limits }
+        ensures duty { self.new.duty ≡ self.old.duty }
     {
         match self.child_before(pid, family) {
             Some(child) => Ok(Quantum::Synced(self.synchronise(alloc, by, child)?)),
+            None => self.give_own(alloc, by, pid, family),
+        }
+    }
+
+    // Gives it its own turn, where no child is to synchronise before it: it sends what brings it its new backup where it is to get one.
+    fn give_own(
+        &mut self,
+        alloc: Global,
+        by: ClusterNo,
+        pid: u32,
+        family: &Family,
+    ) -> Result<Quantum, NoMemory>
+        requires ready { list_any (at_key pid) self.old.ready ≡ true }
+        requires alone { child_before self.old.duty family.now self.old.here (pid_of pid) ≡ None }
+        requires forks { CanForkAgainAt self.old.here (pid_of pid) }
+        ensures turn { GivenTurnIs self.old.duty by family.now (pid_of pid) self.old.here result self.new.here }
+        ensures ready { IfOk result (λ quantum. quantum ≡ Quantum.Stuck → self.new.ready ≡ self.old.ready) }
+        ensures last { self.new.last ≡ self.old.last }
+        ensures duty { self.new.duty ≡ self.old.duty }
+    {
+        match self.owed(pid) {
+            Some(to) => Ok(Quantum::Renewed(self.renew(alloc, by, to, pid)?)),
             None => {
                 let childless = family.first_unsynced(Pid(pid)).is_none();
                 self.run(alloc, by, pid, childless)
             }
+        }
+    }
+
+    // The process with a pid, which runs here, sends in the cluster `by` what brings it its backup in the cluster `to`.
+    fn renew(
+        &mut self,
+        alloc: Global,
+        by: ClusterNo,
+        to: ClusterNo,
+        pid: u32,
+    ) -> Result<List<Post>, NoMemory>
+        requires runs { runs_at self.old.here (pid_of pid) ≡ true }
+        requires ready { list_any (at_key pid) self.old.ready ≡ true }
+        ensures ok { IfOk result (λ posts. RenewsAt by to (pid_of pid) self.old.here posts self.new.here) }
+        ensures err { OnErr result (self.new.here ≡ self.old.here) }
+        ensures last { self.new.last ≡ self.old.last }
+        ensures duty { self.new.duty ≡ self.old.duty }
+    {
+        self.told = None;
+        match self.keys.get(&pid) {
+            Some(key) => match self.residents.get_mut(*key) {
+                Some(resident) => resident.renew(alloc, by, to),
+                None => unreachable!(),
+            },
+            None => unreachable!(),
         }
     }
 
@@ -266,7 +371,7 @@ impl Residents {
         ensures err { OnErr result (self.new.here ≡ self.old.here) }
         ensures ready { self.new.ready ≡ self.old.ready }
         ensures last { self.new.last ≡ self.old.last }
-        ensures limits { self.new.limits ≡ self.old.limits }
+        ensures duty { self.new.duty ≡ self.old.duty }
     {
         self.told = None;
         match self.keys.get(&pid.0) {
@@ -288,12 +393,12 @@ impl Residents {
         childless: bool,
     ) -> Result<Quantum, NoMemory>
         requires ready { list_any (at_key pid) self.old.ready ≡ true }
-        requires last { comes_after_at self.old.limits self.old.here (pid_of pid) ≡ true → childless ≡ true }
+        requires last { comes_after_at self.old.duty.limits self.old.here (pid_of pid) ≡ true → childless ≡ true }
         requires forks { CanForkAgainAt self.old.here (pid_of pid) }
-        ensures turn { RunsAt self.old.limits by childless (pid_of pid) self.old.here result self.new.here }
+        ensures turn { RunsAt self.old.duty.limits by childless (pid_of pid) self.old.here result self.new.here }
         ensures ready { IfOk result (λ quantum. quantum ≡ Quantum.Stuck → self.new.ready ≡ self.old.ready) }
         ensures last { self.new.last ≡ self.old.last }
-        ensures limits { self.new.limits ≡ self.old.limits }
+        ensures duty { self.new.duty ≡ self.old.duty }
     {
         if !self.rolls(pid) {
             return self.run_on(alloc, by, pid, childless, 0);
@@ -316,18 +421,24 @@ impl Residents {
     ) -> Result<Quantum, NoMemory>
         requires ready { list_any (at_key pid) self.old.ready ≡ true }
         requires few { made ≤ 64 }
-        requires last { made ≡ 0 → comes_after_at self.old.limits self.old.here (pid_of pid) ≡ true → childless ≡ true }
+        requires last { made ≡ 0 → comes_after_at self.old.duty.limits self.old.here (pid_of pid) ≡ true → childless ≡ true }
         requires running { rolls_at self.old.here (pid_of pid) ≡ false }
         requires waiting { 1 ≤ made → runs_at self.old.here (pid_of pid) ≡ true }
-        ensures turn { RunsOnAt self.old.limits by childless made (pid_of pid) self.old.here result self.new.here }
+        ensures turn { RunsOnAt self.old.duty.limits by childless made (pid_of pid) self.old.here result self.new.here }
         ensures ready { self.new.ready ≡ self.old.ready }
         ensures last { self.new.last ≡ self.old.last }
-        ensures limits { self.new.limits ≡ self.old.limits }
+        ensures duty { self.new.duty ≡ self.old.duty }
     {
         self.told = None;
         match self.keys.get(&pid) {
             Some(key) => match self.residents.get_mut(*key) {
-                Some(resident) => resident.run_quantum(alloc, by, self.limits, childless, made),
+                Some(resident) => resident.run_quantum(
+                    alloc,
+                    by,
+                    self.duty.limits(),
+                    childless,
+                    made,
+                ),
                 None => unreachable!(),
             },
             None => Ok(Quantum::Stuck),
@@ -344,7 +455,7 @@ impl Residents {
         ensures ready { list_any (at_key pid) self.new.ready ≡ true }
         ensures same { IfOk result (λ made. made ≡ 0 → self.new.ready ≡ self.old.ready) }
         ensures last { self.new.last ≡ self.old.last }
-        ensures limits { self.new.limits ≡ self.old.limits }
+        ensures duty { self.new.duty ≡ self.old.duty }
     {
         let mut made = 0;
         'parts: while made < MOST {
@@ -367,7 +478,7 @@ impl Residents {
         ensures ready { list_any (at_key pid) self.new.ready ≡ true }
         ensures same { IfOk result (λ made. made ≡ 0 → self.new.ready ≡ self.old.ready) }
         ensures last { self.new.last ≡ self.old.last }
-        ensures limits { self.new.limits ≡ self.old.limits }
+        ensures duty { self.new.duty ≡ self.old.duty }
     {
         let made = self.roll_steps(pid, most)?;
         if made > 0 || !self.rolls(pid) {
@@ -385,7 +496,7 @@ impl Residents {
         ensures err { OnErr result (self.new.here ≡ self.old.here) }
         ensures ready { self.new.ready ≡ self.old.ready }
         ensures last { self.new.last ≡ self.old.last }
-        ensures limits { self.new.limits ≡ self.old.limits }
+        ensures duty { self.new.duty ≡ self.old.duty }
     {
         self.told = None;
         match self.keys.get(&pid) {
@@ -405,7 +516,7 @@ impl Residents {
         ensures err { OnErr result (self.new.here ≡ self.old.here) }
         ensures ready { list_any (at_key pid) self.new.ready ≡ true }
         ensures last { self.new.last ≡ self.old.last }
-        ensures limits { self.new.limits ≡ self.old.limits }
+        ensures duty { self.new.duty ≡ self.old.duty }
     {
         let Some(child) = self.next_child(pid) else {
             unreachable!()
@@ -428,7 +539,7 @@ impl Residents {
         ensures there { OnOk result (list_any (at_key pid) self.new.ready ≡ true) }
         ensures others { (n : ℕ) → list_any (at_key n) self.old.ready ≡ true → list_any (at_key n) self.new.ready ≡ true }
         ensures last { self.new.last ≡ self.old.last }
-        ensures limits { self.new.limits ≡ self.old.limits }
+        ensures duty { self.new.duty ≡ self.old.duty }
     {
         self.ready.insert(pid)?;
         Ok(())
@@ -442,7 +553,7 @@ impl Residents {
         ensures err { OnErr result (self.new.here ≡ self.old.here) }
         ensures ready { self.new.ready ≡ self.old.ready }
         ensures last { self.new.last ≡ self.old.last }
-        ensures limits { self.new.limits ≡ self.old.limits }
+        ensures duty { self.new.duty ≡ self.old.duty }
     {
         self.told = None;
         match self.keys.get(&pid) {
@@ -461,7 +572,7 @@ impl Residents {
         ensures here { self.new.here ≡ with_begun child born self.old.here }
         ensures ready { self.new.ready ≡ self.old.ready }
         ensures last { self.new.last ≡ self.old.last }
-        ensures limits { self.new.limits ≡ self.old.limits }
+        ensures duty { self.new.duty ≡ self.old.duty }
     {
         self.told = None;
         if let Some(key) = self.keys.get(&child.0) {
@@ -516,12 +627,12 @@ impl Residents {
 
     // A process that cannot move is not asked again before a letter comes to it.
     fn rest(&mut self, pid: u32)
-        requires stuck { is_stuck_at self.old.limits (pid_of pid) self.old.here ≡ true }
+        requires stuck { is_stuck_at self.old.duty (pid_of pid) self.old.here ≡ true }
         requires there { list_any (at_key pid) self.old.ready ≡ true }
         ensures here { self.new.here ≡ self.old.here }
         ensures fewer { length self.new.ready + 1 ≡ length self.old.ready }
         ensures last { self.new.last ≡ self.old.last }
-        ensures limits { self.new.limits ≡ self.old.limits }
+        ensures duty { self.new.duty ≡ self.old.duty }
     {
         self.ready.remove(&pid);
     }
@@ -530,7 +641,7 @@ impl Residents {
     fn choose(&mut self, pid: u32)
         ensures here { self.new.here ≡ self.old.here }
         ensures last { self.new.last ≡ pid }
-        ensures limits { self.new.limits ≡ self.old.limits }
+        ensures duty { self.new.duty ≡ self.old.duty }
     {
         self.last = pid;
     }
@@ -542,7 +653,7 @@ impl Residents {
         ensures ok { OnOk result (self.new.here ≡ with_letter letter.now self.old.here) }
         ensures err { OnErr result (self.new.here ≡ self.old.here) }
         ensures last { self.new.last ≡ self.old.last }
-        ensures limits { self.new.limits ≡ self.old.limits }
+        ensures duty { self.new.duty ≡ self.old.duty }
     {
         match letter.to {
             To::Proc(pid, _) => self.arrive(pid, letter),
@@ -556,7 +667,7 @@ impl Residents {
         ensures ok { OnOk result (self.new.here ≡ map (λ e. if same_pid pid e.0 then (e.0, arrived_held e.1 letter.now) else e) self.old.here) }
         ensures err { OnErr result (self.new.here ≡ self.old.here) }
         ensures last { self.new.last ≡ self.old.last }
-        ensures limits { self.new.limits ≡ self.old.limits }
+        ensures duty { self.new.duty ≡ self.old.duty }
     {
         match self.keys.get(&pid.0) {
             Some(key) => {
@@ -578,15 +689,27 @@ impl Residents {
         ensures ok { OnOk result (self.new.here ≡ with_born parent child self.old.here) }
         ensures err { OnErr result ((self.new.here ≡ self.old.here) ⊎ (self.new.here ≡ [])) }
         ensures last { OnOk result (self.new.last ≡ self.old.last) }
-        ensures limits { self.new.limits ≡ self.old.limits }
+        ensures duty { self.new.duty ≡ self.old.duty }
     {
         if let Some(born) = self.fork(alloc, parent, child)? {
-            let empty = Residents::none(alloc, self.limits);
-            let mut here = mem::replace(self, empty);
-            here.add(child, Resident::running(born))?;
-            *self = here;
+            if let Err(NoMemory) = self.add(child, Resident::running(born)) {
+                self.let_all_go(alloc);
+                return Err(NoMemory);
+            }
         }
         Ok(())
+    }
+
+    /// Lets all processes go. Takes no memory.
+    pub fn let_all_go(&mut self, alloc: Global)
+        ensures here { self.new.here ≡ [] }
+        ensures duty { self.new.duty ≡ self.old.duty }
+    {
+        self.told = None;
+        self.keys = BTreeMap::new(alloc);
+        self.residents = Slab::new(alloc);
+        self.ready = BTreeSet::new(alloc);
+        self.asking = BTreeSet::new(alloc);
     }
 
     // The process with a pid forks, if it runs here, and its child is handed over. After want of memory no process has changed.
@@ -595,7 +718,7 @@ impl Residents {
         ensures ok { IfOk result (λ born. ForksAt parent child self.old.here born self.new.here) }
         ensures err { OnErr result (self.new.here ≡ self.old.here) }
         ensures last { self.new.last ≡ self.old.last }
-        ensures limits { self.new.limits ≡ self.old.limits }
+        ensures duty { self.new.duty ≡ self.old.duty }
     {
         match self.keys.get(&parent.0) {
             Some(key) => {
@@ -622,7 +745,7 @@ impl Residents {
         ensures ok { OnOk result (self.new.here ≡ with_page_come pid index page.now self.old.here) }
         ensures err { OnErr result (self.new.here ≡ self.old.here) }
         ensures last { self.new.last ≡ self.old.last }
-        ensures limits { self.new.limits ≡ self.old.limits }
+        ensures duty { self.new.duty ≡ self.old.duty }
     {
         match self.keys.get(&pid.0) {
             Some(key) => {
@@ -646,7 +769,7 @@ impl Residents {
         ensures asks { IfSome result (λ r. AsksNext self.old.here self.new.here r.0 r.1) }
         ensures none { result ≡ None → (any_lacks self.old.here ≡ false) × (self.new.here ≡ self.old.here) }
         ensures last { self.new.last ≡ self.old.last }
-        ensures limits { self.new.limits ≡ self.old.limits }
+        ensures duty { self.new.duty ≡ self.old.duty }
     {
         'processes: while let Some(pid) = self.next_asking() {
             match self.ask_of(pid) {
@@ -671,7 +794,7 @@ impl Residents {
         ensures asks { AsksOf (pid_of pid) self.old.here result self.new.here }
         ensures asking { self.new.asking ≡ self.old.asking }
         ensures last { self.new.last ≡ self.old.last }
-        ensures limits { self.new.limits ≡ self.old.limits }
+        ensures duty { self.new.duty ≡ self.old.duty }
     {
         self.told = None;
         match self.keys.get(&pid) {
@@ -690,7 +813,7 @@ impl Residents {
         ensures here { self.new.here ≡ self.old.here }
         ensures fewer { length self.new.asking + 1 ≡ length self.old.asking }
         ensures last { self.new.last ≡ self.old.last }
-        ensures limits { self.new.limits ≡ self.old.limits }
+        ensures duty { self.new.duty ≡ self.old.duty }
     {
         self.asking.remove(&pid);
     }
@@ -726,7 +849,7 @@ impl Residents {
     pub fn let_go(&mut self, pid: Pid)
         ensures here { self.new.here ≡ filter (λ e. not (same_pid e.0 pid)) self.old.here }
         ensures last { self.new.last ≡ self.old.last }
-        ensures limits { self.new.limits ≡ self.old.limits }
+        ensures duty { self.new.duty ≡ self.old.duty }
     {
         if let Some(key) = self.keys.remove(&pid.0) {
             self.told = None;
@@ -739,7 +862,7 @@ impl Residents {
     /// Each process with its steps, by rising pid: None exactly where one of them can move or waits for a page. Where that is
     /// kept no process is asked.
     pub fn rests(&self, alloc: Global) -> Result<Option<Shared<List<(Pid, u64)>>>, NoMemory>
-        ensures rests { IfOk result (λ rests. rests ≡ (if are_settled self.now.limits self.now.here then Some (rests_in self.now.here) else None)) }
+        ensures rests { IfOk result (λ rests. rests ≡ (if are_settled self.now.duty self.now.here then Some (rests_in self.now.here) else None)) }
         ensures ordered { are_rising (pids_in self.now.here) ≡ true }
     {
         match &self.told {
@@ -760,7 +883,7 @@ impl Residents {
 
     // What they have to tell, where each is asked.
     fn settled(&self, alloc: Global) -> Result<Option<Shared<List<(Pid, u64)>>>, NoMemory>
-        ensures { IfOk result (λ rests. rests ≡ (if are_settled self.now.limits self.now.here then Some (rests_in self.now.here) else None)) }
+        ensures { IfOk result (λ rests. rests ≡ (if are_settled self.now.duty self.now.here then Some (rests_in self.now.here) else None)) }
     {
         match self.listed(alloc)? {
             Some(rests) => Ok(Some(Shared::new(alloc, rests)?)),
@@ -770,13 +893,13 @@ impl Residents {
 
     // The same as a list.
     fn listed(&self, alloc: Global) -> Result<Option<List<(Pid, u64)>>, NoMemory>
-        ensures { IfOk result (λ rests. rests ≡ (if are_settled self.now.limits self.now.here then Some (rests_in self.now.here) else None)) }
+        ensures { IfOk result (λ rests. rests ≡ (if are_settled self.now.duty self.now.here then Some (rests_in self.now.here) else None)) }
     {
         let mut rests = List::new(alloc);
         for (pid, key) in &self.keys {
             match self.residents.get(*key) {
                 Some(resident) => {
-                    if !is_settled(resident, self.limits) {
+                    if !self.is_settled(*pid, resident) {
                         return Ok(None);
                     }
                     rests.push((Pid(*pid), resident.steps()))?;
@@ -786,13 +909,6 @@ impl Residents {
         }
         Ok(Some(rests))
     }
-}
-
-// Whether a process can neither move nor waits for a page. Takes no memory.
-fn is_settled(resident: &Resident, limits: Limits) -> bool
-    ensures { result ≡ is_settled limits resident.now }
-{
-    !resident.can_act(limits) && !resident.waits()
 }
 
 // Drops the process in a slot, if there is one. Takes no memory.

@@ -18,9 +18,9 @@ use Rattle.log_laws.specs.births.Unsynced.{unsynced_births}
 use Rattle.log_laws.proofs.births.Filters.{passes_any}
 use Rattle.log_laws.proofs.births.FirstChild.{within_has}
 use Rattle.log_laws.proofs.births.UnsyncedChild.{lives_with_parent}
-use Rattle.cluster_core.specs.View.{ClusterView, held_at, limits_of}
-use Rattle.residents.specs.Held.{Held, Runs, Rolls, Waits, can_act, held_of}
-use Rattle.residents.specs.ChildrenFirst.{child_before, comes_after_children, has_turn, is_hindered, is_running, runs_at}
+use Rattle.cluster_core.specs.View.{ClusterView, held_at, limits_of, duty_by}
+use Rattle.residents.specs.Held.{Held, Runs, Rolls, Waits, can_act, held_of, is_running, runs_at}
+use Rattle.residents.specs.ChildrenFirst.{child_before, comes_after_children, has_turn, is_hindered}
 use Rattle.cluster_core.specs.Follows.{FollowsBuilt}
 use Rattle.residents.specs.Residents.{are_stuck, none_has_turn, pids_in}
 use Rattle.cluster_core.specs.Calls.{FollowsSome}
@@ -45,7 +45,7 @@ all_found t (e ∷ here) p h all there = by_test (same_pid e.0 p) refl there (al
         (λ i. t (pid_same p e.0 (sym (eqb-true (e.0).0 p.0 is)) i, sym same i)) ∙ parts.0
     by_test false is at more = more at
 
-module _ (c : ClusterView) (valid : is_system c.system ≡ true) (some : FollowsSome c) (none : none_has_turn (limits_of c.system) c.family c.here ≡ true) where
+module _ (c : ClusterView) (valid : is_system c.system ≡ true) (some : FollowsSome c) (none : none_has_turn (duty_by (limits_of c.system)) c.family c.here ≡ true) where
   abbrev limits : Limits
   limits = limits_of c.system
 
@@ -68,8 +68,8 @@ module _ (c : ClusterView) (valid : is_system c.system ≡ true) (some : Follows
       by_child : (process : Process) (h : Held) → held_at c p ≡ Some (Runs process) → held_at c x ≡ Some h → runs_at c.here x ≡ true
       by_child process (Runs q) at there = ap (λ o. option_map_or is_running o false) there
       by_child process (Rolls q counts births) at there =
-          let free : is_hindered limits c.family c.here x ≡ false = ap (λ o. option_map_or (λ (q : Pid). not (runs_at c.here q)) o false) (none_before limits c.family c.here x (Rolls q counts births) there refl) in
-          absurd (true≢false (sym (all_found (λ (e : Pid × Held). not (has_turn limits c.family c.here e)) c.here x (Rolls q counts births) none there) ∙ ap (λ b. not (true && not b)) free))
+          let free : is_hindered (duty_by limits) c.family c.here x ≡ false = ap (λ o. option_map_or (λ (q : Pid). not (runs_at c.here q)) o false) (none_before (duty_by limits) c.family c.here x (Rolls q counts births) there refl) in
+          absurd (true≢false (sym (all_found (λ (e : Pid × Held). not (has_turn (duty_by limits) c.family c.here e)) c.here x (Rolls q counts births) none there) ∙ ap (λ b. not (true && not b)) free))
       by_child process (Waits w) at there = absurd (true≢false (f.forks p x (Runs process) (Waits w) at there born))
 
       by_held : (h : Held) → held_at c p ≡ Some h → is_running h ≡ true → runs_at c.here x ≡ true
@@ -85,9 +85,9 @@ module _ (c : ClusterView) (valid : is_system c.system ≡ true) (some : Follows
       by_parent (Some h) at runs = by_held h at runs
 
   -- so is the one that is to come first
-  first_runs : (p child : Pid) → child_before limits c.family c.here p ≡ Some child → runs_at c.here child ≡ true
+  first_runs : (p child : Pid) → child_before (duty_by limits) c.family c.here p ≡ Some child → runs_at c.here child ≡ true
   first_runs p child is =
-      let b = before_is limits c.family c.here p child is in
+      let b = before_is (duty_by limits) c.family c.here p child is in
       within_has c.family (λ q. runs_at c.here q ≡ true) (λ q. runs_at c.here q ≡ true) (λ birth m runs. child_runs birth.0 birth.1 (passes_any (bears_by birth.0 birth.1) c.family birth m (and_from (same_pid birth.0 birth.0) (same_pid birth.1 birth.1) (same_itself birth.0) (same_itself birth.1))) runs)
       (λ q runs. runs) (length c.family) p child b.first (ap (λ o. option_map_or is_running o false) b.there ∙ runs b.held b.comes)
     where
@@ -95,23 +95,23 @@ module _ (c : ClusterView) (valid : is_system c.system ≡ true) (some : Follows
       runs (Runs process) comes = refl
       runs _ comes = absurd (true≢false (sym comes))
 
-  unhindered : (p : Pid) → is_hindered limits c.family c.here p ≡ false
-  unhindered p = by_child (child_before limits c.family c.here p) refl
+  unhindered : (p : Pid) → is_hindered (duty_by limits) c.family c.here p ≡ false
+  unhindered p = by_child (child_before (duty_by limits) c.family c.here p) refl
     where
-      by_child : (o : Option Pid) → child_before limits c.family c.here p ≡ o → option_map_or (λ (child : Pid). not (runs_at c.here child)) o false ≡ false
+      by_child : (o : Option Pid) → child_before (duty_by limits) c.family c.here p ≡ o → option_map_or (λ (child : Pid). not (runs_at c.here child)) o false ≡ false
       by_child None is = refl
       by_child (Some child) is = ap not (first_runs p child is)
 
-  stuck_of : (here : List (Pid × Held)) → list_all (λ (e : Pid × Held). not (has_turn limits c.family c.here e)) here ≡ true → are_stuck limits here ≡ true
+  stuck_of : (here : List (Pid × Held)) → list_all (λ (e : Pid × Held). not (has_turn (duty_by limits) c.family c.here e)) here ≡ true → are_stuck (duty_by limits) here ≡ true
   stuck_of [] all = refl
   stuck_of (e ∷ here) all =
-      let parts = and_parts (not (has_turn limits c.family c.here e)) (list_all (λ (e : Pid × Held). not (has_turn limits c.family c.here e)) here) all in
-      and_from (not (can_act limits e.1)) (are_stuck limits here) (one (can_act limits e.1) (is_hindered limits c.family c.here e.0) (unhindered e.0) parts.0) (stuck_of here parts.1)
+      let parts = and_parts (not (has_turn (duty_by limits) c.family c.here e)) (list_all (λ (e : Pid × Held). not (has_turn (duty_by limits) c.family c.here e)) here) all in
+      and_from (not (can_act limits e.1)) (are_stuck (duty_by limits) here) (one (can_act limits e.1) (is_hindered (duty_by limits) c.family c.here e.0) (unhindered e.0) parts.0) (stuck_of here parts.1)
     where
       one : (b h : Bool) → h ≡ false → not (b && not h) ≡ true → not b ≡ true
       one true true free is = absurd (true≢false free)
       one true false free is = is
       one false h free is = refl
 
-  pub none_moves : are_stuck limits c.here ≡ true
+  pub none_moves : are_stuck (duty_by limits) c.here ≡ true
   none_moves = stuck_of c.here none

@@ -19,6 +19,7 @@ use Rattle.quanta.specs.declared.limits.Limits.{Limits}
 use Rattle.residents.specs.Held.{Held, Runs, Rolls, Waits, arrived, arrived_held, held_of, next_number, asked_held, going_on, page_held, rolling_held, is_waiting}
 use Rattle.residents.specs.Changed.{with_changed}
 use Rattle.residents.specs.Residents.{are_stuck, is_stuck, HasRoom, are_settled, is_settled}
+use Rattle.cluster_core.specs.View.{duty_by}
 use Rattle.cluster_core.specs.Parts.{IsHeldOwn, IsOwn, WaitsOwn, AllOwn}
 use Rattle.cluster_core.specs.Calls.{are_at_rest, here_after, is_at_rest}
 use Rattle.residents.specs.Arriving.{with_page_come}
@@ -65,8 +66,8 @@ has_room cursor here own room p h there = by_held h (own_at cursor here p h own 
 -- ---- none of them can move
 
 -- who cannot move and does not wait for a page is at rest, since who can take a signal is due
-one_rest : (limits : Limits) (h : Held) → is_at_rest limits h ≡ is_settled limits h
-one_rest limits (Runs s) = alike (has_step (next_step (state_of s))) (can_take (state_of s)) (is_due_by s limits.reads limits.steps)
+one_rest : (limits : Limits) (p : Pid) (h : Held) → is_at_rest limits h ≡ is_settled (duty_by limits) (p, h)
+one_rest limits p (Runs s) = alike (has_step (next_step (state_of s))) (can_take (state_of s)) (is_due_by s limits.reads limits.steps)
   where
     alike : (a t b : Bool) → (not (a || t) && not (b || t)) ≡ (not (a || (b || t)) && true)
     alike true t b = refl
@@ -74,18 +75,18 @@ one_rest limits (Runs s) = alike (has_step (next_step (state_of s))) (can_take (
     alike false true false = refl
     alike false false true = refl
     alike false false false = refl
-one_rest limits _ = refl
+one_rest limits p _ = refl
 
-pub settled_rest : (limits : Limits) (here : List (Pid × Held)) → are_at_rest limits here ≡ are_settled limits here
+pub settled_rest : (limits : Limits) (here : List (Pid × Held)) → are_at_rest limits here ≡ are_settled (duty_by limits) here
 settled_rest limits [] = refl
-settled_rest limits (e ∷ here) = λ i. one_rest limits e.1 i && settled_rest limits here i
+settled_rest limits (e ∷ here) = λ i. one_rest limits e.0 e.1 i && settled_rest limits here i
 
 -- where none waits, who cannot move is at rest
-none_waits : (limits : Limits) (here : List (Pid × Held)) → any_waits here ≡ false → are_settled limits here ≡ are_stuck limits here
+none_waits : (limits : Limits) (here : List (Pid × Held)) → any_waits here ≡ false → are_settled (duty_by limits) here ≡ are_stuck (duty_by limits) here
 none_waits limits [] none = refl
 none_waits limits (e ∷ here) none =
     let parts = or_parts (is_waiting e.1) (any_waits here) none in
-    λ i. by_stuck (is_stuck limits e.1) (is_waiting e.1) parts.0 i && none_waits limits here parts.1 i
+    λ i. by_stuck (is_stuck (duty_by limits) e) (is_waiting e.1) parts.0 i && none_waits limits here parts.1 i
   where
     and_true : (a : Bool) → (a && true) ≡ a
     and_true true = refl
@@ -94,7 +95,7 @@ none_waits limits (e ∷ here) none =
     by_stuck : (a b : Bool) → b ≡ false → (a && not b) ≡ a
     by_stuck a b is = ap (λ b. a && not b) is ∙ and_true a
 
-pub stuck_rest : (limits : Limits) (here : List (Pid × Held)) → any_waits here ≡ false → are_at_rest limits here ≡ are_stuck limits here
+pub stuck_rest : (limits : Limits) (here : List (Pid × Held)) → any_waits here ≡ false → are_at_rest limits here ≡ are_stuck (duty_by limits) here
 stuck_rest limits here none = settled_rest limits here ∙ none_waits limits here none
 
 -- where one waits, not all rest

@@ -16,7 +16,7 @@ use Rattle.cert_sched.specs.Rests.{is_idle, is_idle_at}
 use Rattle.proc_state.specs.declared.process.Process.{Process}
 use Rattle.quanta.specs.declared.limits.Limits.{Limits}
 use Rattle.quanta.specs.Limited.{is_due}
-use Rattle.cluster_core.specs.View.{ClusterView, limits_of}
+use Rattle.cluster_core.specs.View.{ClusterView, limits_of, duty_by}
 use Rattle.residents.specs.Held.{Held, Runs, held_of, steps_of_held}
 use Rattle.bus_msg.specs.Places.{same_pid}
 use Rattle.cert_sched.proofs.RisingLaws.{NoTwo}
@@ -96,16 +96,16 @@ rests_told c ordered at_rest empty log now f = record {
 
 -- what a call answers that tells them
 pub told_rests : {E : Type 0} (c : ClusterView) (result : Result (Option (List (Pid × ℕ))) E) → AllOwn c.cursor c.here → are_rising (pids_in c.here) ≡ true
-    → IfOk result (λ rests. rests ≡ cond (are_settled (limits_of c.system) c.here) (Some (rests_in c.here)) None) → IfOk result (λ rests. IfSome rests (RestsIn c))
+    → IfOk result (λ rests. rests ≡ cond (are_settled (duty_by (limits_of c.system)) c.here) (Some (rests_in c.here)) None) → IfOk result (λ rests. IfSome rests (RestsIn c))
 told_rests c (Err e) own ordered told = tt
-told_rests c (Ok o) own ordered told = by_test (are_settled (limits_of c.system) c.here) refl told
+told_rests c (Ok o) own ordered told = by_test (are_settled (duty_by (limits_of c.system)) c.here) refl told
   where
-    by_test : (b : Bool) → are_settled (limits_of c.system) c.here ≡ b → o ≡ cond b (Some (rests_in c.here)) None → IfSome o (RestsIn c)
+    by_test : (b : Bool) → are_settled (duty_by (limits_of c.system)) c.here ≡ b → o ≡ cond b (Some (rests_in c.here)) None → IfSome o (RestsIn c)
     by_test true settled is = let P : Option (List (Pid × ℕ)) → Type 0 = λ o. IfSome o (RestsIn c) in subst P (sym is) (rests_told c ordered (settled_rest (limits_of c.system) c.here ∙ settled))
     by_test false settled is = let P : Option (List (Pid × ℕ)) → Type 0 = λ o. IfSome o (RestsIn c) in subst P (sym is) tt
 
 -- it answers so of the cluster
 pub answered_rests : {E : Type 0} (c : ClusterView) (result : Result (Option (List (Pid × ℕ))) E) → AllOwn c.cursor c.here
-    → IfOk result (λ rests. rests ≡ cond (are_settled (limits_of c.system) c.here) (Some (rests_in c.here)) None) → IfOk result (λ rests. rests ≡ cond (is_resting c) (Some (rests_of c)) None)
+    → IfOk result (λ rests. rests ≡ cond (are_settled (duty_by (limits_of c.system)) c.here) (Some (rests_in c.here)) None) → IfOk result (λ rests. rests ≡ cond (is_resting c) (Some (rests_of c)) None)
 answered_rests c (Err e) own told = tt
 answered_rests c (Ok o) own told = told ∙ ap (λ b. cond b (Some (rests_in c.here)) None) (sym (settled_rest (limits_of c.system) c.here))

@@ -19,7 +19,7 @@ use Rattle.residents.specs.declared.quantum.Forking.{Forking}
 use Rattle.residents.specs.declared.quantum.Quantum.TheVariants.{Moved as QuantumMoved, Sent as QuantumSent, Synced as QuantumSynced, Forks as QuantumForks}
 use Rattle.cluster_core.specs.declared.worked.Worked.{Worked}
 use Rattle.cluster_core.specs.declared.worked.Worked.TheVariants.{Moved, Queued, Waits, Rests}
-use Rattle.cluster_core.specs.View.{ClusterView, counted_once, held_at, limits_of, next_count}
+use Rattle.cluster_core.specs.View.{ClusterView, counted_once, held_at, limits_of, next_count, duty_by}
 use Rattle.residents.specs.Held.{Held, Runs, asked_held, can_act, held_of}
 use Rattle.plain_kernel.specs.Maps.{pid_of}
 use Rattle.residents.specs.Residents.{ChosenTurn, HasTurn, ResidentsView, SyncsChild, TakesTurn, none_has_turn}
@@ -88,7 +88,7 @@ pub record Works (c : ClusterView) (worked : Worked) (here : List (Pid × Held))
 
 module _ (c : ClusterView) (some : FollowsSome c) (empty : c.queue ≡ []) (own : AllOwn c.cursor c.here) (valid : is_system c.system ≡ true) (has : (c.number).0 < (c.system).clusters) where
   abbrev Took : Pid → Quantum → List (Pid × Held) → Type 0
-  Took pid quantum here = TakesTurn (limits_of c.system) c.number c.family pid c.here quantum here
+  Took pid quantum here = TakesTurn (duty_by (limits_of c.system)) c.number c.family pid c.here quantum here
 
   -- a new backup is queued
   handed : (post : Post) → IsNextStanding c.number c.places c.family c.here c.owed (Some post) → Works c Queued c.here c.server (post ∷ [])
@@ -194,16 +194,16 @@ module _ (c : ClusterView) (some : FollowsSome c) (empty : c.queue ≡ []) (own 
       let same : one.mid ≡ c.here = none_again pid one.made c.here one.mid one.again (one.ran).0 in
       let there : held_at c pid ≡ Some (Runs s.process) = ap (λ hs. held_of hs pid) (sym same) ∙ one.there ∙ ap Some s.old_is in
       let comes : comes_after_children (limits_of c.system) (Runs s.process) ≡ true = or_left (is_due (limits_of c.system) s.process) (is_exit (next_step (state_of s.process))) s.due in
-      let none : first_unsynced c.family pid ≡ None = sym (before_from (limits_of c.system) c.family c.here pid (Runs s.process) there comes) ∙ takes.alone in
+      let none : first_unsynced c.family pid ≡ None = sym (before_from (duty_by (limits_of c.system)) c.family c.here pid (Runs s.process) there comes) ∙ takes.alone in
       subst (Works c Queued here c.server) (sym s.posts_are)
       (batched pid acts.held pid s.process here nothing acts.there acts.acts there (inl s.due) none
       (λ log go f. record { children = synced_where_none c log f pid none; due = due_or_takes c.system s.process (not (has_state c.system log pid)) s.due })
       (one.here ∙ (λ i. with_changed pid (s.new_is i) (same i))))
 
   -- or the child that comes before it did
-  child_synced : (pid : Pid) (posts : List Post) (here : List (Pid × Held)) → OwesNothing c → SyncsChild (limits_of c.system) c.number c.family pid c.here posts here → Works c Queued here c.server posts
+  child_synced : (pid : Pid) (posts : List Post) (here : List (Pid × Held)) → OwesNothing c → SyncsChild (duty_by (limits_of c.system)) c.number c.family pid c.here posts here → Works c Queued here c.server posts
   child_synced pid posts here nothing syncs =
-      let b = before_is (limits_of c.system) c.family c.here pid syncs.child syncs.before in
+      let b = before_is (duty_by (limits_of c.system)) c.family c.here pid syncs.child syncs.before in
       let s = syncs.syncs in
       subst (Works c Queued here c.server) (sym s.posts_are)
       (batched pid b.held syncs.child s.process here nothing b.there (comes_acts (limits_of c.system) b.held b.comes) s.there (inr (pid, syncs.before))
@@ -242,17 +242,17 @@ module _ (c : ClusterView) (some : FollowsSome c) (empty : c.queue ≡ []) (own 
       record { goes_on = subst (GoesOn c) (sym whole) (goes_on_rested c); work = subst (WorkIs c worked) (sym whole) work; residents = own; own = refl; built = refl }
 
   -- a turn by the limits of the system is one of a process of the cluster
-  turn_here : (old new : ResidentsView) (quantum : Quantum) → old.limits ≡ limits_of c.system → old.here ≡ c.here → ChosenTurn c.number c.family old quantum new → HasTurn (limits_of c.system) c.number c.family (pid_of new.last) c.here quantum new.here
+  turn_here : (old new : ResidentsView) (quantum : Quantum) → old.duty ≡ duty_by (limits_of c.system) → old.here ≡ c.here → ChosenTurn c.number c.family old quantum new → HasTurn (duty_by (limits_of c.system)) c.number c.family (pid_of new.last) c.here quantum new.here
   turn_here old new quantum limits here turn =
-      subst (λ hs. HasTurn (limits_of c.system) c.number c.family (pid_of new.last) hs quantum new.here) here (subst (λ l. HasTurn l c.number c.family (pid_of new.last) old.here quantum new.here) limits turn.takes)
+      subst (λ hs. HasTurn (duty_by (limits_of c.system)) c.number c.family (pid_of new.last) hs quantum new.here) here (subst (λ l. HasTurn l c.number c.family (pid_of new.last) old.here quantum new.here) limits turn.takes)
 
   -- one that synchronised, itself or the child before it
-  either_synced : (pid : Pid) (posts : List Post) (here : List (Pid × Held)) → OwesNothing c → HasTurn (limits_of c.system) c.number c.family pid c.here (QuantumSynced posts) here → Works c Queued here c.server posts
+  either_synced : (pid : Pid) (posts : List Post) (here : List (Pid × Held)) → OwesNothing c → HasTurn (duty_by (limits_of c.system)) c.number c.family pid c.here (QuantumSynced posts) here → Works c Queued here c.server posts
   either_synced pid posts here nothing (inl takes) = took_synced pid posts here nothing takes
   either_synced pid posts here nothing (inr syncs) = child_synced pid posts here nothing syncs
 
   -- what runs next, where it owes nothing
-  runs : (old new : ResidentsView) (worked : Worked) (queue : List Post) → old.limits ≡ limits_of c.system → old.here ≡ c.here → OwesNothing c → RunsNext c.number c.places c.family old worked new queue → Works c worked new.here c.server queue
+  runs : (old new : ResidentsView) (worked : Worked) (queue : List Post) → old.duty ≡ duty_by (limits_of c.system) → old.here ≡ c.here → OwesNothing c → RunsNext c.number c.places c.family old worked new queue → Works c worked new.here c.server queue
   runs old new Moved queue limits here nothing turn =
       subst (Works c Moved new.here c.server) (sym turn.1) (took_moved (pid_of new.last) new.here nothing (turn_here old new QuantumMoved limits here turn.0))
   runs old new Queued queue limits here nothing (inl turn) =
@@ -263,21 +263,21 @@ module _ (c : ClusterView) (some : FollowsSome c) (empty : c.queue ≡ []) (own 
       subst (Works c Queued new.here c.server) (sym turn.2) (either_synced (pid_of new.last) turn.0 new.here nothing (turn_here old new (QuantumSynced turn.0) limits here turn.1))
   runs old new Waits queue limits here nothing turn =
       let same : new.here ≡ c.here = (turn.0).1 ∙ here in
-      let none : none_has_turn (limits_of c.system) c.family c.here ≡ true = (λ i. none_has_turn (sym limits i) c.family (sym here i)) ∙ (turn.0).0 in
+      let none : none_has_turn (duty_by (limits_of c.system)) c.family c.here ≡ true = (λ i. none_has_turn (sym limits i) c.family (sym here i)) ∙ (turn.0).0 in
       let stuck = none_moves c valid some none in
       subst (Works c Waits new.here c.server) (sym turn.2)
       (subst (λ hs. Works c Waits hs c.server []) (sym same) (still Waits (waited_work c valid empty own nothing stuck (ap any_waits (sym here) ∙ turn.1))))
   runs old new Rests queue limits here nothing turn =
       let same : new.here ≡ c.here = (turn.0).1 ∙ here in
-      let none : none_has_turn (limits_of c.system) c.family c.here ≡ true = (λ i. none_has_turn (sym limits i) c.family (sym here i)) ∙ (turn.0).0 in
+      let none : none_has_turn (duty_by (limits_of c.system)) c.family c.here ≡ true = (λ i. none_has_turn (sym limits i) c.family (sym here i)) ∙ (turn.0).0 in
       let unwaited : any_waits c.here ≡ false = ap any_waits (sym here) ∙ turn.1 in
       subst (Works c Rests new.here c.server) (sym turn.2) (subst (λ hs. Works c Rests hs c.server []) (sym same) (still Rests (rested_work c own nothing (none_moves c valid some none) unwaited)))
 
-  after_none : (old new : ResidentsView) (served : Option PagerState) (worked : Worked) (queue : List Post) → old.limits ≡ limits_of c.system → old.here ≡ c.here → c.owed ≡ [] → NoPages c.number c.places old c.server served → RunsNext c.number c.places c.family old worked new queue → Works c worked new.here served queue
+  after_none : (old new : ResidentsView) (served : Option PagerState) (worked : Worked) (queue : List Post) → old.duty ≡ duty_by (limits_of c.system) → old.here ≡ c.here → c.owed ≡ [] → NoPages c.number c.places old c.server served → RunsNext c.number c.places c.family old worked new queue → Works c worked new.here served queue
   after_none old new served worked queue limits here backed none turn =
       subst (λ server. Works c worked new.here server queue) (sym none.kept) (runs old new worked queue limits here (record { backed = backed; unowed = none.unowed; none = ap any_lacks (sym here) ∙ none.none }) turn)
 
-  queued : (old new : ResidentsView) (served : Option PagerState) (queue : List Post) → old.limits ≡ limits_of c.system → old.here ≡ c.here → c.owed ≡ []
+  queued : (old new : ResidentsView) (served : Option PagerState) (queue : List Post) → old.duty ≡ duty_by (limits_of c.system) → old.here ≡ c.here → c.owed ≡ []
       → QueuesAnswer c.number c.places old c.server new served queue ⊎ QueuesFetch c.number c.places old c.server new served queue ⊎ (NoPages c.number c.places old c.server served × RunsNext c.number c.places c.family old Queued new queue)
       → Works c Queued new.here served queue
   queued old new served queue limits here backed (inl answer) =
@@ -288,14 +288,14 @@ module _ (c : ClusterView) (some : FollowsSome c) (empty : c.queue ≡ []) (own 
       (subst (Works c Queued new.here c.server) (sym fetch.queue_is) (fetched backed new.here fetch.pid fetch.index fetch.unowed (subst (λ hs. AsksNext hs new.here fetch.pid fetch.index) here fetch.asks)))
   queued old new served queue limits here backed (inr (inr sent)) = after_none old new served Queued queue limits here backed sent.0 sent.1
 
-  unowed : (old new : ResidentsView) (served : Option PagerState) (worked : Worked) (queue : List Post) → old.limits ≡ limits_of c.system → old.here ≡ c.here → c.owed ≡ []
+  unowed : (old new : ResidentsView) (served : Option PagerState) (worked : Worked) (queue : List Post) → old.duty ≡ duty_by (limits_of c.system) → old.here ≡ c.here → c.owed ≡ []
       → WorksUnowed c.number c.places c.family old c.server worked new served queue → Works c worked new.here served queue
   unowed old new served Moved queue limits here backed on = after_none old new served Moved queue limits here backed on.0 on.1
   unowed old new served Queued queue limits here backed on = queued old new served queue limits here backed on
   unowed old new served Waits queue limits here backed on = after_none old new served Waits queue limits here backed on.0 on.1
   unowed old new served Rests queue limits here backed on = after_none old new served Rests queue limits here backed on.0 on.1
 
-  pub works : (old new : ResidentsView) (served : Option PagerState) (worked : Worked) (queue : List Post) → old.limits ≡ limits_of c.system → old.here ≡ c.here
+  pub works : (old new : ResidentsView) (served : Option PagerState) (worked : Worked) (queue : List Post) → old.duty ≡ duty_by (limits_of c.system) → old.here ≡ c.here
       → WorksOn c.number c.places c.family c.owed old c.server worked new served queue → Works c worked new.here served queue
   works old new served worked queue limits here (inl both) =
       let q = both.1 in

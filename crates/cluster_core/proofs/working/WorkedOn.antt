@@ -9,18 +9,18 @@ use Rattle.bus_msg.specs.declared.entry.Post.{Post}
 use Rattle.bus_msg.specs.Places.{Places}
 use Rattle.page_server.specs.Account.{PagerState}
 use Rattle.residents.specs.declared.quantum.Quantum.{Quantum}
-use Rattle.residents.specs.declared.quantum.Quantum.TheVariants.{Moved as QuantumMoved, Sent, Synced, Stuck, Forks}
+use Rattle.residents.specs.declared.quantum.Quantum.TheVariants.{Moved as QuantumMoved, Sent, Synced, Renewed, Stuck, Forks}
 use Rattle.cluster_core.specs.declared.worked.Worked.{Worked}
 use Rattle.cluster_core.specs.declared.worked.Worked.TheVariants.{Moved, Queued, Waits as IsWaiting, Rests}
 use Rattle.residents.specs.Residents.{ChosenTurn, HasTurn, ResidentsView, TurnIs, next_ready, none_has_turn, pids_able}
 use Rattle.cluster_core.specs.Work.{NoPages, RunsNext, WorksUnowed}
 use Rattle.residents.specs.Asking.{any_waits}
 
-module _ (k : ClusterNo) (family : List (Pid × Pid)) (a b new : ResidentsView) (limits : a.limits ≡ b.limits) (here : a.here ≡ b.here) (last : a.last ≡ b.last) where
+module _ (k : ClusterNo) (family : List (Pid × Pid)) (a b new : ResidentsView) (duty : a.duty ≡ b.duty) (here : a.here ≡ b.here) (last : a.last ≡ b.last) where
   chosen_from : (quantum : Quantum) → ChosenTurn k family a quantum new → ChosenTurn k family b quantum new
   chosen_from quantum t = record {
-    chosen = (λ i. next_ready (pids_able (sym limits i) family (sym here i)) (sym last i)) ∙ t.chosen;
-    takes = subst (λ hs. HasTurn b.limits k family (pid_of new.last) hs quantum new.here) here (subst (λ l. HasTurn l k family (pid_of new.last) a.here quantum new.here) limits t.takes);
+    chosen = (λ i. next_ready (pids_able (sym duty i) family (sym here i)) (sym last i)) ∙ t.chosen;
+    takes = subst (λ hs. HasTurn b.duty k family (pid_of new.last) hs quantum new.here) here (subst (λ d. HasTurn d k family (pid_of new.last) a.here quantum new.here) duty t.takes);
   }
 
   -- a turn is one of the processes that are here, whatever else is kept of them
@@ -28,8 +28,9 @@ module _ (k : ClusterNo) (family : List (Pid × Pid)) (a b new : ResidentsView) 
   turn_from (Ok QuantumMoved) t = chosen_from QuantumMoved t
   turn_from (Ok (Sent sending)) t = chosen_from (Sent sending) t
   turn_from (Ok (Synced posts)) t = chosen_from (Synced posts) t
+  turn_from (Ok (Renewed posts)) t = chosen_from (Renewed posts) t
   turn_from (Ok (Forks forking)) t = chosen_from (Forks forking) t
-  turn_from (Ok Stuck) t = ((λ i. none_has_turn (sym limits i) family (sym here i)) ∙ t.0, t.1 ∙ here, t.2 ∙ last)
+  turn_from (Ok Stuck) t = ((λ i. none_has_turn (sym duty i) family (sym here i)) ∙ t.0, t.1 ∙ here, t.2 ∙ last)
   turn_from (Err fault) t = t ∙ here
 
   next_from : (places : Places) (worked : Worked) (queue : List Post) → RunsNext k places family a worked new queue → RunsNext k places family b worked new queue

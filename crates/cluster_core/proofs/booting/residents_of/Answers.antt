@@ -20,7 +20,7 @@ loop-pid-preserved-in-Continue-branch-2 c =
     record {
       all = rw append_assoc (rw c.in-Some.ensures.steps at c.loop-pid.invariant.all);
       ordered = rw append_assoc ordered;
-      limits = c.in_ok-add.ensures.limits ∙ c.loop-pid.invariant.limits;
+      duty = c.in_ok-add.ensures.duty ∙ c.loop-pid.invariant.duty;
       own = subst (RunFrom (starts_in (c.loop-pid.yielded ++ e ∷ [])) c.args.number) (sym (c.in_ok-add.ensures.here ∙ ap (λ (h : Held). with_more (pid_of e.0) h c.loop-pid.here.here) c.running.ensures))
           (more_run c.args.number c.loop-pid.yielded e c.next.new.self c.loop-pid.here.here ordered c.loop-pid.invariant.own c.in_ok-process.process (sym c.is_pid_at.ensures ∙ c.if-is_pid_at.true) c.in_ok-process.ensures.state c.in_ok-process.ensures.fresh);
     }

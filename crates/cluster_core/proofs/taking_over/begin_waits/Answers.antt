@@ -15,9 +15,9 @@ records-init c =
     let items : c.from_vec-left.result.items ≡ c.args.moved = c.from_vec-left.ensures.items ∙ c.into_vec.ensures in
     record {
       rising = ap are_rising items ∙ c.requires.rising;
-      can = subst (λ rs. CanWait rs c.args.here.here) (sym items) c.requires.can;
-      limits = refl;
-      all = ap (λ rs. with_all_waiting rs c.args.here.here) items;
+      can = subst (λ rs. CanWait rs c.args.here.now.here) (sym items) c.requires.can;
+      duty = refl;
+      all = ap (λ rs. with_all_waiting rs c.args.here.now.here) items;
     }
 
 pub waiting_of-requires-clause-some : goal.waiting_of-requires-clause-some
@@ -48,7 +48,7 @@ records-preserved c =
     record {
       rising = others_rise r rest order;
       can = subst (λ hs. CanWait rest hs) (sym added) (others_wait r rest here (Waits (first_wait r)) order can);
-      limits = c.in_ok-add.ensures.limits ∙ inv.limits;
+      duty = c.in_ok-add.ensures.duty ∙ inv.duty;
       all = ap (with_all_waiting rest) added ∙ ap (λ rs. with_all_waiting rs here) (sym c.in-Some.ensures.items) ∙ inv.all;
     }
 

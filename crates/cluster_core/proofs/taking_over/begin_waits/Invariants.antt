@@ -8,7 +8,7 @@ abbrev pub invariant-records : goal.invariant-records
 invariant-records l = record {
   rising : are_rising (l.left).items ≡ true;
   can : CanWait (l.left).items l.here.here;
-  limits : l.here.limits ≡ l.fn.here.limits;
+  duty : l.here.duty ≡ l.fn.here.duty;
   all : with_all_waiting (l.left).items l.here.here ≡ with_all_waiting l.fn.moved l.fn.here.here;
 }
 

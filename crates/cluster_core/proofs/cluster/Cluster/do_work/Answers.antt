@@ -3,7 +3,7 @@ use Rattle.std.specs.List.{list_all}
 use Rattle.bus_msg.specs.declared.entry.Post.{Post}
 use Rattle.sys_text.specs.Valid.{is_system}
 use Rattle.cert_sched.specs.Losses.{is_from}
-use Rattle.cluster_core.specs.View.{ClusterView, limits_of}
+use Rattle.cluster_core.specs.View.{ClusterView, duty_by, limits_of}
 use Rattle.cluster_core.specs.Calls.{GoesOn, WorkIs}
 use Rattle.residents.specs.ForkingAgain.{CanForkAgain}
 use Rattle.cluster_core.specs.Parts.{AllOwn}
@@ -53,8 +53,8 @@ returns-clause-follows g c =
     let has = subst (λ (v : ClusterView). (v.number).0 < (v.system).clusters) c.self.view_is c.self.invariant.has in
     let valid = subst (λ (v : ClusterView). is_system v.system ≡ true) c.self.view_is c.self.invariant.valid in
     let on = subst (λ (v : ClusterView). WorksOn v.number v.places v.family v.owed c.self.inside.here v.server c.in_ok-worked.worked c.work_on.new.here c.work_on.new.server c.work_on.new.queue.items) c.self.view_is c.in_ok-worked.ensures.ok in
-    let limits = c.self.invariant.limits_are ∙ ap (λ (v : ClusterView). limits_of v.system) c.self.view_is in
-    let done = works old c.requires.follows c.requires.empty own valid has c.self.inside.here c.work_on.new.here c.work_on.new.server c.in_ok-worked.worked c.work_on.new.queue.items limits (ap (λ (v : ClusterView). v.here) c.self.view_is) on in
+    let duty = c.self.invariant.duty_are ∙ ap (λ (v : ClusterView). duty_by (limits_of v.system)) c.self.view_is in
+    let done = works old c.requires.follows c.requires.empty own valid has c.self.inside.here c.work_on.new.here c.work_on.new.server c.in_ok-worked.worked c.work_on.new.queue.items duty (ap (λ (v : ClusterView). v.here) c.self.view_is) on in
     let whole : c.count_step.new.self ≡ worked_view old c.work_on.new.here.here c.work_on.new.server c.work_on.new.queue.items =
     c.count_step.ensures ∙ ap (λ (v : ClusterView). worked_view v c.work_on.new.here.here c.work_on.new.server c.work_on.new.queue.items) c.self.view_is in
     subst (GoesOn old) (sym whole) done.goes_on
@@ -66,8 +66,8 @@ returns-clause-work g c =
     let has = subst (λ (v : ClusterView). (v.number).0 < (v.system).clusters) c.self.view_is c.self.invariant.has in
     let valid = subst (λ (v : ClusterView). is_system v.system ≡ true) c.self.view_is c.self.invariant.valid in
     let on = subst (λ (v : ClusterView). WorksOn v.number v.places v.family v.owed c.self.inside.here v.server c.in_ok-worked.worked c.work_on.new.here c.work_on.new.server c.work_on.new.queue.items) c.self.view_is c.in_ok-worked.ensures.ok in
-    let limits = c.self.invariant.limits_are ∙ ap (λ (v : ClusterView). limits_of v.system) c.self.view_is in
-    let done = works old c.requires.follows c.requires.empty own valid has c.self.inside.here c.work_on.new.here c.work_on.new.server c.in_ok-worked.worked c.work_on.new.queue.items limits (ap (λ (v : ClusterView). v.here) c.self.view_is) on in
+    let duty = c.self.invariant.duty_are ∙ ap (λ (v : ClusterView). duty_by (limits_of v.system)) c.self.view_is in
+    let done = works old c.requires.follows c.requires.empty own valid has c.self.inside.here c.work_on.new.here c.work_on.new.server c.in_ok-worked.worked c.work_on.new.queue.items duty (ap (λ (v : ClusterView). v.here) c.self.view_is) on in
     let whole : c.count_step.new.self ≡ worked_view old c.work_on.new.here.here c.work_on.new.server c.work_on.new.queue.items =
     c.count_step.ensures ∙ ap (λ (v : ClusterView). worked_view v c.work_on.new.here.here c.work_on.new.server c.work_on.new.queue.items) c.self.view_is in
     subst (WorkIs old c.in_ok-worked.worked) (sym whole) done.work
@@ -79,12 +79,12 @@ invariant_of-self-2 g c =
     let has = subst (λ (v : ClusterView). (v.number).0 < (v.system).clusters) c.self.view_is c.self.invariant.has in
     let valid = subst (λ (v : ClusterView). is_system v.system ≡ true) c.self.view_is c.self.invariant.valid in
     let on = subst (λ (v : ClusterView). WorksOn v.number v.places v.family v.owed c.self.inside.here v.server c.in_ok-worked.worked c.work_on.new.here c.work_on.new.server c.work_on.new.queue.items) c.self.view_is c.in_ok-worked.ensures.ok in
-    let limits = c.self.invariant.limits_are ∙ ap (λ (v : ClusterView). limits_of v.system) c.self.view_is in
-    let done = works old c.requires.follows c.requires.empty own valid has c.self.inside.here c.work_on.new.here c.work_on.new.server c.in_ok-worked.worked c.work_on.new.queue.items limits (ap (λ (v : ClusterView). v.here) c.self.view_is) on in
+    let duty = c.self.invariant.duty_are ∙ ap (λ (v : ClusterView). duty_by (limits_of v.system)) c.self.view_is in
+    let done = works old c.requires.follows c.requires.empty own valid has c.self.inside.here c.work_on.new.here c.work_on.new.server c.in_ok-worked.worked c.work_on.new.queue.items duty (ap (λ (v : ClusterView). v.here) c.self.view_is) on in
     record {
       valid = c.self.invariant.valid;
       has = c.self.invariant.has;
-      limits_are = c.work_on.ensures.limits ∙ c.self.invariant.limits_are;
+      duty_are = c.work_on.ensures.duty ∙ c.self.invariant.duty_are;
       residents = subst (λ (v : ClusterView). AllOwn v.cursor c.work_on.new.here.here) (sym c.self.view_is) done.residents;
       own = subst (λ (v : ClusterView). list_all (λ (post : Post). is_from v.number post.by) c.work_on.new.queue.items ≡ true) (sym c.self.view_is) done.own;
       built = done.built;

@@ -84,7 +84,7 @@ pub invariant_of-self-in_err-tell : goal.invariant_of-self-in_err-tell
 invariant_of-self-in_err-tell g c = record {
   valid = c.self.invariant.valid;
   has = c.self.invariant.has;
-  limits_are = c.tell.ensures.limits ∙ c.self.invariant.limits_are;
+  duty_are = c.tell.ensures.duty ∙ c.self.invariant.duty_are;
   residents = own_either c.self.inside.cursor c.self.inside.here.here c.tell.new.here.here c.self.invariant.residents c.in_err-tell.ensures.err;
   own = c.self.invariant.own;
   built = c.self.invariant.built;
@@ -99,7 +99,7 @@ invariant_of-self-in_err-take_over g c =
     record {
       valid = c.self.invariant.valid;
       has = c.self.invariant.has;
-      limits_are = c.take_over.ensures.limits ∙ c.tell.ensures.limits ∙ c.self.invariant.limits_are;
+      duty_are = c.take_over.ensures.duty ∙ c.tell.ensures.duty ∙ c.self.invariant.duty_are;
       residents = own_either (c.self.inside.cursor + 1) c.tell.new.here.here c.take_over.new.here.here (subst (AllOwn (c.self.inside.cursor + 1)) (sym c.in_ok-tell.ensures.ok) told) c.in_err-take_over.ensures.err;
       own = subst (λ posts. list_all (λ (post : Post). is_from c.self.inside.number post.by) posts ≡ true) (sym c.drop_fallen.ensures) (left_all (λ (post : Post). is_from c.self.inside.number post.by) c.self.inside.places w c.self.inside.queue.items c.self.invariant.own);
       built = subst (λ posts. list_all (λ (post : Post). is_sent post.what) posts ≡ true) (sym c.drop_fallen.ensures) (left_all (λ (post : Post). is_sent post.what) c.self.inside.places w c.self.inside.queue.items c.self.invariant.built);
@@ -122,7 +122,7 @@ invariant_of-self-in_err-absorb g c =
     record {
       valid = c.self.invariant.valid;
       has = c.self.invariant.has;
-      limits_are = c.take_over.ensures.limits ∙ c.tell.ensures.limits ∙ c.self.invariant.limits_are;
+      duty_are = c.take_over.ensures.duty ∙ c.tell.ensures.duty ∙ c.self.invariant.duty_are;
       residents = subst (AllOwn (c.self.inside.cursor + 1)) (sym here) mine;
       own = subst (λ posts. list_all (λ (post : Post). is_from c.self.inside.number post.by) posts ≡ true) (sym c.drop_fallen.ensures) (left_all (λ (post : Post). is_from c.self.inside.number post.by) c.self.inside.places w c.self.inside.queue.items c.self.invariant.own);
       built = subst (λ posts. list_all (λ (post : Post). is_sent post.what) posts ≡ true) (sym c.drop_fallen.ensures) (left_all (λ (post : Post). is_sent post.what) c.self.inside.places w c.self.inside.queue.items c.self.invariant.built);
@@ -145,7 +145,7 @@ invariant_of-self-2 g c =
     record {
       valid = c.self.invariant.valid;
       has = c.self.invariant.has;
-      limits_are = c.take_over.ensures.limits ∙ c.tell.ensures.limits ∙ c.self.invariant.limits_are;
+      duty_are = c.take_over.ensures.duty ∙ c.tell.ensures.duty ∙ c.self.invariant.duty_are;
       residents = subst (AllOwn (c.self.inside.cursor + 1)) (sym here) mine;
       own = subst (λ posts. list_all (λ (post : Post). is_from c.self.inside.number post.by) posts ≡ true) (sym c.drop_fallen.ensures) (left_all (λ (post : Post). is_from c.self.inside.number post.by) c.self.inside.places w c.self.inside.queue.items c.self.invariant.own);
       built = subst (λ posts. list_all (λ (post : Post). is_sent post.what) posts ≡ true) (sym c.drop_fallen.ensures) (left_all (λ (post : Post). is_sent post.what) c.self.inside.places w c.self.inside.queue.items c.self.invariant.built);

@@ -8,5 +8,5 @@ use Rattle.residents.proofs.residents.Residents.any_waits.Given as goal
 abbrev pub invariant-loop-key : goal.invariant-loop-key
 invariant-loop-key l = record {
   same : any_waits (stands_in l.self-inside.residents l.key-iterator) ≡ any_waits (stands_in l.self-inside.residents l.self-inside.keys.entries);
-  each : AllByRecursion (IsSlot l.self-inside.limits l.self-inside.residents l.self-inside.ready.keys l.self-inside.asking.keys) l.key-iterator;
+  each : AllByRecursion (IsSlot l.self-inside.duty l.self-inside.residents l.self-inside.ready.keys l.self-inside.asking.keys) l.key-iterator;
 }

@@ -34,14 +34,14 @@ unreachable-requires-in-None c =
     (ap is_some (sym (nobody_held c.self.inside.residents c.args.pid c.self.inside.keys.entries (no_entry c.args.pid c.self.inside.keys.entries (sym c.in-None.ensures.value))) ∙ ap (λ (v : ResidentsView). held_of v.here (pid_of c.args.pid)) c.self.view_is ∙ stood.there))
 
 pub unreachable-requires : goal.unreachable-requires
-unreachable-requires c = never_empty c.self.inside.limits c.self.inside.residents c.args.pid c.in-Some.key.now c.self.inside.keys.entries c.self.inside.ready.keys c.self.inside.asking.keys c.self.invariant.0 (sym c.in-Some.ensures.value) (sym c.in-None-get_mut.ensures.value)
+unreachable-requires c = never_empty c.self.inside.duty c.self.inside.residents c.args.pid c.in-Some.key.now c.self.inside.keys.entries c.self.inside.ready.keys c.self.inside.asking.keys c.self.invariant.0 (sym c.in-Some.ensures.value) (sym c.in-None-get_mut.ensures.value)
 
 pub invariant_of-self : goal.invariant_of-self
 invariant_of-self c = (
-  kept_written c.self.inside.limits c.self.inside.residents (with_value c.self.inside.residents c.in-Some.key.now c.fork_again.new.self) c.args.pid c.in-Some.key.now c.fork_again.new.self c.self.inside.keys.entries c.self.inside.ready.keys c.self.inside.asking.keys
+  kept_written c.self.inside.duty c.self.inside.residents (with_value c.self.inside.residents c.in-Some.key.now c.fork_again.new.self) c.args.pid c.in-Some.key.now c.fork_again.new.self c.self.inside.keys.entries c.self.inside.ready.keys c.self.inside.asking.keys
       (λ acts. ap (λ (v : ResidentsView). list_any (at_key c.args.pid) v.ready) c.self.view_is ∙ c.requires.ready)
       (λ some.
-      lacks_listed c.self.inside.limits c.self.inside.residents c.self.inside.ready.keys c.self.inside.asking.keys c.args.pid c.in-Some.key.now c.in-Some-get_mut.resident.now c.self.inside.keys.entries (sym c.in-Some.ensures.value) (sym c.in-Some-get_mut.ensures.value) (c.self.invariant.0).each
+      lacks_listed c.self.inside.duty c.self.inside.residents c.self.inside.ready.keys c.self.inside.asking.keys c.args.pid c.in-Some.key.now c.in-Some-get_mut.resident.now c.self.inside.keys.entries (sym c.in-Some.ensures.value) (sym c.in-Some-get_mut.ensures.value) (c.self.invariant.0).each
       (forked_again_lacks c.args.made c.in-Some-get_mut.resident.now c.fork_again.new.self c.fork_again.result c.fork_again.ensures.ok c.fork_again.ensures.err some))
       (sym c.in-Some.ensures.value)
       (Updates-with_value c.self.inside.residents c.in-Some.key.now c.fork_again.new.self (ap is_some (sym c.in-Some-get_mut.ensures.value))) c.self.invariant.0,
@@ -50,7 +50,7 @@ invariant_of-self c = (
 
 pub returns-clause-ok : goal.returns-clause-ok
 returns-clause-ok c =
-    bears_at c.self.inside.limits c.self.inside.residents (with_value c.self.inside.residents c.in-Some.key.now c.fork_again.new.self) c.args.pid c.in-Some.key.now c.self.inside.keys.entries c.self.inside.ready.keys c.self.inside.asking.keys c.in-Some-get_mut.resident.now c.fork_again.new.self
+    bears_at c.self.inside.duty c.self.inside.residents (with_value c.self.inside.residents c.in-Some.key.now c.fork_again.new.self) c.args.pid c.in-Some.key.now c.self.inside.keys.entries c.self.inside.ready.keys c.self.inside.asking.keys c.in-Some-get_mut.resident.now c.fork_again.new.self
     c.args.self.now.here c.self.invariant.0 (sym c.in-Some.ensures.value) (sym c.in-Some-get_mut.ensures.value)
     (Updates-with_value c.self.inside.residents c.in-Some.key.now c.fork_again.new.self (ap is_some (sym c.in-Some-get_mut.ensures.value))) (ap (λ (v : ResidentsView). v.here) c.self.view_is) c.args.made c.fork_again.result c.fork_again.ensures.ok
 

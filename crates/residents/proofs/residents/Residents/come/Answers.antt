@@ -15,24 +15,24 @@ come-requires c =
     (ap (λ (v : ResidentsView). held_of v.here c.args.pid) (sym c.self.view_is) ∙ process_there c.self.inside.residents (c.args.pid).0 c.in-Some.key.now c.in-Some-get_mut.resident.now c.self.inside.keys.entries (sym c.in-Some.ensures.value) (sym c.in-Some-get_mut.ensures.value))
 
 pub unreachable-requires : goal.unreachable-requires
-unreachable-requires c = never_empty c.self.inside.limits c.self.inside.residents (c.args.pid).0 c.in-Some.key.now c.self.inside.keys.entries c.self.inside.ready.keys c.self.inside.asking.keys c.self.invariant.0 (sym c.in-Some.ensures.value) (sym c.in-None-get_mut.ensures.value)
+unreachable-requires c = never_empty c.self.inside.duty c.self.inside.residents (c.args.pid).0 c.in-Some.key.now c.self.inside.keys.entries c.self.inside.ready.keys c.self.inside.asking.keys c.self.invariant.0 (sym c.in-Some.ensures.value) (sym c.in-None-get_mut.ensures.value)
 
 pub invariant_of-self-in-Some : goal.invariant_of-self-in-Some
 invariant_of-self-in-Some c = (
-  kept_written c.self.inside.limits c.self.inside.residents (with_value c.self.inside.residents c.in-Some.key.now c.come.new.self) (c.args.pid).0 c.in-Some.key.now c.come.new.self c.self.inside.keys.entries c.insert.new.self.keys c.self.inside.asking.keys
+  kept_written c.self.inside.duty c.self.inside.residents (with_value c.self.inside.residents c.in-Some.key.now c.come.new.self) (c.args.pid).0 c.in-Some.key.now c.come.new.self c.self.inside.keys.entries c.insert.new.self.keys c.self.inside.asking.keys
       (λ acts. c.in_ok-insert-in-Some.ensures.updates.1)
       (λ some.
-      lacks_listed c.self.inside.limits c.self.inside.residents c.self.inside.ready.keys c.self.inside.asking.keys (c.args.pid).0 c.in-Some.key.now c.in-Some-get_mut.resident.now c.self.inside.keys.entries (sym c.in-Some.ensures.value) (sym c.in-Some-get_mut.ensures.value) (c.self.invariant.0).each
+      lacks_listed c.self.inside.duty c.self.inside.residents c.self.inside.ready.keys c.self.inside.asking.keys (c.args.pid).0 c.in-Some.key.now c.in-Some-get_mut.resident.now c.self.inside.keys.entries (sym c.in-Some.ensures.value) (sym c.in-Some-get_mut.ensures.value) (c.self.invariant.0).each
       (come_lacks c.args.index c.args.page.now c.in-Some-get_mut.resident.now (ap (λ (h : Held). is_some (page_lacked h)) (sym c.come.ensures) ∙ some)))
       (sym c.in-Some.ensures.value)
       (Updates-with_value c.self.inside.residents c.in-Some.key.now c.come.new.self (ap is_some (sym c.in-Some-get_mut.ensures.value)))
-      (ready_put c.self.inside.limits c.self.inside.residents c.self.inside.keys.entries (c.args.pid).0 c.self.inside.ready.keys c.insert.new.self.keys c.self.inside.asking.keys c.in_ok-insert-in-Some.ensures.updates.0 c.self.invariant.0),
+      (ready_put c.self.inside.duty c.self.inside.residents c.self.inside.keys.entries (c.args.pid).0 c.self.inside.ready.keys c.insert.new.self.keys c.self.inside.asking.keys c.in_ok-insert-in-Some.ensures.updates.0 c.self.invariant.0),
   tt,
 )
 
 pub returns-in-Some-get_mut-clause-ok : goal.returns-in-Some-get_mut-clause-ok
 returns-in-Some-get_mut-clause-ok c =
-    page_comes c.self.inside.limits c.self.inside.residents (with_value c.self.inside.residents c.in-Some.key.now c.come.new.self) (c.args.pid).0 c.in-Some.key.now c.args.index c.args.page.now c.in-Some-get_mut.resident.now c.come.new.self c.self.inside.keys.entries c.self.inside.ready.keys
+    page_comes c.self.inside.duty c.self.inside.residents (with_value c.self.inside.residents c.in-Some.key.now c.come.new.self) (c.args.pid).0 c.in-Some.key.now c.args.index c.args.page.now c.in-Some-get_mut.resident.now c.come.new.self c.self.inside.keys.entries c.self.inside.ready.keys
     c.self.inside.asking.keys c.args.self.now.here c.self.invariant.0 (sym c.in-Some.ensures.value) (sym c.in-Some-get_mut.ensures.value)
     (Updates-with_value c.self.inside.residents c.in-Some.key.now c.come.new.self (ap is_some (sym c.in-Some-get_mut.ensures.value)))
     (ap (λ (v : ResidentsView). v.here) c.self.view_is) c.come.ensures

@@ -7,7 +7,7 @@ use Rattle.residents.proofs.residents.Residents.has_asked.Goals as goal
 
 pub invariant_of-self : goal.invariant_of-self
 invariant_of-self c = (
-  kept_asked c.self.inside.limits c.self.inside.residents c.args.pid c.self.inside.keys.entries c.self.inside.ready.keys c.self.inside.asking.keys c.remove.new.self.keys
+  kept_asked c.self.inside.duty c.self.inside.residents c.args.pid c.self.inside.keys.entries c.self.inside.ready.keys c.self.inside.asking.keys c.remove.new.self.keys
       (ap (λ (v : ResidentsView). lacks_none_at (pid_of c.args.pid) v.here) c.self.view_is ∙ c.requires.lacks) (λ q other. c.remove.ensures.updates.2 q other) c.self.invariant.0,
   c.self.invariant.1,
 )

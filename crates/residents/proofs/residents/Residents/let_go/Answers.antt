@@ -11,8 +11,8 @@ use Rattle.residents.proofs.residents.Residents.let_go.Goals as goal
 
 pub invariant_of-self : goal.invariant_of-self
 invariant_of-self c = (
-  subst (λ (es : List (ℕ × ℕ)). IsKept c.self.inside.limits c.clear.new.residents es c.remove-in-Some.new.self.keys c.remove-in-Some-2.new.self.keys) (sym c.remove.ensures.entries)
-      (kept_gone c.self.inside.limits c.self.inside.residents c.clear.new.residents (c.args.pid).0 c.in-Some.key c.self.inside.keys.entries c.self.inside.ready.keys c.remove-in-Some.new.self.keys c.self.inside.asking.keys c.remove-in-Some-2.new.self.keys
+  subst (λ (es : List (ℕ × ℕ)). IsKept c.self.inside.duty c.clear.new.residents es c.remove-in-Some.new.self.keys c.remove-in-Some-2.new.self.keys) (sym c.remove.ensures.entries)
+      (kept_gone c.self.inside.duty c.self.inside.residents c.clear.new.residents (c.args.pid).0 c.in-Some.key c.self.inside.keys.entries c.self.inside.ready.keys c.remove-in-Some.new.self.keys c.self.inside.asking.keys c.remove-in-Some-2.new.self.keys
       (sym c.in-Some.ensures.value) c.clear.ensures (λ q other. c.remove-in-Some.ensures.updates.2 q other) (λ q other. c.remove-in-Some-2.ensures.updates.2 q other)
       (subst (λ (es : List (ℕ × ℕ)). IsStrictlySortedBy nat_cmp (map (λ (e : ℕ × ℕ). e.0) es)) c.remove.ensures.entries c.remove.ensures.ordered) c.self.invariant.0),
   tt,
@@ -21,7 +21,7 @@ invariant_of-self c = (
 pub returns-in-Some-clause-here : goal.returns-in-Some-clause-here
 returns-in-Some-clause-here c =
     ap (stands_in c.clear.new.residents) c.remove.ensures.entries
-    ∙ goes c.self.inside.limits c.self.inside.residents c.clear.new.residents (c.args.pid).0 c.in-Some.key c.self.inside.keys.entries c.self.inside.ready.keys c.self.inside.asking.keys c.self.invariant.0 (sym c.in-Some.ensures.value) c.clear.ensures
+    ∙ goes c.self.inside.duty c.self.inside.residents c.clear.new.residents (c.args.pid).0 c.in-Some.key c.self.inside.keys.entries c.self.inside.ready.keys c.self.inside.asking.keys c.self.invariant.0 (sym c.in-Some.ensures.value) c.clear.ensures
     ∙ ap (λ (v : ResidentsView). filter (λ e. not (same_pid e.0 c.args.pid)) v.here) c.self.view_is
 
 pub returns-in_default-clause-here : goal.returns-in_default-clause-here

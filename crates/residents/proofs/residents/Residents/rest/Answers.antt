@@ -7,8 +7,8 @@ use Rattle.residents.proofs.residents.Residents.rest.Goals as goal
 
 pub invariant_of-self : goal.invariant_of-self
 invariant_of-self c = (
-  kept_resting c.self.inside.limits c.self.inside.residents c.args.pid c.self.inside.keys.entries c.self.inside.ready.keys c.remove.new.self.keys c.self.inside.asking.keys
-      (ap (λ (v : ResidentsView). is_stuck_at v.limits (pid_of c.args.pid) v.here) c.self.view_is ∙ c.requires.stuck) (λ q other. c.remove.ensures.updates.2 q other) c.self.invariant.0,
+  kept_resting c.self.inside.duty c.self.inside.residents c.args.pid c.self.inside.keys.entries c.self.inside.ready.keys c.remove.new.self.keys c.self.inside.asking.keys
+      (ap (λ (v : ResidentsView). is_stuck_at v.duty (pid_of c.args.pid) v.here) c.self.view_is ∙ c.requires.stuck) (λ q other. c.remove.ensures.updates.2 q other) c.self.invariant.0,
   c.self.invariant.1,
 )
 

@@ -23,5 +23,5 @@ parts-preserved c =
       ready = c.in-Ok.ensures.ready;
       same = λ none. absurd (omega (arith, none, some));
       last = c.in-Ok.ensures.last ∙ c.parts.invariant.last;
-      limits = c.in-Ok.ensures.limits ∙ c.parts.invariant.limits;
+      limits = c.in-Ok.ensures.duty ∙ c.parts.invariant.limits;
     }

@@ -13,7 +13,7 @@ invariant-parts l = record {
   ready : list_any (at_key l.pid) l.self.ready ≡ true;
   same : l.made ≡ 0 → l.self.ready ≡ l.fn.self.ready;
   last : l.self.last ≡ l.fn.self.last;
-  limits : l.self.limits ≡ l.fn.self.limits;
+  limits : l.self.duty ≡ l.fn.self.duty;
 }
 
 abbrev pub decreases-parts : goal.decreases-parts

@@ -10,14 +10,14 @@ use Rattle.residents.proofs.RollingSlots.{no_steps_at, rolled_lacks, steps_at}
 use Rattle.residents.proofs.residents.Residents.roll_steps.Goals as goal
 
 pub unreachable-requires : goal.unreachable-requires
-unreachable-requires c = never_empty c.self.inside.limits c.self.inside.residents c.args.pid c.in-Some.key.now c.self.inside.keys.entries c.self.inside.ready.keys c.self.inside.asking.keys c.self.invariant.0 (sym c.in-Some.ensures.value) (sym c.in-None-get_mut.ensures.value)
+unreachable-requires c = never_empty c.self.inside.duty c.self.inside.residents c.args.pid c.in-Some.key.now c.self.inside.keys.entries c.self.inside.ready.keys c.self.inside.asking.keys c.self.invariant.0 (sym c.in-Some.ensures.value) (sym c.in-None-get_mut.ensures.value)
 
 pub invariant_of-self : goal.invariant_of-self
 invariant_of-self c = (
-  kept_written c.self.inside.limits c.self.inside.residents (with_value c.self.inside.residents c.in-Some.key.now c.roll.new.self) c.args.pid c.in-Some.key.now c.roll.new.self c.self.inside.keys.entries c.self.inside.ready.keys c.self.inside.asking.keys
+  kept_written c.self.inside.duty c.self.inside.residents (with_value c.self.inside.residents c.in-Some.key.now c.roll.new.self) c.args.pid c.in-Some.key.now c.roll.new.self c.self.inside.keys.entries c.self.inside.ready.keys c.self.inside.asking.keys
       (λ acts. ap (λ (v : ResidentsView). list_any (at_key c.args.pid) v.ready) c.self.view_is ∙ c.requires.ready)
       (λ some.
-      lacks_listed c.self.inside.limits c.self.inside.residents c.self.inside.ready.keys c.self.inside.asking.keys c.args.pid c.in-Some.key.now c.in-Some-get_mut.resident.now c.self.inside.keys.entries (sym c.in-Some.ensures.value) (sym c.in-Some-get_mut.ensures.value) (c.self.invariant.0).each
+      lacks_listed c.self.inside.duty c.self.inside.residents c.self.inside.ready.keys c.self.inside.asking.keys c.args.pid c.in-Some.key.now c.in-Some-get_mut.resident.now c.self.inside.keys.entries (sym c.in-Some.ensures.value) (sym c.in-Some-get_mut.ensures.value) (c.self.invariant.0).each
       (rolled_lacks c.args.most c.in-Some-get_mut.resident.now c.roll.new.self c.roll.result c.roll.ensures.ok c.roll.ensures.err some))
       (sym c.in-Some.ensures.value)
       (Updates-with_value c.self.inside.residents c.in-Some.key.now c.roll.new.self (ap is_some (sym c.in-Some-get_mut.ensures.value))) c.self.invariant.0,
@@ -26,7 +26,7 @@ invariant_of-self c = (
 
 pub returns-in-Some-get_mut-clause-ok : goal.returns-in-Some-get_mut-clause-ok
 returns-in-Some-get_mut-clause-ok c =
-    steps_at c.self.inside.limits c.self.inside.residents (with_value c.self.inside.residents c.in-Some.key.now c.roll.new.self) c.args.pid c.in-Some.key.now c.self.inside.keys.entries c.self.inside.ready.keys c.self.inside.asking.keys c.in-Some-get_mut.resident.now c.roll.new.self
+    steps_at c.self.inside.duty c.self.inside.residents (with_value c.self.inside.residents c.in-Some.key.now c.roll.new.self) c.args.pid c.in-Some.key.now c.self.inside.keys.entries c.self.inside.ready.keys c.self.inside.asking.keys c.in-Some-get_mut.resident.now c.roll.new.self
     c.args.self.now.here c.self.invariant.0 (sym c.in-Some.ensures.value) (sym c.in-Some-get_mut.ensures.value)
     (Updates-with_value c.self.inside.residents c.in-Some.key.now c.roll.new.self (ap is_some (sym c.in-Some-get_mut.ensures.value))) (ap (λ (v : ResidentsView). v.here) c.self.view_is) c.args.most c.roll.result c.roll.ensures.ok
 

@@ -8,11 +8,11 @@ use Rattle.residents.proofs.Slots.{not_true}
 use Rattle.residents.proofs.residents.Residents.take_turn.Goals as goal
 
 pub give_turn-requires-clause-ready : goal.give_turn-requires-clause-ready
-give_turn-requires-clause-ready c = (next_passes (is_free c.choices.self.limits c.args.family.now c.choices.self.here) c.choices.self.ready c.choices.self.last c.in-Some.pid (sym c.next.ensures.next ∙ c.in-Some.is)).0
+give_turn-requires-clause-ready c = (next_passes (is_free c.choices.self.duty c.args.family.now c.choices.self.here) c.choices.self.ready c.choices.self.last c.in-Some.pid (sym c.next.ensures.next ∙ c.in-Some.is)).0
 
 pub give_turn-requires-clause-free : goal.give_turn-requires-clause-free
 give_turn-requires-clause-free c =
-    not_true (is_hindered c.choices.self.limits c.args.family.now c.choices.self.here (pid_of c.in-Some.pid)) (next_passes (is_free c.choices.self.limits c.args.family.now c.choices.self.here) c.choices.self.ready c.choices.self.last c.in-Some.pid (sym c.next.ensures.next ∙ c.in-Some.is)).1
+    not_true (is_hindered c.choices.self.duty c.args.family.now c.choices.self.here (pid_of c.in-Some.pid)) (next_passes (is_free c.choices.self.duty c.args.family.now c.choices.self.here) c.choices.self.ready c.choices.self.last c.in-Some.pid (sym c.next.ensures.next ∙ c.in-Some.is)).1
 
 pub returns-in_default-2-clause-turn : goal.returns-in_default-2-clause-turn
 returns-in_default-2-clause-turn c =
@@ -21,4 +21,4 @@ returns-in_default-2-clause-turn c =
 
 pub rest-requires-clause-there : goal.rest-requires-clause-there
 rest-requires-clause-there c =
-    ap (list_any (at_key c.in-Some.pid)) (c.in_ok-quantum.ensures.ready c.in-Stuck.is) ∙ (next_passes (is_free c.choices.self.limits c.args.family.now c.choices.self.here) c.choices.self.ready c.choices.self.last c.in-Some.pid (sym c.next.ensures.next ∙ c.in-Some.is)).0
+    ap (list_any (at_key c.in-Some.pid)) (c.in_ok-quantum.ensures.ready c.in-Stuck.is) ∙ (next_passes (is_free c.choices.self.duty c.args.family.now c.choices.self.here) c.choices.self.ready c.choices.self.last c.in-Some.pid (sym c.next.ensures.next ∙ c.in-Some.is)).0
