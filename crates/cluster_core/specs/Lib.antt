@@ -9,6 +9,7 @@ pub mod Holds
 pub mod Syncing
 pub mod Bearing
 pub mod HandingOn
+pub mod Renewing
 pub mod Families
 pub mod Owed
 pub mod Standing

@@ -1,19 +1,18 @@
 -- The posts that clusters send.
-use Rattle.std.specs.Prelude.{◌≡◌, Bool, true, false, not, List}
+use Rattle.std.specs.Prelude.{◌≡◌, Bool, true, false, List}
 use Rattle.sys_text.specs.declared.system.System.{System}
 use Rattle.bus_msg.specs.declared.entry.What.{What}
-use Rattle.bus_msg.specs.declared.entry.What.TheVariants.{Crash, Return, Rebackup}
+use Rattle.bus_msg.specs.declared.entry.What.TheVariants.{Crash, Return}
 use Rattle.bus_msg.specs.declared.entry.Entry.{Entry}
 use Rattle.bus_msg.specs.PlacedAfter.{what}
 use Rattle.cert_sched.specs.Legal.{Stands}
 use Rattle.cert_sched.specs.Rules.{is_new_page}
 use Rattle.cert_sched.specs.Built.{KeepsLimits, KeepsWaits}
 
--- all but a loss, a return, and a new backup for a process that has run
+-- all but a loss and a return
 abbrev pub is_sent : What → Bool
 is_sent (Crash k cause) = false
 is_sent (Return k) = false
-is_sent (Rebackup to fresh recs) = not fresh
 is_sent _ = true
 
 -- the rule that is in force, of such an entry
