@@ -5,6 +5,7 @@ mod births
 mod losses
 mod paging
 pub mod syncs
+mod renewing
 mod forks
 mod rolling
 pub mod here

@@ -29,12 +29,16 @@ pub record Follows (system : System) (entries : List Entry) (c : ClusterView) : 
   pub records : HoldsRecords system entries c
   pub accounts : HoldsAccounts system entries c
 
--- The lines that are built so far, for logs of the entries that are built so far. What is queued is nothing, or one post that is sent alone, or the rest of a batch, or a birth, or the new backup of a family that was moved, or the rest of what brings a process that has run its new backup.
+-- what is queued is nothing, or one post that is sent alone, or the rest of a batch, or a birth, or the new backup of a family that was moved, or the rest of what brings a process that has run its new backup
+abbrev pub QueuedIn : System → List Entry → ClusterView → Type 0
+QueuedIn system log c = IsQueued c.queue ⊎ Synchronises system log c ⊎ BearsChild system log c ⊎ HandsOver c ⊎ Renews system log c
+
+-- The lines that are built so far, for logs of the entries that are built so far.
 pub record FollowsBuilt (system : System) (entries : List Entry) (c : ClusterView) : Type 0 where
   pub log : HoldsLog system entries c
   pub processes : HoldsProcesses system entries c
   pub queue : HoldsQueue SentMayFollow system entries c
-  pub queued : IsQueued c.queue ⊎ Synchronises system entries c ⊎ BearsChild system entries c ⊎ HandsOver c ⊎ Renews system entries c
+  pub queued : QueuedIn system entries c
   pub steps : HoldsSteps entries c
   pub limits : HoldsLimits system c
   pub pages : HoldsPages system entries c

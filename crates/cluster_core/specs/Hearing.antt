@@ -19,15 +19,14 @@ use Rattle.cert_sched.specs.Record.{is_root}
 use Rattle.cert_sched.specs.Schedule.{placement}
 use Rattle.log_laws.specs.births.Unsynced.{unsynced_births}
 use Rattle.cluster_core.specs.Absorbing.{goes_to}
-use Rattle.cluster_core.specs.Bearing.{BearsChild}
 use Rattle.cluster_core.specs.ForksAgain.{HoldsForks}
 use Rattle.cluster_core.specs.Holds.{CarriesMarks, HasNotFailed, HoldsAccounts, HoldsLimits, HoldsMarks, HoldsPages, HoldsProcesses, HoldsQueue, HoldsRecords}
 use Rattle.cluster_core.specs.Parts.{AllOwn}
 use Rattle.cluster_core.specs.Owed.{HoldsOwed}
-use Rattle.cluster_core.specs.Queue.{IsQueued}
 use Rattle.cluster_core.specs.Sent.{SentMayFollow}
 use Rattle.cluster_core.specs.Standing.{HoldsBackups}
-use Rattle.cluster_core.specs.Syncing.{Synchronises}
+use Rattle.cluster_core.specs.Queue.{are_plain}
+use Rattle.cluster_core.specs.Follows.{QueuedIn}
 use Rattle.cluster_core.specs.View.{ClusterView, after_head}
 
 -- the entries of a log that go to a cluster
@@ -83,13 +82,14 @@ pub record CountsHeard (log : List Entry) (c : ClusterView) : Type 0 where
 abbrev pub ServesThere : System → List Entry → ClusterView → Type 0
 ServesThere system log c = is_some c.server ≡ true → list_any (λ s. same_cluster s c.number) (servers_in (placement system log)) ≡ true
 
--- A cluster that lives follows a log by what goes to it alone. What it holds of processes, records, pages and marks is what the whole log says.
+-- A cluster that lives follows a log by what goes to it alone. What it holds of processes, records, pages and marks is what the whole log says. It has no new backup queued.
 pub record FollowsHeard (system : System) (entries : List Entry) (c : ClusterView) : Type 0 where
   pub lives : lives_in (placement system entries) c.number ≡ true
   pub log : HasHeard system entries c
   pub processes : HoldsProcesses system entries c
   pub queue : HoldsQueue SentMayFollow system entries c
-  pub queued : IsQueued c.queue ⊎ Synchronises system entries c ⊎ BearsChild system entries c
+  pub queued : QueuedIn system entries c
+  pub plain : are_plain c.queue ≡ true
   pub steps : CountsHeard entries c
   pub limits : HoldsLimits system c
   pub pages : HoldsPages system entries c

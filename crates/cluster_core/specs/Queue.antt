@@ -1,5 +1,6 @@
 -- The posts that a cluster has still to send, as the entries that they are to become.
-use Rattle.std.specs.Prelude.{ℕ, ◌≡◌, Bool, true, false, if◌then◌else◌, List, [], ◌∷◌, ◌++◌, find, Option, Some, None, option_map, ⊤}
+use Rattle.std.specs.List.{list_all}
+use Rattle.std.specs.Prelude.{ℕ, ◌≡◌, Bool, true, false, not, if◌then◌else◌, List, [], ◌∷◌, ◌++◌, find, Option, Some, None, option_map, ⊤}
 use Rattle.std.specs.Option.{option_map_or}
 use Rattle.t32_base.specs.declared.process.Pid.{Pid}
 use Rattle.t32_base.specs.declared.process.ClusterNo.{ClusterNo}
@@ -18,6 +19,10 @@ use Rattle.cert_sched.specs.Told.{cluster_lost}
 abbrev pub is_rebackup : What → Bool
 is_rebackup (Rebackup to fresh recs) = true
 is_rebackup _ = false
+
+-- no new backup is among the posts
+abbrev pub are_plain : List Post → Bool
+are_plain queue = list_all (λ (post : Post). not (is_rebackup post.what)) queue
 
 -- the log with the posts of a queue other than a new backup
 abbrev pub with_queue : System → List Entry → List Post → List Entry

@@ -1,5 +1,5 @@
 -- A process here gets its new backup after it has run: the rest of what brings it is queued.
-use Rattle.std.specs.Prelude.{ℕ, ◌≡◌, true, false, List, map, Option, Some, None, replicate}
+use Rattle.std.specs.Prelude.{ℕ, ◌≡◌, true, false, List, [], ◌∷◌, ◌++◌, map, Option, Some, None, replicate}
 use Rattle.std.specs.Option.{IfSome}
 use Rattle.t32_base.specs.declared.process.Pid.{Pid}
 use Rattle.t32_base.specs.declared.process.ClusterNo.{ClusterNo}
@@ -12,14 +12,19 @@ use Rattle.bus_msg.specs.NewBackup.{next_backup_at}
 use Rattle.cert_sched.specs.Rules.{keeps_limits}
 use Rattle.cert_sched.specs.Schedule.{placement}
 use Rattle.checkpoint_laws.specs.batches.Underway.{PagesMay, page_left}
-use Rattle.backup_laws.specs.Posts.{CountsFrom, renewal_left}
+use Rattle.backup_mode.specs.Posts.{fresh_post}
+use Rattle.backup_laws.specs.Posts.{CountsFrom}
 use Rattle.cluster_core.specs.View.{ClusterView, held_at}
 use Rattle.residents.specs.Held.{Runs}
 
--- each of these pages of the process as it is, and then its new backup, if that has not fallen
+-- its new backup, if that has not fallen
+abbrev pub fresh_left : ClusterNo → Option ClusterNo → Pid → ProcState → List Post
+fresh_left k None p s = []
+fresh_left k (Some to) p s = fresh_post k to p s ∷ []
+
+-- each of these pages of the process as it is, and then that
 abbrev pub renewing_left : ClusterNo → Option ClusterNo → Pid → ProcState → List ℕ → List Post
-renewing_left k None p s indices = map (page_left k p s) indices
-renewing_left k (Some to) p s indices = renewal_left k to p s indices
+renewing_left k to p s indices = map (page_left k p s) indices ++ fresh_left k to p s
 
 -- All that is queued are these pages of the process, which are left of what was under way in the log, and its new backup, if that has not fallen. The process runs here
 -- within its limits, as the posts say, without a mark; it counts from its start and has read what the log says.

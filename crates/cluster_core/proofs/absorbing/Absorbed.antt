@@ -29,8 +29,8 @@ use Rattle.cluster_core.specs.View.{ClusterView, with_server, held_at}
 use Rattle.residents.specs.Held.{Held, Runs, Waits, held_of}
 use Rattle.cluster_core.specs.Parts.{AllOwn}
 use Rattle.cluster_core.specs.Recovered.{moved_by, CanWait, with_all_waiting}
-use Rattle.cluster_core.specs.Follows.{FollowsBuilt, IsOpen, StandsBetween}
-use Rattle.cluster_core.specs.Queue.{AreTogether, IsQueued, Queued, Nothing, One, falls, is_lone, is_rebackup, left_queued, posts_of}
+use Rattle.cluster_core.specs.Follows.{FollowsBuilt, IsOpen, StandsBetween, QueuedIn}
+use Rattle.cluster_core.specs.Queue.{AreTogether, IsQueued, Queued, Nothing, One, falls, is_lone, is_rebackup, left_queued, posts_of, are_plain}
 use Rattle.cluster_core.specs.Syncing.{Synchronises}
 use Rattle.cluster_core.specs.Calls.{Absorbs, IsReady, ReadyFor, absorbed, with_entry, here_after}
 use Rattle.cluster_core.proofs.absorbing.ByKind.{IsLoss, OneOf, by_kind, by_page, by_sync, is_of_page, is_of_sync}
@@ -47,7 +47,7 @@ use Rattle.cluster_core.proofs.here.Owning.{own_after, own_later, own_page}
 use Rattle.cluster_core.proofs.absorbing.Following.{Left, apart, follows_foreign, follows_own, found_stays, left_of, next_of, told_taken}
 use Rattle.cluster_core.proofs.here.Beside.{FollowsBeside, all_of, beside_of, built_of}
 use Rattle.cluster_core.proofs.absorbing.AfterSent.{sent_is}
-use Rattle.cluster_core.proofs.absorbing.Fallen.{IsComing, NoneFalls, batch_left, empty_falls_none, fallen_comes, handed_is, left_falls_none, own_left}
+use Rattle.cluster_core.proofs.absorbing.Fallen.{IsComing, NoneFalls, batch_left, empty_falls_none, fallen_comes, handed_is, left_falls_none, own_left, form_plain, handed_rest, plain_rest}
 use Rattle.cluster_core.proofs.absorbing.Renewed.{follows_renewed, renewal_taken, home_same as home_same_renewed}
 use Rattle.cluster_core.proofs.absorbing.Returned.{follows_returned, return_taken, home_same as home_same_returned}
 use Rattle.cluster_core.proofs.paging.WithoutAnswer.{without_answer}
@@ -72,6 +72,11 @@ use Rattle.cert_sched.specs.Rests.{home_pids}
 use Rattle.residents.specs.Residents.{pids_in}
 use Rattle.cluster_core.proofs.losses.OwningWaits.{loss_of, one_of, other_lost, own_no_loss}
 use Rattle.cluster_core.proofs.here.Here.{arrival_at, is_among, was_here}
+use Rattle.cluster_core.specs.Renewing.{Renews, renewing_left}
+use Rattle.cluster_core.proofs.renewing.RenewalPosts.{is_of_renewal, renewal_falls, renewal_head}
+use Rattle.cluster_core.proofs.renewing.Renewing.{without_renewal}
+use Rattle.cluster_core.proofs.renewing.StayedRenewing.{stays_renewing}
+use Rattle.cluster_core.proofs.renewing.OwnRenewal.{follows_own_renewal}
 use Rattle.cert_sched.specs.Deeds.{letter_for}
 
 -- ---- an entry of another cluster
@@ -147,6 +152,15 @@ module _ (c : ClusterView) (log : List Entry) (e : Entry) (p : Pid) (process : P
       by_kind_of (inr (inr (inr (inr (inr (inl y)))))) = subst (RunsStill (letter_for p (what e)) process) (sym (same_process h (ap (λ (v : ClusterView). held_at v p) (sym (renewal_taken c e y.to y.fresh y.recs y.same)) ∙ at))) (still_itself process (letter_for p (what e)) (ap (letter_for p) y.same))
       by_kind_of (inr (inr (inr (inr (inl b))))) = subst (RunsStill (letter_for p (what e)) process) (sym (same_process h (ap (λ (v : ClusterView). held_at v p) (sym (birth_taken c e b.parent b.at b.child b.end b.same (parent_not_here c.system valid log e b.parent b.at b.child b.end b.same now later c.number foreign c.here (f.processes).each_once))) ∙ at))) (still_itself process (letter_for p (what e)) (ap (letter_for p) b.same))
 
+-- beside what is left of a renewal it follows the log with the entry, and so with that
+stays_renewing_here : (c : ClusterView) (log : List Entry) (e : Entry) (server : Option PagerState) → is_system c.system ≡ true → AllOwn c.cursor c.here → are_rising (moved_by c.places c.number (what e) (records_after c.number (what e) c.records)) ≡ true
+    → Serves (placement c.system log) e c.server server → IsOpen MayStand c.system log → IsOpen MayStand c.system (log ++ e ∷ []) → FollowsBuilt c.system log c → is_by_cluster c.number e ≡ false → is_crash_of c.number (what e) ≡ false
+    → (y : Renews c.system log c) (posts : List Post) → posts ≡ renewing_left c.number None y.pid (state_of y.process) y.indices → FollowsBuilt c.system (log ++ e ∷ []) (with_server server (record (with_entry c e) { queue = posts }))
+stays_renewing_here c log e server valid own order serves now later f other spared y posts queue =
+    stays_renewing c log e y valid now later f other (with_server server (record (with_entry c e) { queue = posts })) refl refl queue
+    (beside_next (all_but y.pid) (unqueued c) log e server valid own order now later serves (without_renewal c.system log c y valid now f) other spared (empty_falls_none (placement c.system log) (what e)))
+    (same_home c log e y.pid y.process y.there valid now later f other spared order) (stays c log e y.pid y.process y.there valid now later f other spared order)
+
 -- ---- the whole
 
 -- a cluster that takes in an entry for which it is ready, at which nothing that it has queued falls
@@ -160,10 +174,12 @@ follows_entry c e server valid own order serves left log now later ready = by_re
     unfallen : c.places ≡ placement c.system log → NoneFalls (placement c.system log) (what e) c.queue
     unfallen same = subst (λ before. NoneFalls before (what e) c.queue) same (left_falls_none c.places (what e) c.queue left)
 
-    foreign : (f : FollowsBuilt c.system log c) → is_by_cluster c.number e ≡ false → is_crash_of c.number (what e) ≡ false → IsQueued c.queue ⊎ Synchronises c.system log c ⊎ BearsChild c.system log c ⊎ HandsOver c → FollowsBuilt c.system (log ++ e ∷ []) (with_server server (with_entry c e))
+    foreign : (f : FollowsBuilt c.system log c) → is_by_cluster c.number e ≡ false → is_crash_of c.number (what e) ≡ false → QueuedIn c.system log c → FollowsBuilt c.system (log ++ e ∷ []) (with_server server (with_entry c e))
     foreign f other spared (inl alone) =
         built_of c.system (log ++ e ∷ []) (with_server server (with_entry c e)) (beside_next all_of c log e server valid own order now later (serves_there (f.log).places) (beside_of c.system log c f alone) other spared (unfallen (f.log).places))
-    foreign f other spared (inr (inr (inr h))) = let none : ◌≡◌ {A = List Post} [] (h.post ∷ []) = sym (hands_left c.places (what e) c h) ∙ left ∙ h.posts in cc
+    foreign f other spared (inr (inr (inr (inr y)))) = stays_renewing_here c log e server valid own order (serves_there (f.log).places) now later f other spared y c.queue
+        (sym left ∙ ap (left_queued c.places (what e)) y.posts ∙ renewal_falls c.number y.to y.pid (state_of y.process) c.places (what e) y.indices)
+    foreign f other spared (inr (inr (inr (inl h)))) = let none : ◌≡◌ {A = List Post} [] (h.post ∷ []) = sym (hands_left c.places (what e) c h) ∙ left ∙ h.posts in cc
     foreign f other spared (inr (inr (inl b))) =
         follows_beside_birth c log e b valid now later f other spared server
         (beside_next all_of (unqueued c) log e server valid own order now later (serves_there (f.log).places) (without_birth c.system log c b valid now f) other spared (empty_falls_none (placement c.system log) (what e)))
@@ -187,9 +203,12 @@ follows_entry c e server valid own order serves left log now later ready = by_re
     sent s l (inr (inr (inr (inr (inr (inl y)))))) = absurd (true≢false (sym l.lone ∙ ap is_lone y.same))
     sent s l (inr (inr (inr (inr (inr (inr y)))))) = absurd (true≢false (sym l.lone ∙ ap is_lone y.same))
 
-    own_post : (s : StandsBetween FollowsBuilt c.system log e c) → IsQueued (s.before).queue ⊎ Synchronises c.system log s.before ⊎ BearsChild c.system log s.before ⊎ HandsOver s.before → FollowsBuilt c.system (log ++ e ∷ []) (with_server server (with_entry c e))
+    own_post : (s : StandsBetween FollowsBuilt c.system log e c) → QueuedIn c.system log s.before → FollowsBuilt c.system (log ++ e ∷ []) (with_server server (with_entry c e))
     own_post s (inl alone) = sent s (left_of c log e s alone) (one_of c.system log e later)
-    own_post s (inr (inr (inr h))) = follows_own_standing c log e server valid own now later s h (serves_there (ap (λ (d : ClusterView). d.places) (s.sent ∙ sent_is s.before (s.before).queue) ∙ ((s.followed).log).places))
+    own_post s (inr (inr (inr (inr y)))) =
+        subst (λ posts. FollowsBuilt c.system (log ++ e ∷ []) (with_server server (record (with_entry c e) { queue = posts }))) left
+        (follows_own_renewal c log e server valid own now later s y (serves_there (ap (λ (d : ClusterView). d.places) (s.sent ∙ sent_is s.before (s.before).queue) ∙ ((s.followed).log).places)))
+    own_post s (inr (inr (inr (inl h)))) = follows_own_standing c log e server valid own now later s h (serves_there (ap (λ (d : ClusterView). d.places) (s.sent ∙ sent_is s.before (s.before).queue) ∙ ((s.followed).log).places))
     own_post s (inr (inr (inl b))) = follows_own_birth c log e server valid own now later s b (serves_there (ap (λ (d : ClusterView). d.places) (s.sent ∙ sent_is s.before (s.before).queue) ∙ ((s.followed).log).places))
     own_post s (inr (inl y)) = follows_own_batch c log e server valid own now later s y serves_log
       where
@@ -244,16 +263,30 @@ absorbs c e server valid own order serves log now later ready = by_ready ready
             subst (λ ps. FollowsBuilt c.system (log ++ e ∷ []) (queued ps)) (sym (left ∙ ap (λ b. cond b [] (post ∷ [])) is))
             (follows_fallen c log e server post posts (fallen_comes c.places (what e) post.what together is) valid own order serves now later f other spared)
 
-    foreign : (f : FollowsBuilt c.system log c) → is_by_cluster c.number e ≡ false → is_crash_of c.number (what e) ≡ false → IsQueued c.queue ⊎ Synchronises c.system log c ⊎ BearsChild c.system log c ⊎ HandsOver c → FollowsBuilt c.system (log ++ e ∷ []) (with_server server (absorbed c e))
+    foreign : (f : FollowsBuilt c.system log c) → is_by_cluster c.number e ≡ false → is_crash_of c.number (what e) ≡ false → QueuedIn c.system log c → FollowsBuilt c.system (log ++ e ∷ []) (with_server server (absorbed c e))
     foreign f other spared (inl alone) = by_post f other spared alone.queued alone.posts alone.together
-    foreign f other spared (inr (inr (inr h))) =
+    foreign f other spared (inr (inr (inr (inr y)))) =
+        stays_renewing_here c log e server valid own order (subst (λ before. Serves before e c.server server) (f.log).places serves) now later f other spared y (left_queued c.places (what e) c.queue)
+        (ap (left_queued c.places (what e)) y.posts ∙ renewal_falls c.number y.to y.pid (state_of y.process) c.places (what e) y.indices)
+    foreign f other spared (inr (inr (inr (inl h)))) =
         subst (λ ps. FollowsBuilt c.system (log ++ e ∷ []) (queued ps)) (sym (hands_left c.places (what e) c h)) (follows_unhanded c log e server h valid own order serves now later f other spared)
     foreign f other spared (inr (inr (inl b))) = whole (ap (left_queued c.places (what e)) b.posts ∙ sym b.posts)
     foreign f other spared (inr (inl y)) = whole (ap (left_queued c.places (what e)) y.posts ∙ batch_left c.places (what e) c.number y.pid (state_of y.process) y.read y.took y.indices ∙ sym y.posts)
 
     by_ready : IsReady log e c → FollowsBuilt c.system (log ++ e ∷ []) (with_server server (absorbed c e))
     by_ready (inl f) = foreign f.0 f.1 f.2 (f.0).queued
-    by_ready (inr s) = whole (own_left c log e s)
+    by_ready (inr s) = by_form (s.followed).queued
+      where
+        plain_form : are_plain (s.before).queue ≡ true → FollowsBuilt c.system (log ++ e ∷ []) (with_server server (absorbed c e))
+        plain_form plain = whole (own_left c log e s (plain_rest (s.before).queue plain))
+
+        by_form : QueuedIn c.system log s.before → FollowsBuilt c.system (log ++ e ∷ []) (with_server server (absorbed c e))
+        by_form (inl alone) = plain_form (form_plain c.system log s.before (inl alone))
+        by_form (inr (inl y)) = plain_form (form_plain c.system log s.before (inr (inl y)))
+        by_form (inr (inr (inl b))) = plain_form (form_plain c.system log s.before (inr (inr b)))
+        by_form (inr (inr (inr (inl h)))) = whole (own_left c log e s (handed_rest s.before h))
+        by_form (inr (inr (inr (inr y)))) =
+            follows_own_renewal c log e server valid own now later s y (subst (λ before. Serves before e c.server server) (ap (λ (d : ClusterView). d.places) (s.sent ∙ sent_is s.before (s.before).queue) ∙ ((s.followed).log).places) serves)
 
 -- ---- what it brings
 
@@ -301,7 +334,7 @@ may_come c e valid r = by_loss (one_of c.system r.log e r.open_next)
     by_ready p i bytes is (inl f) h there = came c.queue p i bytes is (home p h ((f.0).processes).each_once there) h (((f.0).processes).held p h there)
     by_ready p i bytes is (inr s) h there = by_queue (s.followed).queued
       where
-        by_queue : IsQueued (s.before).queue ⊎ Synchronises c.system r.log s.before ⊎ BearsChild c.system r.log s.before ⊎ HandsOver s.before → CanComeTo i bytes h
+        by_queue : QueuedIn c.system r.log s.before → CanComeTo i bytes h
         by_queue (inl alone) =
             let l = left_of c r.log e s alone in
             let here : (l.before).here ≡ c.here = sym (ap (λ (d : ClusterView). d.here) l.same) in
@@ -309,7 +342,8 @@ may_come c e valid r = by_loss (one_of c.system r.log e r.open_next)
             let once = ap (λ hs. rising (pids_in hs)) (sym here) ∙ ((l.followed).processes).each_once ∙ ap (λ k. rising (home_pids c.system r.log k)) number in
             came (l.before).queue p i bytes is (home p h once there) h (((l.followed).processes).held p h (ap (λ hs. held_of hs p) here ∙ there))
         by_queue (inr (inl y)) = absurd (true≢false (sym (batch_head c.system r.log e s.before y s.head) ∙ ap is_of_sync is))
-        by_queue (inr (inr (inr y))) = absurd (true≢false (sym (ap is_rebackup (handed_is c.system r.log e s.before y s.head)) ∙ ap is_rebackup is))
+        by_queue (inr (inr (inr (inr y)))) = absurd (true≢false (sym (renewal_head c.system r.log e s.before y s.head) ∙ ap is_of_renewal is))
+        by_queue (inr (inr (inr (inl y)))) = absurd (true≢false (sym (ap is_rebackup (handed_is c.system r.log e s.before y s.head)) ∙ ap is_rebackup is))
         by_queue (inr (inr (inl b))) = absurd (true≢false (sym (ap is_of_page is) ∙ ap is_of_page (birth_is c.system r.log e s.before b s.head)))
 
     page : (w : What) → is_of_page w ≡ true → what e ≡ w → CanCome w c.here

@@ -40,6 +40,8 @@ use Rattle.cluster_core.proofs.absorbing.Following.{Next, left_of, next_of}
 use Rattle.cluster_core.proofs.here.Here.{is_among}
 use Rattle.residents.proofs.Changing.{pid_same, same_itself}
 use Rattle.cluster_core.proofs.losses.Homes.{HomeHere, differ_built, home_here, home_lives}
+use Rattle.cluster_core.specs.Follows.{QueuedIn}
+use Rattle.cluster_core.proofs.renewing.RenewalPosts.{renewal_head, renewal_tells_not}
 use Rattle.cluster_core.proofs.absorbing.ByKind.{OneOf, by_kind, by_page, by_sync, kind_is}
 
 -- ---- a letter that goes elsewhere
@@ -104,13 +106,14 @@ comes_here c e valid r = by_loss (kind_is (what e) (IsLegal-last MayStand c.syst
     by_case n (inl f) = comes_of c.system r.log e c.number c.here valid n ((f.0).processes).each_once
     by_case n (inr s) = by_queue (s.followed).queued
       where
-        by_queue : IsQueued (s.before).queue ⊎ Synchronises c.system r.log s.before ⊎ BearsChild c.system r.log s.before ⊎ HandsOver s.before → ComesHere c.number e c.here
+        by_queue : QueuedIn c.system r.log s.before → ComesHere c.number e c.here
         by_queue (inl alone) =
             let l = left_of c r.log e s alone in
             let here_is : (l.before).here ≡ c.here = sym (ap (λ (d : ClusterView). d.here) l.same) in
             let number : (l.before).number ≡ c.number = sym (ap (λ (d : ClusterView). d.number) l.same) in
             comes_of c.system r.log e c.number c.here valid n (ap (λ hs. rising (pids_in hs)) (sym here_is) ∙ ((l.followed).processes).each_once ∙ ap (λ k. rising (home_pids c.system r.log k)) number)
-        by_queue (inr (inr (inr h))) = absurd (true≢false (sym (n.may).built ∙ ap tells_or_closes (handed_is c.system r.log e s.before h s.head)))
+        by_queue (inr (inr (inr (inr y)))) = absurd (true≢false (sym (n.may).built ∙ renewal_tells_not (what e) (renewal_head c.system r.log e s.before y s.head)))
+        by_queue (inr (inr (inr (inl h)))) = absurd (true≢false (sym (n.may).built ∙ ap tells_or_closes (handed_is c.system r.log e s.before h s.head)))
         by_queue (inr (inr (inl b))) = absurd (true≢false (sym (n.may).built ∙ ap tells_or_closes (birth_is c.system r.log e s.before b s.head)))
         by_queue (inr (inl y)) =
             let of = batch_head c.system r.log e s.before y s.head in

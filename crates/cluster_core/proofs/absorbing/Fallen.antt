@@ -20,7 +20,7 @@ use Rattle.cluster_core.specs.Sent.{SentMayFollow, is_sent}
 use Rattle.cert_sched.specs.Told.{cluster_lost}
 use Rattle.checkpoint_laws.specs.batches.Underway.{page_left, posts_left}
 use Rattle.cluster_core.specs.Follows.{FollowsBuilt, StandsBetween}
-use Rattle.cluster_core.specs.Queue.{AreTogether, IsQueued, IsQueueLegal, Nothing, One, Queued, falls, is_lone, is_moved_from, is_rebackup, left_queued, posts_of}
+use Rattle.cluster_core.specs.Queue.{AreTogether, IsQueued, IsQueueLegal, Nothing, One, Queued, falls, is_lone, is_moved_from, is_rebackup, left_queued, posts_of, are_plain}
 use Rattle.cluster_core.specs.Bearing.{BearsChild}
 use Rattle.cluster_core.specs.HandingOn.{HandsOver}
 use Rattle.cluster_core.specs.Syncing.{Synchronises}
@@ -78,9 +78,6 @@ plain_stays before w (Rebackup to fresh recs) plain none = absurd (true≢false 
 plain_stays before w (PageIs pid index bytes) plain none = ap (λ o. option_map_or (is_moved_from before pid) o false) none
 plain_stays before w _ plain none = refl
 
-abbrev pub are_plain : List Post → Bool
-are_plain queue = list_all (λ (post : Post). not (is_rebackup post.what)) queue
-
 -- nor anything else that is no new backup
 pub plain_left : (before : Places) (w : What) (queue : List Post) → cluster_lost w ≡ None → are_plain queue ≡ true → left_queued before w queue ≡ queue
 plain_left before w [] none plain = refl
@@ -127,24 +124,21 @@ sent_loses_none : (w : What) → is_sent w ≡ true → cluster_lost w ≡ None
 sent_loses_none (Crash k cause) sent = absurd (true≢false (sym sent))
 sent_loses_none _ sent = refl
 
-abbrev rest_of : List Post → List Post
+abbrev pub rest_of : List Post → List Post
 rest_of [] = []
 rest_of (post ∷ rest) = rest
 
-plain_rest : (queue : List Post) → are_plain queue ≡ true → are_plain (rest_of queue) ≡ true
+pub plain_rest : (queue : List Post) → are_plain queue ≡ true → are_plain (rest_of queue) ≡ true
 plain_rest [] plain = refl
 plain_rest (post ∷ rest) plain = (and_parts (not (is_rebackup post.what)) (are_plain rest) plain).1
 
--- what is left then is plain
-rest_plain : (system : System) (log : List Entry) (c : ClusterView) → IsQueued c.queue ⊎ Synchronises system log c ⊎ BearsChild system log c ⊎ HandsOver c → are_plain (rest_of c.queue) ≡ true
-rest_plain system log c (inl alone) = plain_rest c.queue (form_plain system log c (inl alone))
-rest_plain system log c (inr (inl y)) = plain_rest c.queue (form_plain system log c (inr (inl y)))
-rest_plain system log c (inr (inr (inl b))) = plain_rest c.queue (form_plain system log c (inr (inr b)))
-rest_plain system log c (inr (inr (inr h))) = ap (λ ps. are_plain (rest_of ps)) h.posts
+-- of a family that was handed over nothing is left then
+pub handed_rest : (c : ClusterView) (h : HandsOver c) → are_plain (rest_of c.queue) ≡ true
+handed_rest c h = ap (λ ps. are_plain (rest_of ps)) h.posts
 
--- at the entry that the head became nothing falls of the rest
-pub own_left : (c : ClusterView) (log : List Entry) (e : Entry) → StandsBetween FollowsBuilt c.system log e c → left_queued c.places (what e) c.queue ≡ c.queue
-own_left c log e s = by_queue (s.before).queue ((s.followed).queue).legal s.head (rest_plain c.system log s.before (s.followed).queued) (ap (λ (d : ClusterView). d.queue) s.sent)
+-- at the entry that the head became nothing falls of the rest, where that has no new backup
+pub own_left : (c : ClusterView) (log : List Entry) (e : Entry) (s : StandsBetween FollowsBuilt c.system log e c) → are_plain (rest_of (s.before).queue) ≡ true → left_queued c.places (what e) c.queue ≡ c.queue
+own_left c log e s plain = by_queue (s.before).queue ((s.followed).queue).legal s.head plain (ap (λ (d : ClusterView). d.queue) s.sent)
   where
     by_queue : (queue : List Post) → IsQueueLegal SentMayFollow c.system log queue → option_map (entry_of c.system log) (head_of queue) ≡ Some e → are_plain (rest_of queue) ≡ true → c.queue ≡ (after_sent s.before queue).queue
         → left_queued c.places (what e) c.queue ≡ c.queue
@@ -152,7 +146,10 @@ own_left c log e s = by_queue (s.before).queue ((s.followed).queue).legal s.head
     by_queue (post ∷ rest) legal head plain is =
         let whole : entry_of c.system log post ≡ e = same_Some (entry_of c.system log post) e head in
         let none : cluster_lost (what e) ≡ None = ap (λ (x : Entry). cluster_lost (what x)) (sym whole) ∙ sent_loses_none post.what (legal.0).built in
-        ap (left_queued c.places (what e)) is ∙ plain_left c.places (what e) rest none plain ∙ sym is
+        ap (left_queued c.places (what e)) (is ∙ sent_queue post rest) ∙ plain_left c.places (what e) rest none plain ∙ sym (is ∙ sent_queue post rest)
+      where
+        sent_queue : (post : Post) (rest : List Post) → (after_sent s.before (post ∷ rest)).queue ≡ rest
+        sent_queue post rest = refl
 
 -- ---- what falls
 

@@ -18,7 +18,7 @@ use Rattle.cluster_core.specs.HandingOn.{HandsOver}
 use Rattle.cluster_core.proofs.absorbing.Fallen.{handed_is}
 use Rattle.residents.specs.Bearing.{CanBear, CanForkNow}
 use Rattle.cluster_core.specs.Calls.{IsReady, ReadyFor}
-use Rattle.cluster_core.specs.Follows.{FollowsBuilt, StandsBetween}
+use Rattle.cluster_core.specs.Follows.{FollowsBuilt, StandsBetween, QueuedIn}
 use Rattle.cluster_core.specs.Queue.{IsQueued, is_lone, is_rebackup}
 use Rattle.cluster_core.specs.Syncing.{Synchronises}
 use Rattle.cluster_core.proofs.syncs.Batching.{batch_head}
@@ -27,6 +27,7 @@ use Rattle.cluster_core.proofs.births.Births.{parent_not_here}
 use Rattle.cluster_core.proofs.births.BirthTaken.{absent}
 use Rattle.cluster_core.proofs.absorbing.ByKind.{IsBirth, OneOf, by_kind, by_page, by_sync, is_of_sync}
 use Rattle.cluster_core.proofs.absorbing.Following.{left_of}
+use Rattle.cluster_core.proofs.renewing.RenewalPosts.{is_of_renewal, renewal_head}
 use Rattle.cluster_core.proofs.losses.OwningWaits.{one_of}
 
 module _ (c : ClusterView) (e : Entry) (valid : is_system c.system ≡ true) (mine : AllOwn c.cursor c.here) (r : ReadyFor e c) where
@@ -63,11 +64,12 @@ module _ (c : ClusterView) (e : Entry) (valid : is_system c.system ≡ true) (mi
           (λ i. list_any (λ (d : Pid × Held). same_pid d.0 (child_is i)) (here_is i))
           ∙ absent c.system valid r.log s.before s.followed s.tried (subst (λ (d : ClusterView). AllOwn d.cursor d.here) (s.sent ∙ ap (after_sent s.before) x.posts) mine) x e (birth_head c.system r.log e s.before x s.head) r.open_log r.open_next
 
-  by_queue : (b : IsBirth (what e)) (s : StandsBetween FollowsBuilt c.system r.log e c) → IsQueued (s.before).queue ⊎ Synchronises c.system r.log s.before ⊎ BearsChild c.system r.log s.before ⊎ HandsOver s.before → CanBear b.parent b.child c.here
+  by_queue : (b : IsBirth (what e)) (s : StandsBetween FollowsBuilt c.system r.log e c) → QueuedIn c.system r.log s.before → CanBear b.parent b.child c.here
   by_queue b s (inl alone) = absurd (true≢false (sym (left_of c r.log e s alone).lone ∙ ap is_lone b.same))
   by_queue b s (inr (inl y)) = absurd (true≢false (sym (batch_head c.system r.log e s.before y s.head) ∙ ap is_of_sync b.same))
   by_queue b s (inr (inr (inl x))) = own b s x
-  by_queue b s (inr (inr (inr h))) = absurd (true≢false (sym (ap is_rebackup (handed_is c.system r.log e s.before h s.head)) ∙ ap is_rebackup b.same))
+  by_queue b s (inr (inr (inr (inr y)))) = absurd (true≢false (sym (renewal_head c.system r.log e s.before y s.head) ∙ ap is_of_renewal b.same))
+  by_queue b s (inr (inr (inr (inl h)))) = absurd (true≢false (sym (ap is_rebackup (handed_is c.system r.log e s.before h s.head)) ∙ ap is_rebackup b.same))
 
   by_ready : (b : IsBirth (what e)) → IsReady r.log e c → CanBear b.parent b.child c.here
   by_ready b (inl f) = foreign b (parent_not_here c.system valid r.log e b.parent b.at b.child b.end b.same r.open_log r.open_next c.number f.1 c.here ((f.0).processes).each_once)

@@ -66,7 +66,7 @@ module _ (c : ClusterView) (post : Post) (next : IsNextStanding c.number c.place
     log = record { cursor = (f.log).cursor; places = (f.log).places };
     processes = record { held = held; each_once = (f.processes).each_once };
     queue = record { own = handed_own; legal = (next_may c log valid go f post next, tt) };
-    queued = inr (inr (inr (record { post = post; posts = refl; to = hands.to; recs = hands.recs; standing = standing })));
+    queued = inr (inr (inr (inl (record { post = post; posts = refl; to = hands.to; recs = hands.recs; standing = standing }))));
     steps = record { counted = λ kept. more_counted (least_steps log log c.number + cond c.tried 1 0) c.steps ((f.steps).counted kept) };
     limits = f.limits;
     pages = f.pages;

@@ -28,7 +28,7 @@ use Rattle.log_laws.proofs.births.OtherEntries.{ended_goes, others_leave, synced
 use Rattle.page_server.specs.Account.{PagerState}
 use Rattle.backup_records.specs.Records.{are_rising, records_after}
 use Rattle.cluster_core.specs.Absorbing.{goes_to}
-use Rattle.cluster_core.specs.Queue.{is_rebackup}
+use Rattle.cluster_core.specs.Queue.{is_rebackup, are_plain}
 use Rattle.cluster_core.specs.Calls.{ReadyFor, absorbed, here_after}
 use Rattle.cluster_core.specs.Follows.{FollowsBuilt, IsOpen}
 use Rattle.cluster_core.specs.Hearing.{FollowsHeard, KnowsPlaces, concerns, family_heard, heard_in, with_heard}
@@ -52,7 +52,7 @@ use Rattle.cluster_core.proofs.absorbing.KnownPlaces.{concerns_alike, known_afte
 use Rattle.cluster_core.proofs.losses.OwningWaits.{owns_waiting}
 use Rattle.cluster_core.proofs.heard.PassedOver.{own_upto}
 use Rattle.cluster_core.proofs.heard.Shadow.{alike, queued_back, shadow, shadow_follows}
-use Rattle.cluster_core.proofs.absorbing.Fallen.{are_plain, form_plain, left_all}
+use Rattle.cluster_core.proofs.absorbing.Fallen.{left_all}
 use Rattle.bus_msg.specs.declared.entry.Post.{Post}
 
 -- ---- lists
@@ -198,7 +198,7 @@ module _ (c : ClusterView) (log : List Entry) (e : Entry) (server : Option Pager
 
   -- no new backup is queued
   still_plain : are_plain heard.queue ≡ true
-  still_plain = left_all (λ (post : Post). not (is_rebackup post.what)) c.places (what e) c.queue (form_plain c.system log c f.queued)
+  still_plain = left_all (λ (post : Post). not (is_rebackup post.what)) c.places (what e) c.queue f.plain
 
   at_later : placement c.system later ≡ placed_after places (what e)
   at_later = placement-snoc c.system log e
@@ -397,7 +397,8 @@ module _ (c : ClusterView) (log : List Entry) (e : Entry) (server : Option Pager
     };
     processes = record { held = (still.processes).held; each_once = (still.processes).each_once };
     queue = record { own = (still.queue).own; legal = (still.queue).legal };
-    queued = queued_back heard later taken.cursor taken.places taken.family taken.steps still_plain still.queued;
+    queued = queued_back heard later taken.cursor taken.places taken.family taken.steps still.queued;
+    plain = still_plain;
     steps = record {
       counted = λ kept.
           let before = (f.steps).counted (lost_before log e k kept) in

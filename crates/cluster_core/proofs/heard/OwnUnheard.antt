@@ -26,12 +26,12 @@ use Rattle.cluster_core.specs.Absorbing.{goes_to}
 use Rattle.cluster_core.specs.Calls.{ReadyFor, with_entry, here_after}
 use Rattle.cluster_core.specs.Follows.{FollowsBuilt, IsOpen, StandsBetween}
 use Rattle.cluster_core.specs.Hearing.{FollowsHeard, KnowsPlaces, after_head_heard, after_sent_heard, concerns, heard_in}
-use Rattle.cluster_core.specs.Queue.{IsQueueLegal, is_rebackup}
+use Rattle.cluster_core.specs.Queue.{IsQueueLegal, is_rebackup, are_plain}
 use Rattle.cluster_core.specs.Recovered.{with_all_waiting}
 use Rattle.cluster_core.specs.View.{ClusterView, after_head, after_sent, head_of, with_server}
 use Rattle.residents.specs.Held.{Held, held_of}
 use Rattle.cluster_core.proofs.absorbing.Absorbed.{follows_entry}
-use Rattle.cluster_core.proofs.absorbing.Fallen.{own_left, form_plain, are_plain}
+use Rattle.cluster_core.proofs.absorbing.Fallen.{own_left}
 use Rattle.cluster_core.proofs.absorbing.Arriving.{comes_here, goes_elsewhere}
 use Rattle.cluster_core.proofs.absorbing.Counted.{capped_less, count_by-snoc, lost_before}
 use Rattle.cluster_core.proofs.heard.Heard.{any_less, sync_keeps_concerns, without_child}
@@ -71,7 +71,7 @@ module _ (c : ClusterView) (log : List Entry) (e : Entry) (valid : is_system c.s
 
   -- no new backup is queued
   plain : (not (is_rebackup post.what) ≡ true) × (are_plain rest ≡ true)
-  plain = and_parts (not (is_rebackup post.what)) (are_plain rest) (subst (λ ps. are_plain ps ≡ true) queue (form_plain c.system log c f.queued))
+  plain = and_parts (not (is_rebackup post.what)) (are_plain rest) (subst (λ ps. are_plain ps ≡ true) queue f.plain)
 
   plain_head : is_rebackup post.what ≡ false
   plain_head = not-true (is_rebackup post.what) plain.0
@@ -184,7 +184,8 @@ module _ (c : ClusterView) (log : List Entry) (e : Entry) (valid : is_system c.s
     };
     processes = record { held = (still.processes).held; each_once = (still.processes).each_once };
     queue = record { own = (still.queue).own; legal = (still.queue).legal };
-    queued = queued_back (record left { places = knows.places; family = knows.family }) later taken.cursor taken.places taken.family taken.steps plain.1 still.queued;
+    queued = queued_back (record left { places = knows.places; family = knows.family }) later taken.cursor taken.places taken.family taken.steps still.queued;
+    plain = plain.1;
     steps = record {
       counted = λ kept.
           let before : capped (least_steps (heard_in k log) log k + 1) ≤ c.steps =

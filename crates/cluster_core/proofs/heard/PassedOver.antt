@@ -44,7 +44,7 @@ use Rattle.cluster_core.specs.Serving.{Serves}
 use Rattle.cluster_core.specs.View.{ClusterView, with_server}
 use Rattle.residents.specs.Held.{Held, Waits, held_of, page_held}
 use Rattle.cluster_core.proofs.absorbing.Absorbed.{follows_entry}
-use Rattle.cluster_core.proofs.absorbing.Fallen.{form_plain, plain_left}
+use Rattle.cluster_core.proofs.absorbing.Fallen.{plain_left}
 use Rattle.cluster_core.proofs.absorbing.Arriving.{comes_here, goes_elsewhere}
 use Rattle.cluster_core.proofs.absorbing.Counted.{count_by-snoc, lost_before}
 use Rattle.cluster_core.proofs.absorbing.Following.{by_home_of}
@@ -318,7 +318,7 @@ module _ (c : ClusterView) (log : List Entry) (e : Entry) (valid : is_system c.s
 
     goes_on : FollowsBuilt c.system later taken
     goes_on =
-        follows_entry (shadow log c) e c.server valid (own_upto c.cursor (length log) c.here (f.log).within f.own) (ap are_rising (none_moved _)) (serves c.server refl) (plain_left places (what e) c.queue no_cluster_lost (form_plain c.system log c f.queued)) log now next
+        follows_entry (shadow log c) e c.server valid (own_upto c.cursor (length log) c.here (f.log).within f.own) (ap are_rising (none_moved _)) (serves c.server refl) (plain_left places (what e) c.queue no_cluster_lost f.plain) log now next
         (inl (built, foreign, no_loss))
 
     here_is : taken.here ≡ c.here
@@ -351,7 +351,8 @@ module _ (c : ClusterView) (log : List Entry) (e : Entry) (valid : is_system c.s
       };
       processes = record { held = (still.processes).held; each_once = (still.processes).each_once };
       queue = record { own = (still.queue).own; legal = (still.queue).legal };
-      queued = queued_back c later taken.cursor taken.places taken.family taken.steps (form_plain c.system log c f.queued) still.queued;
+      queued = queued_back c later taken.cursor taken.places taken.family taken.steps still.queued;
+      plain = f.plain;
       steps = record { counted = λ kept. subst (λ n. capped (n + cond c.tried 1 0) ≤ c.steps) (sym as_many) ((f.steps).counted (lost_before log e k kept)) };
       limits = f.limits;
       pages = still.pages;

@@ -16,7 +16,7 @@ use Rattle.cert_sched.specs.Schedule.{placement}
 use Rattle.log_laws.specs.births.Unsynced.{unsynced_births}
 use Rattle.log_laws.proofs.births.Filters.{any_kept}
 use Rattle.cluster_core.specs.Bearing.{BearsChild}
-use Rattle.cluster_core.specs.Follows.{FollowsBuilt}
+use Rattle.cluster_core.specs.Follows.{FollowsBuilt, QueuedIn}
 use Rattle.cluster_core.specs.Hearing.{FollowsHeard, concerns}
 use Rattle.cluster_core.specs.Queue.{IsQueued, is_rebackup}
 use Rattle.residents.specs.Residents.{pids_in}
@@ -26,7 +26,6 @@ use Rattle.cluster_core.proofs.here.Here.{is_among}
 use Rattle.residents.proofs.Changing.{pid_same}
 use Rattle.cluster_core.proofs.losses.Homes.{HomeHere, differ_built, home_here}
 use Rattle.cluster_core.specs.HandingOn.{HandsOver}
-use Rattle.cluster_core.proofs.absorbing.Fallen.{are_plain}
 
 -- the cluster with all that it would know if it took in each entry
 abbrev pub shadow : List Entry → ClusterView → ClusterView
@@ -68,8 +67,7 @@ born_here places k parent child births home any =
 
 -- ---- there and back
 
-pub shadow_queued : (c : ClusterView) (log : List Entry) → IsQueued c.queue ⊎ Synchronises c.system log c ⊎ BearsChild c.system log c
-    → IsQueued c.queue ⊎ Synchronises c.system log (shadow log c) ⊎ BearsChild c.system log (shadow log c) ⊎ HandsOver (shadow log c)
+pub shadow_queued : (c : ClusterView) (log : List Entry) → QueuedIn c.system log c → QueuedIn c.system log (shadow log c)
 shadow_queued c log (inl alone) = inl alone
 shadow_queued c log (inr (inl y)) = inr (inl (record {
   pid = y.pid;
@@ -85,7 +83,21 @@ shadow_queued c log (inr (inl y)) = inr (inl (record {
   since = y.since;
   unmarked = y.unmarked;
 }))
-shadow_queued c log (inr (inr b)) = inr (inr (inl (record { pid = b.pid; process = b.process; child = b.child; posts = b.posts; there = b.there; stands = b.stands; undue = b.undue; next = b.next })))
+shadow_queued c log (inr (inr (inl b))) = inr (inr (inl (record { pid = b.pid; process = b.process; child = b.child; posts = b.posts; there = b.there; stands = b.stands; undue = b.undue; next = b.next })))
+shadow_queued c log (inr (inr (inr (inl h)))) = inr (inr (inr (inl (record { post = h.post; posts = h.posts; to = h.to; recs = h.recs; standing = h.standing }))))
+shadow_queued c log (inr (inr (inr (inr y)))) = inr (inr (inr (inr (record {
+  pid = y.pid;
+  process = y.process;
+  to = y.to;
+  indices = y.indices;
+  posts = y.posts;
+  there = y.there;
+  owed = y.owed;
+  within = y.within;
+  may = y.may;
+  counts = y.counts;
+  unmarked = y.unmarked;
+}))))
 
 pub shadow_follows : (c : ClusterView) (log : List Entry) → is_system c.system ≡ true → IsLegalBy MayStand c.system log → FollowsHeard c.system log c → FollowsBuilt c.system log (shadow log c)
 shadow_follows c log valid legal f = record {
@@ -112,12 +124,9 @@ shadow_follows c log valid legal f = record {
 abbrev pub alike : ClusterView → ℕ → Places → List (Pid × Pid) → ℕ → ClusterView
 alike c cursor places family steps = record c { cursor = cursor; places = places; family = family; steps = steps }
 
--- where the posts are such as no new backup is
-pub queued_back : (c : ClusterView) (log : List Entry) (cursor : ℕ) (places : Places) (family : List (Pid × Pid)) (steps : ℕ) → are_plain c.queue ≡ true
-    → IsQueued c.queue ⊎ Synchronises c.system log (alike c cursor places family steps) ⊎ BearsChild c.system log (alike c cursor places family steps) ⊎ HandsOver (alike c cursor places family steps)
-    → IsQueued c.queue ⊎ Synchronises c.system log c ⊎ BearsChild c.system log c
-queued_back c log cursor places family steps plain (inl alone) = inl alone
-queued_back c log cursor places family steps plain (inr (inl y)) = inr (inl (record {
+pub queued_back : (c : ClusterView) (log : List Entry) (cursor : ℕ) (places : Places) (family : List (Pid × Pid)) (steps : ℕ) → QueuedIn c.system log (alike c cursor places family steps) → QueuedIn c.system log c
+queued_back c log cursor places family steps (inl alone) = inl alone
+queued_back c log cursor places family steps (inr (inl y)) = inr (inl (record {
   pid = y.pid;
   process = y.process;
   read = y.read;
@@ -131,7 +140,19 @@ queued_back c log cursor places family steps plain (inr (inl y)) = inr (inl (rec
   since = y.since;
   unmarked = y.unmarked;
 }))
-queued_back c log cursor places family steps plain (inr (inr (inl b))) =
-    inr (inr (record { pid = b.pid; process = b.process; child = b.child; posts = b.posts; there = b.there; stands = b.stands; undue = b.undue; next = b.next }))
-queued_back c log cursor places family steps plain (inr (inr (inr h))) =
-    absurd (true≢false (sym plain ∙ ap are_plain h.posts ∙ ap (λ w. not (is_rebackup w) && true) h.standing))
+queued_back c log cursor places family steps (inr (inr (inl b))) =
+    inr (inr (inl (record { pid = b.pid; process = b.process; child = b.child; posts = b.posts; there = b.there; stands = b.stands; undue = b.undue; next = b.next })))
+queued_back c log cursor places family steps (inr (inr (inr (inl h)))) = inr (inr (inr (inl (record { post = h.post; posts = h.posts; to = h.to; recs = h.recs; standing = h.standing }))))
+queued_back c log cursor places family steps (inr (inr (inr (inr y)))) = inr (inr (inr (inr (record {
+  pid = y.pid;
+  process = y.process;
+  to = y.to;
+  indices = y.indices;
+  posts = y.posts;
+  there = y.there;
+  owed = y.owed;
+  within = y.within;
+  may = y.may;
+  counts = y.counts;
+  unmarked = y.unmarked;
+}))))

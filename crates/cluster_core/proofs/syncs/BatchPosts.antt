@@ -64,7 +64,7 @@ module _ (k : ClusterNo) (p : Pid) (s : ProcState) (read : List ℕ) (took : Opt
     batch_log log (i ∷ js) = batch_log (log ++ entry_of system log (page_left k p s i) ∷ []) js
 
     -- an entry that is no answer is no call of a disk
-    calls_still : (heard log : List Entry) (e : Entry) (j : ClusterNo) → is_page_is_entry (what e) ≡ false → least_calls system heard (log ++ e ∷ []) j ≡ least_calls system heard log j
+    pub calls_still : (heard log : List Entry) (e : Entry) (j : ClusterNo) → is_page_is_entry (what e) ≡ false → least_calls system heard (log ++ e ∷ []) j ≡ least_calls system heard log j
     calls_still heard log e j other =
         let answered = count_by-snoc (λ (e : Entry). is_page_is_entry (what e) && is_by_cluster j e) log e in
         let none : ◌≡◌ {A = ℕ} (cond (is_page_is_entry (what e) && is_by_cluster j e) 1 0) 0 = ap (λ (b : Bool). cond (b && is_by_cluster j e) 1 0) other in

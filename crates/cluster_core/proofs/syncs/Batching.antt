@@ -61,7 +61,7 @@ held_alike system log before after q (Rolls process counts births) none still fe
 held_alike system log before after q (Waits waiting) none still fetches held = (still, so_alike system log q (is_fetch_queued q before) (is_fetch_queued q after) waiting fetches held.1)
 
 -- as many letters have come to a process that is held where nothing is queued as the log has for it
-arrived_low : (system : System) (log : List Entry) (q : Pid) (h : Held) → is_system system ≡ true → IsLegalBy Stands system log → IsUnended system log q → IsHeldAs system log [] q h
+pub arrived_low : (system : System) (log : List Entry) (q : Pid) (h : Held) → is_system system ≡ true → IsLegalBy Stands system log → IsUnended system log q → IsHeldAs system log [] q h
     → (process : Process) → unended_process h ≡ Some process → (process.mail).next ≤ arrived_count log q
 arrived_low system log q h valid legal unended held process is = let came = came_to system log q valid legal unended Nothing h process tt tt held is in omega (arith, came)
 

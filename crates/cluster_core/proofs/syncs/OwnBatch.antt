@@ -60,6 +60,7 @@ use Rattle.replay_laws.proofs.forks.EitherWait.{so_alike}
 use Rattle.cluster_core.proofs.forks.ForksAgain.{forks_synced}
 use Rattle.checkpoint_laws.proofs.limits.RestLimits.{page_leaves_sync}
 use Rattle.cluster_core.proofs.syncs.Batching.{batch_state}
+use Rattle.cluster_core.specs.Renewing.{Renews}
 use Rattle.cluster_core.proofs.awaiting.Awaited.{awaited_after}
 
 -- ---- what a batch leaves of the other processes
@@ -170,7 +171,7 @@ module _ (system : System) (valid : is_system system ≡ true) (log : List Entry
     disk = ((f.disk).0, ahead_after (placement system log) e b.server server serves (f.disk).1);
   }
     where
-      widened : IsQueued rest ⊎ Synchronises system later (with_server server (passed (left b rest) e)) → IsQueued rest ⊎ Synchronises system later (with_server server (passed (left b rest) e)) ⊎ BearsChild system later (with_server server (passed (left b rest) e)) ⊎ HandsOver (with_server server (passed (left b rest) e))
+      widened : IsQueued rest ⊎ Synchronises system later (with_server server (passed (left b rest) e)) → IsQueued rest ⊎ Synchronises system later (with_server server (passed (left b rest) e)) ⊎ BearsChild system later (with_server server (passed (left b rest) e)) ⊎ HandsOver (with_server server (passed (left b rest) e)) ⊎ Renews system later (with_server server (passed (left b rest) e))
       widened (inl alone) = inl alone
       widened (inr y) = inr (inl y)
 

@@ -47,7 +47,7 @@ use Rattle.cluster_core.specs.Syncing.{Synchronises}
 use Rattle.cluster_core.specs.Bearing.{BearsChild}
 use Rattle.cluster_core.specs.HandingOn.{HandsOver}
 use Rattle.cluster_core.specs.Standing.{HoldsBackups, has_begun}
-use Rattle.cluster_core.specs.Follows.{FollowsBuilt, IsOpen}
+use Rattle.cluster_core.specs.Follows.{FollowsBuilt, IsOpen, QueuedIn}
 use Rattle.cluster_core.specs.Calls.{GoesOn, OwesNothing, WorkIs, is_at_rest, are_at_rest, is_resting}
 use Rattle.residents.specs.declared.quantum.Sending.{Sending}
 use Rattle.residents.specs.Quantum.{EndsChildless, Moves, RollsTo, RunsTo, Sends, told_of, post_told}
@@ -139,13 +139,23 @@ held_before c log p s empty f there = ap (λ ps. state_now c.system log ps p (s.
 
 -- ---- what is queued
 
-abbrev QueuedIn : System → List Entry → ClusterView → Type 0
-QueuedIn system log c = IsQueued c.queue ⊎ Synchronises system log c ⊎ BearsChild system log c ⊎ HandsOver c
-
 -- kernel steps change nothing of it
 still_queued : (system : System) (log : List Entry) (c : ClusterView) (tried : Bool) (steps : ℕ) → QueuedIn system log c → QueuedIn system log (record c { tried = tried; steps = steps })
 still_queued system log c tried steps (inl alone) = inl alone
-still_queued system log c tried steps (inr (inr (inr hands))) = inr (inr (inr (record { post = hands.post; posts = hands.posts; to = hands.to; recs = hands.recs; standing = hands.standing })))
+still_queued system log c tried steps (inr (inr (inr (inl hands)))) = inr (inr (inr (inl (record { post = hands.post; posts = hands.posts; to = hands.to; recs = hands.recs; standing = hands.standing }))))
+still_queued system log c tried steps (inr (inr (inr (inr y)))) = inr (inr (inr (inr (record {
+  pid = y.pid;
+  process = y.process;
+  to = y.to;
+  indices = y.indices;
+  posts = y.posts;
+  there = y.there;
+  owed = y.owed;
+  within = y.within;
+  may = y.may;
+  counts = y.counts;
+  unmarked = y.unmarked;
+}))))
 still_queued system log c tried steps (inr (inr (inl birth))) = inr (inr (inl (record {
   pid = birth.pid;
   process = birth.process;

@@ -1,0 +1,4 @@
+pub mod RenewalPosts
+pub mod Renewing
+pub mod StayedRenewing
+pub mod OwnRenewal
