@@ -15,7 +15,7 @@ use Rattle.bus_msg.specs.Places.{Places}
 use Rattle.quanta.specs.declared.limits.Limits.{Limits}
 use Rattle.page_server.specs.Account.{Account, PagerState, account, no_pages}
 use Rattle.residents.specs.Duty.{DutyView}
-use Rattle.residents.specs.Held.{Held, Runs, Rolls, Waits, held_of, with_synced}
+use Rattle.residents.specs.Held.{Held, Runs, Rolls, Waits, held_of, with_renewed}
 
 -- its system and number, the length of the log that it has taken in, and the placement then; the processes at home here; the records of
 -- processes whose backup is here; the children that never synchronised; the pids of the processes that wait for their new backup, rising; what it keeps where
@@ -70,10 +70,13 @@ head_of (post ∷ rest) = Some post
 
 -- ---- the head was sent
 
--- where the head was a new backup for a process that has run, the process has synchronised by it
+-- where the head was a new backup for a process that has run, the process counts from where it stands
+abbrev pub renewed_by : What → List (Pid × Held) → List (Pid × Held)
+renewed_by (Rebackup to true (r ∷ rs)) here = with_renewed r.pid here
+renewed_by _ here = here
+
 abbrev pub after_head : ClusterView → What → ClusterView
-after_head c (Rebackup to true (r ∷ rs)) = record c { here = with_synced r.pid c.here }
-after_head c _ = c
+after_head c w = record c { here = renewed_by w c.here }
 
 abbrev pub after_sent : ClusterView → List Post → ClusterView
 after_sent c [] = c

@@ -6,7 +6,7 @@ ghost use Rattle.sys_text.specs.Valid.{is_system};
 ghost use Rattle.cert_sched.specs.Scripted.{is_server};
 ghost use Rattle.page_accounts.specs.Booting.{IsAhead};
 ghost use Rattle.cluster_core.specs.Serving.{HurtsServer, IsFailing};
-ghost use Rattle.cluster_core.specs.View.{head_of, after_sent, counted_once, disk_calls, failed_at, failing_in, tried_once, with_server};
+ghost use Rattle.cluster_core.specs.View.{head_of, after_sent, renewed_by, counted_once, disk_calls, failed_at, failing_in, tried_once, with_server};
 ghost use Rattle.cluster_core.specs.Follows.{FollowsBuilt};
 ghost use Rattle.cluster_core.specs.Returned.{returned};
 ghost use Rattle.cluster_core.specs.Calls.{Absorbs, absorbed, FollowsSome, GoesOn, HurtBy, HurtIs, is_resting, IsFirst, KeepsPlace, ReadyFor, RestsIn, rests_of, StopsBy, WorkIs};
@@ -24,7 +24,7 @@ use crate::work::work_on;
 use crate::worked::Worked;
 use backup_records::records::Records;
 use birth_notice::family::Family;
-use bus_msg::entry::{Entry, Post};
+use bus_msg::entry::{Entry, Post, What};
 use bus_msg::shared::Shared;
 use cert_sched::start::placement_at_boot;
 use channel_table::placement::Placement;
@@ -86,6 +86,23 @@ impl<D: PageDisk> Model for Cluster<D> {
     } };
 
     ghost invariant = { λ c. IsSound (arc_value c.system) c.number c.cursor (c.here).duty (c.here).here (c.queue).items };
+}
+
+// A process whose new backup was sent, after it has run, counts from where it stands. Takes no memory.
+fn renew(here: &mut Residents, sent: &What)
+    ensures here { here.new.here ≡ renewed_by sent.now here.old.here }
+    ensures duty { here.new.duty ≡ here.old.duty }
+{
+    if let What::Rebackup {
+        fresh: true,
+        recs,
+        ..
+    } = sent
+    {
+        if let Some(rec) = recs.get().as_slice().first() {
+            here.renewed(rec.pid);
+        }
+    }
 }
 
 impl<D: PageDisk + Drop> Cluster<D> {
@@ -247,13 +264,16 @@ impl<D: PageDisk + Drop> Cluster<D> {
         self.count_step();
     }
 
-    /// The head of the queue, which was tried, was sent: it stands there no more. Takes no memory.
+    /// The head of the queue, which was tried, was sent: it stands there no more. Where it was the new backup of a process that has
+    /// run, that counts from where it stands. Takes no memory.
     pub fn sent(&mut self)
         requires head { is_some (head_of self.old.queue) ≡ true }
         requires tried { self.old.tried ≡ true }
         ensures { self.new ≡ after_sent self.old self.old.queue }
     {
-        self.queue.pop_front();
+        if let Some(head) = self.queue.pop_front() {
+            renew(&mut self.here, &head.what);
+        }
         self.tried = false;
     }
 

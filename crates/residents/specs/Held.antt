@@ -1,5 +1,5 @@
 -- What is held of a process that is at home in a cluster.
-use Rattle.std.specs.Prelude.{ℕ, ◌≡◌, ◌+◌, Bool, true, false, ◌||◌, if◌then◌else◌, List, [], ◌∷◌, ◌++◌, map, find, Option, None, option_map, ⊤}
+use Rattle.std.specs.Prelude.{ℕ, ◌≡◌, ◌+◌, Bool, true, false, ◌||◌, if◌then◌else◌, List, [], ◌∷◌, ◌++◌, map, find, length, replicate, Option, None, option_map, ⊤}
 use Rattle.std.specs.Option.{option_map_or}
 use Rattle.t32_base.specs.declared.process.Pid.{Pid}
 use Rattle.t32_base.specs.declared.process.Counts.{Counts}
@@ -8,7 +8,6 @@ use Rattle.proc_state.specs.declared.process.Process.{Process}
 use Rattle.proc_state.specs.State.{state_of}
 use Rattle.sys_calls.specs.Next.{next_step, has_step}
 use Rattle.bus_msg.specs.Places.{same_pid}
-use Rattle.sync_point.specs.Batch.{synced}
 use Rattle.quanta.specs.declared.limits.Limits.{Limits}
 use Rattle.quanta.specs.Limited.{is_due, is_within}
 use Rattle.backup_records.specs.Records.{with_saved}
@@ -104,12 +103,17 @@ abbrev pub asked_held : Held → Held
 asked_held (Waits waiting) = Waits (record waiting { asked = waiting.asked + 1 })
 asked_held h = h
 
--- ---- the head was sent
+-- ---- its new backup was sent
 
-abbrev pub synced_held : Held → Held
-synced_held (Runs p) = Runs (synced p)
-synced_held (Rolls p counts births) = Rolls p counts births
-synced_held (Waits waiting) = Waits waiting
+-- it counts from where it stands
+abbrev pub renewed : Process → Process
+renewed p = record p { ram = record (p.ram) { dirty = replicate (length (p.ram).dirty) false }; read = []; since = (p.small).steps }
 
-abbrev pub with_synced : Pid → List (Pid × Held) → List (Pid × Held)
-with_synced p here = map (λ (e : Pid × Held). if same_pid e.0 p then (e.0, synced_held e.1) else e) here
+abbrev pub renewed_held : Held → Held
+renewed_held (Runs p) = Runs (renewed p)
+renewed_held (Rolls p counts births) = Rolls p counts births
+renewed_held (Waits waiting) = Waits waiting
+
+-- so does the process with a pid, if it runs here
+abbrev pub with_renewed : Pid → List (Pid × Held) → List (Pid × Held)
+with_renewed p here = map (λ (e : Pid × Held). if same_pid e.0 p then (e.0, renewed_held e.1) else e) here

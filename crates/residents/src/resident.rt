@@ -4,7 +4,7 @@ ghost use Rattle.std.specs.Option.{option_copied};
 ghost use Rattle.proc_state.specs.State.{state_of};
 ghost use Rattle.roll_forward.specs.RunsOut.{RunsOut, nothing_left};
 ghost use Rattle.page_waits.specs.Waiting.{next_page};
-ghost use Rattle.residents.specs.Held.{Runs, Rolls, Waits, arrived_held, asked_held, can_act, is_running, is_waiting, next_number, page_held, page_lacked, rolling_held, steps_of_held};
+ghost use Rattle.residents.specs.Held.{Runs, Rolls, Waits, arrived_held, asked_held, can_act, is_running, is_waiting, next_number, page_held, page_lacked, renewed_held, rolling_held, steps_of_held};
 ghost use Rattle.residents.specs.ChildrenFirst.{comes_after_children};
 ghost use Rattle.residents.specs.Quantum.{ActsOn, RenewsNow, RunsQuantum, SyncsNow};
 ghost use Rattle.residents.specs.Bearing.{CanForkNow, HasForked};
@@ -196,6 +196,15 @@ impl Resident {
         match &mut self.standing {
             Some(Standing::Runs(process)) => fresh(alloc, process, to, by),
             _ => unreachable!(),
+        }
+    }
+
+    /// What brings it its new backup was sent: it counts from where it stands, if it runs. Takes no memory.
+    pub fn renewed(&mut self)
+        ensures { self.new ≡ renewed_held self.old }
+    {
+        if let Some(Standing::Runs(process)) = &mut self.standing {
+            process.synced();
         }
     }
 

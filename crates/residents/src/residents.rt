@@ -17,7 +17,7 @@ ghost use Rattle.residents.specs.Records.{record_at};
 ghost use Rattle.residents.specs.Residents.{AsksOf, GivenTurnIs, HasRoom, NextAble, RenewsAt, RunsAt, RunsOnAt, SyncsAt, TurnIs, are_rising, are_settled, is_settled, is_stuck_at, lacks_none_at, next_ready, none_has_turn, pids_in};
 ghost use Rattle.residents.specs.Changed.{with_more};
 ghost use Rattle.residents.specs.Resident.{CanComeTo};
-ghost use Rattle.residents.specs.Held.{Held, arrived_held, held_of, runs_at};
+ghost use Rattle.residents.specs.Held.{Held, arrived_held, held_of, runs_at, with_renewed};
 ghost use Rattle.residents.specs.Asking.{AsksNext, any_lacks, any_waits, is_lowest_lacking};
 
 use crate::duty::Duty;
@@ -306,6 +306,21 @@ impl Residents {
         match self.child_before(pid, family) {
             Some(child) => Ok(Quantum::Synced(self.synchronise(alloc, by, child)?)),
             None => self.give_own(alloc, by, pid, family),
+        }
+    }
+
+    /// What brings the process with a pid its new backup was sent: it counts from where it stands, if it runs here. Takes no memory.
+    pub fn renewed(&mut self, pid: Pid)
+        ensures here { self.new.here ≡ with_renewed pid self.old.here }
+        ensures last { self.new.last ≡ self.old.last }
+        ensures duty { self.new.duty ≡ self.old.duty }
+    {
+        if let Some(key) = self.keys.get(&pid.0) {
+            self.told = None;
+            match self.residents.get_mut(*key) {
+                Some(resident) => resident.renewed(),
+                None => unreachable!(),
+            }
         }
     }
 

@@ -120,7 +120,7 @@ handed_is system log e c h head =
 
 -- ---- after the head was sent
 
-sent_loses_none : (w : What) → is_sent w ≡ true → cluster_lost w ≡ None
+pub sent_loses_none : (w : What) → is_sent w ≡ true → cluster_lost w ≡ None
 sent_loses_none (Crash k cause) sent = absurd (true≢false (sym sent))
 sent_loses_none _ sent = refl
 

@@ -31,7 +31,7 @@ use Rattle.cluster_core.specs.Recovered.{with_all_waiting}
 use Rattle.cluster_core.specs.View.{ClusterView, after_head, after_sent, head_of, with_server}
 use Rattle.residents.specs.Held.{Held, held_of}
 use Rattle.cluster_core.proofs.absorbing.Absorbed.{follows_entry}
-use Rattle.cluster_core.proofs.absorbing.Fallen.{own_left}
+use Rattle.cluster_core.proofs.absorbing.Fallen.{plain_left, sent_loses_none}
 use Rattle.cluster_core.proofs.absorbing.Arriving.{comes_here, goes_elsewhere}
 use Rattle.cluster_core.proofs.absorbing.Counted.{capped_less, count_by-snoc, lost_before}
 use Rattle.cluster_core.proofs.heard.Heard.{any_less, sync_keeps_concerns, without_child}
@@ -121,7 +121,7 @@ module _ (c : ClusterView) (log : List Entry) (e : Entry) (valid : is_system c.s
   goes_on : FollowsBuilt c.system later taken
   goes_on =
       follows_entry (shadow log left) e c.server valid (own_upto c.cursor (length log) c.here (f.log).within f.own) (ap are_rising (none_moved c log e valid now next away f _))
-      (serves c log e valid now next away f c.server refl) (own_left (shadow log left) log e between) log now next (inr between)
+      (serves c log e valid now next away f c.server refl) (plain_left places (what e) rest (ap (λ (w : What). cluster_lost w) said ∙ sent_loses_none post.what unlost) plain.1) log now next (inr between)
 
   as_left : taken ≡ alike left taken.cursor taken.places taken.family taken.steps
   as_left = λ i. record left {
