@@ -170,12 +170,12 @@ module _ (system : System) (valid : is_system system ≡ true) (log : List Entry
   living_same (Cluster k) = ap (λ (cs : List ClusterPlace). option_map_or (λ (c : ClusterPlace). c.lives) (slice_get cs k.0) false) clusters_same
   living_same Bus = refl
 
-  pids_same : (k : ClusterNo) → pids_home k (placement system later).placed ≡ pids_home k places.placed
+  pub pids_same : (k : ClusterNo) → pids_home k (placement system later).placed ≡ pids_home k places.placed
   pids_same k = ap (λ (places : Places). pids_home k places.placed) (placement-snoc system log e) ∙ ap (λ w. pids_home k (placed_after places w).placed) r.same ∙ pids_renewed k r.to r.fresh r.recs places.placed
 
   -- ---- what it leaves
 
-  brings_nothing : BringsNothing system log e
+  pub brings_nothing : BringsNothing system log e
   brings_nothing = record {
     no_loss = ap cluster_lost r.same;
     no_letter = λ p. ap (letter_for p) r.same;

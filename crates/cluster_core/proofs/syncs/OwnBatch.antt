@@ -38,6 +38,7 @@ use Rattle.cluster_core.specs.Holds.{IsHeldAs, is_fetch_queued, CarriesMarks, Ma
 use Rattle.cluster_core.specs.Syncing.{Synchronises}
 use Rattle.cluster_core.specs.Bearing.{BearsChild}
 use Rattle.cluster_core.specs.HandingOn.{HandsOver}
+use Rattle.cluster_core.specs.Renewing.{Renews}
 use Rattle.cluster_core.specs.Follows.{FollowsBuilt, IsOpen, StandsBetween}
 use Rattle.cluster_core.specs.Calls.{with_entry}
 use Rattle.cluster_core.specs.Serving.{Serves}
@@ -60,13 +61,12 @@ use Rattle.replay_laws.proofs.forks.EitherWait.{so_alike}
 use Rattle.cluster_core.proofs.forks.ForksAgain.{forks_synced}
 use Rattle.checkpoint_laws.proofs.limits.RestLimits.{page_leaves_sync}
 use Rattle.cluster_core.proofs.syncs.Batching.{batch_state}
-use Rattle.cluster_core.specs.Renewing.{Renews}
 use Rattle.cluster_core.proofs.awaiting.Awaited.{awaited_after}
 
 -- ---- what a batch leaves of the other processes
 
 -- posts that tell of no other process, and ask for no page
-record AsideOf (p : Pid) (posts : List Post) : Type 0 where
+pub record AsideOf (p : Pid) (posts : List Post) : Type 0 where
   pub moves : (q : Pid) → same_pid p q ≡ false → move_of q posts ≡ None
   pub fetches : (q : Pid) (i : ℕ) → is_fetch_queued q posts i ≡ false
 
@@ -91,8 +91,12 @@ batch_aside k p s read took indices = record { moves = λ q. batch_moves_other k
 
 -- ---- the head of a batch in the log
 
+-- the forms of what is queued
+abbrev pub OfForm : System → List Entry → ClusterView → Type 0
+OfForm system log c = IsQueued c.queue ⊎ Synchronises system log c ⊎ BearsChild system log c ⊎ HandsOver c ⊎ Renews system log c
+
 -- a cluster whose head was sent has the rest
-abbrev left : ClusterView → List Post → ClusterView
+abbrev pub left : ClusterView → List Post → ClusterView
 left b rest = record b { queue = rest; tried = false }
 
 module _ (system : System) (valid : is_system system ≡ true) (log : List Entry) (b : ClusterView) (f : FollowsBuilt system log b) (tried : b.tried ≡ true) (own : AllOwn b.cursor b.here) (p : Pid) (process : Process) (there : held_at b p ≡ Some (Runs process)) (head : Post) (rest : List Post) (posts : b.queue ≡ head ∷ rest) (of : is_of_sync head.what ≡ true) (told : process_of head.what ≡ Some p)
@@ -145,8 +149,8 @@ module _ (system : System) (valid : is_system system ≡ true) (log : List Entry
       let pages = count_by-snoc (λ (e : Entry). is_page_entry (what e)) log e in
       omega (arith, same, pages)
 
-  follows_head : (server : Option PagerState) → Serves (placement system log) e b.server server → AsideOf p (head ∷ rest) → AsideOf p rest → state_now system later rest p (process.small).steps ≡ Some (state_of process)
-      → IsQueued rest ⊎ Synchronises system later (with_server server (passed (left b rest) e)) → FollowsBuilt system later (with_server server (passed (left b rest) e))
+  pub follows_head : (server : Option PagerState) → Serves (placement system log) e b.server server → AsideOf p (head ∷ rest) → AsideOf p rest → state_now system later rest p (process.small).steps ≡ Some (state_of process)
+      → OfForm system later (with_server server (passed (left b rest) e)) → FollowsBuilt system later (with_server server (passed (left b rest) e))
   follows_head server serves aside_all aside runs queued = record {
     log = record {
       cursor = ap (λ m. m + 1) (f.log).cursor ∙ sym (length-append log (e ∷ []));
@@ -157,7 +161,7 @@ module _ (system : System) (valid : is_system system ≡ true) (log : List Entry
       own = (and_parts (is_from b.number head.by) _ (subst (λ ps. list_all (λ (post : Post). is_from b.number post.by) ps ≡ true) posts (f.queue).own)).1;
       legal = (subst (IsQueueLegal SentMayFollow system log) posts (f.queue).legal).1;
     };
-    queued = widened queued;
+    queued = queued;
     steps = record { counted = λ kept. counted_own system log e b.number b.tried b.steps tried ((f.steps).counted (lost_before log e b.number kept)) };
     limits = f.limits;
     pages = λ q h at runs. pages_after system log e q b.number valid now.0 (stands system valid log e of now next) (differ system valid log e of now next) (home q h at) (loses_none system valid log e of now next b.number) (f.pages q h at runs);
@@ -170,10 +174,6 @@ module _ (system : System) (valid : is_system system ≡ true) (log : List Entry
     accounts = accounts_on system log e b (with_server server (passed (left b rest) e)) serves refl calls f.accounts;
     disk = ((f.disk).0, ahead_after (placement system log) e b.server server serves (f.disk).1);
   }
-    where
-      widened : IsQueued rest ⊎ Synchronises system later (with_server server (passed (left b rest) e)) → IsQueued rest ⊎ Synchronises system later (with_server server (passed (left b rest) e)) ⊎ BearsChild system later (with_server server (passed (left b rest) e)) ⊎ HandsOver (with_server server (passed (left b rest) e)) ⊎ Renews system later (with_server server (passed (left b rest) e))
-      widened (inl alone) = inl alone
-      widened (inr y) = inr (inl y)
 
 -- ---- the whole
 
@@ -194,7 +194,7 @@ follows_own_batch c log e server valid own now next s y serves = by_indices y.in
     -- the entry is the head of its queue, and the cluster has the rest
     from_head : (head : Post) (rest : List Post) → b.queue ≡ head ∷ rest → after_sent b (head ∷ rest) ≡ left b rest → is_of_sync head.what ≡ true → process_of head.what ≡ Some y.pid → AsideOf y.pid (head ∷ rest) → AsideOf y.pid rest
         → state_now system (log ++ entry_of system log head ∷ []) rest y.pid ((y.process).small).steps ≡ Some state
-        → IsQueued rest ⊎ Synchronises system (log ++ entry_of system log head ∷ []) (with_server server (passed (left b rest) (entry_of system log head)))
+        → OfForm system (log ++ entry_of system log head ∷ []) (with_server server (passed (left b rest) (entry_of system log head)))
         → FollowsBuilt system (log ++ e ∷ []) (with_server server (with_entry c e))
     from_head head rest posts sent of told aside_all aside runs queued =
         subst (λ x. FollowsBuilt system (log ++ x ∷ []) (with_server server (with_entry c x))) whole
@@ -217,7 +217,7 @@ follows_own_batch c log e server valid own now next s y serves = by_indices y.in
         let sent = page_sent system log b.number y.pid state i y.read y.took indices may in
         from_head (page_left b.number y.pid state i) (posts_left b.number y.pid state y.read y.took indices) posts refl refl refl (batch_aside b.number y.pid state y.read y.took (i ∷ indices)) (batch_aside b.number y.pid state y.read y.took indices)
         (ap (state_by system _ y.pid (state.small).steps) (batch_moves b.number y.pid state y.read y.took indices) ∙ batch_state system _ b.number y.pid state y.read y.took indices sent)
-        (inr (record {
+        (inr (inl (record {
           pid = y.pid;
           process = y.process;
           read = y.read;
@@ -230,4 +230,4 @@ follows_own_batch c log e server valid own now next s y serves = by_indices y.in
           unread = y.unread;
           since = y.since;
           unmarked = y.unmarked;
-        }))
+        })))
