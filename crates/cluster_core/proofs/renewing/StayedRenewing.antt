@@ -11,13 +11,11 @@ use Rattle.sys_text.specs.Valid.{is_system}
 use Rattle.rv_mem.specs.Memory.{page_at as page_bytes}
 use Rattle.proc_state.specs.declared.process.Process.{Process}
 use Rattle.proc_state.specs.State.{ProcState, delivered, state_of}
-use Rattle.bus_msg.specs.declared.entry.What.{What}
 use Rattle.bus_msg.specs.declared.entry.What.TheVariants.{Page}
 use Rattle.bus_msg.specs.declared.entry.By.TheVariants.{Cluster}
 use Rattle.bus_msg.specs.declared.entry.Post.{Post}
 use Rattle.bus_msg.specs.declared.entry.Entry.{Entry}
 use Rattle.bus_msg.specs.declared.placed.Placed.{Placed}
-use Rattle.bus_msg.specs.Places.{Places}
 use Rattle.bus_msg.specs.PlacedAfter.{what}
 use Rattle.cert_sched.specs.Built.{MayStand}
 use Rattle.cert_sched.specs.Deeds.{arrived_count, letter_for}
@@ -39,7 +37,7 @@ use Rattle.checkpoint_laws.specs.posts.Marked.{IsMarked, arrived_below}
 use Rattle.checkpoint_laws.proofs.marks.LetterMarks.{letter_kept}
 use Rattle.checkpoint_laws.proofs.marks.SentPages.{sent_on}
 use Rattle.checkpoint_laws.specs.batches.Between.{ComesBetween}
-use Rattle.checkpoint_laws.specs.batches.Underway.{PagesMay, page_left, with_letters}
+use Rattle.checkpoint_laws.specs.batches.Underway.{PagesMay, with_letters}
 use Rattle.checkpoint_laws.proofs.batches.EntryBetween.{as_delivered, pages_stay}
 use Rattle.checkpoint_laws.proofs.batches.OtherSenders.{others_between}
 use Rattle.checkpoint_laws.proofs.limits.StayingLimits.{left_keeps}
@@ -48,7 +46,6 @@ use Rattle.backup_laws.proofs.RenewalMarks.{counts_kept}
 use Rattle.residents.specs.Held.{Held, Runs, held_of}
 use Rattle.residents.specs.Residents.{pids_in}
 use Rattle.cluster_core.specs.View.{ClusterView, held_at}
-use Rattle.cluster_core.specs.Queue.{left_queued}
 use Rattle.cluster_core.specs.Renewing.{Renews, renewing_left}
 use Rattle.cluster_core.specs.Follows.{FollowsBuilt, IsOpen}
 use Rattle.cluster_core.proofs.here.Beside.{FollowsBeside}
@@ -62,15 +59,6 @@ use Rattle.cluster_core.proofs.syncs.Stayed.{RunsStill}
 use Rattle.cluster_core.proofs.working.Working.{home_by}
 
 -- ---- what is queued
-
--- at any entry that is no loss of a page to come the pages stay, and the new backup behind them falls
-pub renewal_falls : (before : Places) (w : What) (k : ClusterNo) (to : Option ClusterNo) (p : Pid) (s : ProcState) (indices : List ℕ) → left_queued before w (renewing_left k to p s indices) ≡ renewing_left k None p s indices
-renewal_falls before w k None p s [] = refl
-renewal_falls before w k None p s (i ∷ []) = refl
-renewal_falls before w k None p s (i ∷ j ∷ indices) = ap (λ ps. page_left k p s i ∷ ps) (renewal_falls before w k None p s (j ∷ indices))
-renewal_falls before w k (Some to) p s [] = refl
-renewal_falls before w k (Some to) p s (i ∷ []) = refl
-renewal_falls before w k (Some to) p s (i ∷ j ∷ indices) = ap (λ ps. page_left k p s i ∷ ps) (renewal_falls before w k (Some to) p s (j ∷ indices))
 
 -- the pages are told by the small state and the memory
 same_pages : (k : ClusterNo) (p : Pid) (s t : ProcState) (indices : List ℕ) → s.small ≡ t.small → s.memory ≡ t.memory → renewing_left k None p s indices ≡ renewing_left k None p t indices

@@ -1,5 +1,5 @@
 -- A cluster that takes in a post of its own batch goes on to follow the log: a page of the process that synchronises, or the cut at the end of the batch.
-use Rattle.std.proofs.Common.{◌≡◌, ◌⊎◌, ℕ, ◌+◌, refl, sym, ◌∙◌, ap, subst, arith, List, [], ◌∷◌, ◌++◌, length-append, Bool, true, false, cond, eqb-true, eq-eqb, Option, Some, None, true≢false, inl, inr}
+use Rattle.std.proofs.Common.{◌≡◌, ℕ, ◌+◌, refl, sym, ◌∙◌, ap, subst, arith, List, [], ◌∷◌, ◌++◌, length-append, Bool, true, false, cond, eqb-true, eq-eqb, Option, Some, None, true≢false, inl, inr}
 use Rattle.std.specs.Prelude.{◌≢◌, option_map}
 use Rattle.std.specs.List.{list_all}
 use Rattle.std.proofs.lemmas.Bool.{and_parts}
@@ -33,13 +33,10 @@ use Rattle.cluster_core.specs.View.{ClusterView, after_sent, head_of, held_at, w
 use Rattle.residents.specs.Held.{Held, Runs, Rolls, Waits}
 use Rattle.residents.specs.Residents.{pids_in}
 use Rattle.cluster_core.specs.Parts.{AllOwn}
-use Rattle.cluster_core.specs.Queue.{Nothing, IsQueued, IsQueueLegal, is_rebackup, move_of, state_by, state_now, with_queue}
+use Rattle.cluster_core.specs.Queue.{Nothing, IsQueueLegal, is_rebackup, move_of, state_by, state_now, with_queue}
 use Rattle.cluster_core.specs.Holds.{IsHeldAs, is_fetch_queued, CarriesMarks, MarkedIfThere, unended_process}
 use Rattle.cluster_core.specs.Syncing.{Synchronises}
-use Rattle.cluster_core.specs.Bearing.{BearsChild}
-use Rattle.cluster_core.specs.HandingOn.{HandsOver}
-use Rattle.cluster_core.specs.Renewing.{Renews}
-use Rattle.cluster_core.specs.Follows.{FollowsBuilt, IsOpen, StandsBetween}
+use Rattle.cluster_core.specs.Follows.{FollowsBuilt, IsOpen, QueuedIn, StandsBetween}
 use Rattle.cluster_core.specs.Calls.{with_entry}
 use Rattle.cluster_core.specs.Serving.{Serves}
 use Rattle.cluster_core.proofs.births.FamilyNext.{family_next}
@@ -90,10 +87,6 @@ batch_aside : (k : ClusterNo) (p : Pid) (s : ProcState) (read : List ℕ) (took 
 batch_aside k p s read took indices = record { moves = λ q. batch_moves_other k p s read took q indices; fetches = λ q i. batch_fetches_none k p s read took q i indices }
 
 -- ---- the head of a batch in the log
-
--- the forms of what is queued
-abbrev pub OfForm : System → List Entry → ClusterView → Type 0
-OfForm system log c = IsQueued c.queue ⊎ Synchronises system log c ⊎ BearsChild system log c ⊎ HandsOver c ⊎ Renews system log c
 
 -- a cluster whose head was sent has the rest
 abbrev pub left : ClusterView → List Post → ClusterView
@@ -150,7 +143,7 @@ module _ (system : System) (valid : is_system system ≡ true) (log : List Entry
       omega (arith, same, pages)
 
   pub follows_head : (server : Option PagerState) → Serves (placement system log) e b.server server → AsideOf p (head ∷ rest) → AsideOf p rest → state_now system later rest p (process.small).steps ≡ Some (state_of process)
-      → OfForm system later (with_server server (passed (left b rest) e)) → FollowsBuilt system later (with_server server (passed (left b rest) e))
+      → QueuedIn system later (with_server server (passed (left b rest) e)) → FollowsBuilt system later (with_server server (passed (left b rest) e))
   follows_head server serves aside_all aside runs queued = record {
     log = record {
       cursor = ap (λ m. m + 1) (f.log).cursor ∙ sym (length-append log (e ∷ []));
@@ -194,7 +187,7 @@ follows_own_batch c log e server valid own now next s y serves = by_indices y.in
     -- the entry is the head of its queue, and the cluster has the rest
     from_head : (head : Post) (rest : List Post) → b.queue ≡ head ∷ rest → after_sent b (head ∷ rest) ≡ left b rest → is_of_sync head.what ≡ true → process_of head.what ≡ Some y.pid → AsideOf y.pid (head ∷ rest) → AsideOf y.pid rest
         → state_now system (log ++ entry_of system log head ∷ []) rest y.pid ((y.process).small).steps ≡ Some state
-        → OfForm system (log ++ entry_of system log head ∷ []) (with_server server (passed (left b rest) (entry_of system log head)))
+        → QueuedIn system (log ++ entry_of system log head ∷ []) (with_server server (passed (left b rest) (entry_of system log head)))
         → FollowsBuilt system (log ++ e ∷ []) (with_server server (with_entry c e))
     from_head head rest posts sent of told aside_all aside runs queued =
         subst (λ x. FollowsBuilt system (log ++ x ∷ []) (with_server server (with_entry c x))) whole
