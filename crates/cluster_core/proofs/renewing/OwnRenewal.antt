@@ -1,6 +1,6 @@
 -- A cluster that takes in a post of what brings a process its new backup goes on to follow the log: a page of the process, or the new backup itself.
 use Rattle.std.proofs.Common.{◌≡◌, ◌⊎◌, ℕ, ◌+◌, ◌-◌, ◌≤◌, refl, sym, ◌∙◌, ap, subst, arith, List, [], ◌∷◌, ◌++◌, length, length-append, Bool, true, false, cond, not, ◌&&◌, leb, eqb-true, eq-eqb, ne_eqb, Option, Some, None, true≢false, inl, inr}
-use Rattle.std.specs.Prelude.{◌≢◌, find, is_some, option_map, replicate}
+use Rattle.std.specs.Prelude.{find, is_some, option_map}
 use Rattle.std.specs.Option.{option_map_or}
 use Rattle.std.proofs.lemmas.Bool.Decides.{nat_tests}
 use Rattle.std.proofs.lemmas.List.{length-replicate}
@@ -12,7 +12,6 @@ use Rattle.sys_text.specs.Valid.{is_system}
 use Rattle.rv_mem.specs.Memory.{page_at}
 use Rattle.proc_state.specs.declared.process.Process.{Process}
 use Rattle.proc_state.specs.State.{ProcState, state_of}
-use Rattle.bus_msg.specs.declared.entry.What.TheVariants.{Rebackup}
 use Rattle.bus_msg.specs.declared.entry.Entry.{Entry}
 use Rattle.bus_msg.specs.declared.entry.Post.{Post}
 use Rattle.bus_msg.specs.Places.{Places, same_pid}
@@ -23,7 +22,6 @@ use Rattle.cert_sched.specs.Built.{MayStand}
 use Rattle.cert_sched.specs.Deeds.{arrived_count}
 use Rattle.cert_sched.specs.Legal.{IsLegalBy, Stands}
 use Rattle.cert_sched.specs.Parts.{rising}
-use Rattle.cert_sched.specs.Rests.{home_pids}
 use Rattle.cert_sched.specs.Schedule.{done_after, placement, process_after}
 use Rattle.cert_sched.specs.Simulation.{IsUnended}
 use Rattle.cert_sched.specs.Steps.{numbers_read}
@@ -32,7 +30,6 @@ use Rattle.cert_sched.proofs.MadeLaws.{apart_from}
 use Rattle.cert_sched.proofs.StepLaws.{done_after-other, process_after-beside, process_after-silent}
 use Rattle.log_laws.proofs.records.KeptLaws.{records_kept}
 use Rattle.log_laws.proofs.records.Standing.{built_stands}
-use Rattle.checkpoint_laws.specs.marks.Sent.{SentUpto}
 use Rattle.checkpoint_laws.specs.posts.Marked.{arrived_below}
 use Rattle.checkpoint_laws.specs.batches.Underway.{PagesMay, page_left}
 use Rattle.checkpoint_laws.proofs.batches.PageSent.{pages_sent}
@@ -44,7 +41,6 @@ use Rattle.backup_laws.specs.Posts.{CountsFrom}
 use Rattle.backup_laws.proofs.RenewalMarks.{renewal_marked, renewal_others, renewal_own as renewal_upto}
 use Rattle.backup_laws.proofs.RenewedMarks.{fresh_beside}
 use Rattle.page_server.specs.Account.{PagerState}
-use Rattle.page_waits.specs.Waiting.{WaitingState}
 use Rattle.residents.specs.Held.{Held, IsHeldWithin, Runs, Waits, held_of, renewed, renewed_held, with_renewed}
 use Rattle.residents.specs.Residents.{pids_in}
 use Rattle.residents.proofs.Changing.{pid_same}
@@ -52,7 +48,7 @@ use Rattle.cluster_core.specs.Calls.{absorbed, with_entry}
 use Rattle.cluster_core.specs.Follows.{FollowsBuilt, IsOpen, StandsBetween}
 use Rattle.cluster_core.specs.Holds.{CarriesMarks, IsHeldAs, MarkedIfThere, process_in, unended_process}
 use Rattle.cluster_core.specs.Parts.{AllOwn}
-use Rattle.cluster_core.specs.Queue.{Nothing, state_now}
+use Rattle.cluster_core.specs.Queue.{Nothing}
 use Rattle.cluster_core.specs.Renewing.{Renews, renewing_left}
 use Rattle.cluster_core.specs.Serving.{Serves}
 use Rattle.cluster_core.specs.Standing.{has_begun}
@@ -67,7 +63,7 @@ use Rattle.cluster_core.proofs.absorbing.Telling.{at_once}
 use Rattle.cluster_core.proofs.awaiting.Awaited.{awaited_after}
 use Rattle.cluster_core.proofs.awaiting.OwedNext.{owed_next}
 use Rattle.cluster_core.proofs.births.FamilyNext.{family_next}
-use Rattle.cluster_core.proofs.forks.ForksAgain.{SameForks, WasBearing, forks_kept, forks_renewed, run_forks, same_forks}
+use Rattle.cluster_core.proofs.forks.ForksAgain.{SameForks, forks_kept, forks_renewed, run_forks, same_forks}
 use Rattle.cluster_core.proofs.here.Beside.{FollowsBeside, one_of_them}
 use Rattle.cluster_core.proofs.here.Here.{is_among}
 use Rattle.cluster_core.proofs.here.Owning.{own_at}

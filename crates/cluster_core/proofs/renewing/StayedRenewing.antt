@@ -1,5 +1,5 @@
 -- A process that gets its new backup while an entry of another cluster is taken in: it is still here, with letters more at most, and the rest of its pages is still to be sent.
-use Rattle.std.proofs.Common.{◌≡◌, ◌≤◌, ℕ, refl, sym, ◌∙◌, ap, subst, arith, List, [], ◌∷◌, ◌++◌, map, true, false, eqb, Option, Some, None}
+use Rattle.std.proofs.Common.{◌≡◌, ◌≤◌, ℕ, refl, sym, ◌∙◌, ap, subst, arith, List, [], ◌∷◌, ◌++◌, map, true, false, eqb, Some, None}
 use Rattle.std.specs.Prelude.{option_map, replicate}
 use Rattle.std.specs.List.{list_any}
 use Rattle.t32_base.specs.declared.process.Pid.{Pid}
@@ -33,7 +33,7 @@ use Rattle.cert_sched.proofs.RisingLaws.{rising-any}
 use Rattle.log_laws.proofs.letters.RollingReads.{silent_next}
 use Rattle.log_laws.proofs.records.Standing.{built_stands}
 use Rattle.checkpoint_laws.specs.marks.Sent.{SentUpto}
-use Rattle.checkpoint_laws.specs.posts.Marked.{IsMarked, arrived_below}
+use Rattle.checkpoint_laws.specs.posts.Marked.{arrived_below}
 use Rattle.checkpoint_laws.proofs.marks.LetterMarks.{letter_kept}
 use Rattle.checkpoint_laws.proofs.marks.SentPages.{sent_on}
 use Rattle.checkpoint_laws.specs.batches.Between.{ComesBetween}
