@@ -75,6 +75,11 @@ abbrev pub renewed_by : What → List (Pid × Held) → List (Pid × Held)
 renewed_by (Rebackup to true (r ∷ rs)) here = with_renewed r.pid here
 renewed_by _ here = here
 
+-- the same by the head of these posts
+abbrev pub renewed_by_head : List Post → List (Pid × Held) → List (Pid × Held)
+renewed_by_head [] here = here
+renewed_by_head (head ∷ rest) here = renewed_by head.what here
+
 abbrev pub after_head : ClusterView → What → ClusterView
 after_head c w = record c { here = renewed_by w c.here }
 

@@ -6,7 +6,7 @@ ghost use Rattle.sys_text.specs.Valid.{is_system};
 ghost use Rattle.cert_sched.specs.Scripted.{is_server};
 ghost use Rattle.page_accounts.specs.Booting.{IsAhead};
 ghost use Rattle.cluster_core.specs.Serving.{HurtsServer, IsFailing};
-ghost use Rattle.cluster_core.specs.View.{head_of, after_sent, renewed_by, counted_once, disk_calls, failed_at, failing_in, tried_once, with_server};
+ghost use Rattle.cluster_core.specs.View.{head_of, after_sent, renewed_by, renewed_by_head, counted_once, disk_calls, failed_at, failing_in, tried_once, with_server};
 ghost use Rattle.cluster_core.specs.Follows.{FollowsBuilt};
 ghost use Rattle.cluster_core.specs.Returned.{returned};
 ghost use Rattle.cluster_core.specs.Calls.{Absorbs, absorbed, FollowsSome, GoesOn, HurtBy, HurtIs, is_resting, IsFirst, KeepsPlace, ReadyFor, RestsIn, rests_of, StopsBy, WorkIs};
@@ -88,8 +88,18 @@ impl<D: PageDisk> Model for Cluster<D> {
     ghost invariant = { λ c. IsSound (arc_value c.system) c.number c.cursor (c.here).duty (c.here).here (c.queue).items };
 }
 
-// A process whose new backup was sent, after it has run, counts from where it stands. Takes no memory.
-fn renew(here: &mut Residents, sent: &What)
+// A process whose new backup heads these posts, after it has run, counts from where it stands. Takes no memory.
+fn renew(here: &mut Residents, queue: &VecDeque<Post>)
+    ensures here { here.new.here ≡ renewed_by_head queue.now.items here.old.here }
+    ensures duty { here.new.duty ≡ here.old.duty }
+{
+    if let Some(head) = queue.front() {
+        renew_by(here, &head.what);
+    }
+}
+
+// So does one whose new backup this is. Takes no memory.
+fn renew_by(here: &mut Residents, sent: &What)
     ensures here { here.new.here ≡ renewed_by sent.now here.old.here }
     ensures duty { here.new.duty ≡ here.old.duty }
 {
@@ -271,9 +281,8 @@ impl<D: PageDisk + Drop> Cluster<D> {
         requires tried { self.old.tried ≡ true }
         ensures { self.new ≡ after_sent self.old self.old.queue }
     {
-        if let Some(head) = self.queue.pop_front() {
-            renew(&mut self.here, &head.what);
-        }
+        renew(&mut self.here, &self.queue);
+        self.queue.pop_front();
         self.tried = false;
     }
 

@@ -42,6 +42,7 @@ use Rattle.cluster_core.proofs.absorbing.Noting.{noted_next}
 use Rattle.cluster_core.proofs.heard.PassedOver.{all_left, at_later, births_left, built, dropped, elsewhere, home_of_it, none_come, none_moved, of_it, own_upto, same_clusters, same_pager, serves, without_last, owed_stays}
 use Rattle.cluster_core.proofs.heard.Shadow.{alike, queued_back, shadow}
 use Rattle.cluster_core.proofs.heard.Unheard.{page_goes}
+use Rattle.cert_sched.specs.Told.{cluster_lost}
 use Rattle.std.proofs.lemmas.Bool.{and_parts, not-true}
 
 -- what is sent changes nothing at once that is no new backup

@@ -9,17 +9,19 @@ use Rattle.proc_state.specs.State.{can_take, state_of}
 use Rattle.sys_calls.specs.Next.{next_step, has_step, silently}
 use Rattle.sys_calls.proofs.Counting.{silently_counts, emits_counts}
 use Rattle.bus_msg.specs.declared.entry.What.{What}
-use Rattle.bus_msg.specs.declared.entry.What.TheVariants.{Mail}
+use Rattle.bus_msg.specs.declared.entry.What.TheVariants.{Mail, Rebackup}
+use Rattle.bus_msg.specs.declared.entry.Post.{Post}
+use Rattle.t32_base.specs.declared.letter.BackRec.{BackRec}
 use Rattle.bus_msg.specs.Places.{same_pid}
 use Rattle.cert_sched.specs.Deeds.{is_end_of}
 use Rattle.sync_point.specs.Batch.{synced}
 use Rattle.sync_point.proofs.Cuts.{cut_keeps}
 use Rattle.sync_point.specs.Due.{is_due_by}
 use Rattle.quanta.specs.declared.limits.Limits.{Limits}
-use Rattle.residents.specs.Held.{Held, Runs, Rolls, Waits, arrived, arrived_held, held_of, next_number, asked_held, going_on, page_held, rolling_held, is_waiting}
+use Rattle.residents.specs.Held.{Held, Runs, Rolls, Waits, arrived, arrived_held, held_of, next_number, asked_held, going_on, page_held, renewed_held, rolling_held, is_waiting, with_renewed}
 use Rattle.residents.specs.Changed.{with_changed}
 use Rattle.residents.specs.Residents.{are_stuck, is_stuck, HasRoom, are_settled, is_settled}
-use Rattle.cluster_core.specs.View.{duty_by}
+use Rattle.cluster_core.specs.View.{duty_by, renewed_by, renewed_by_head}
 use Rattle.cluster_core.specs.Parts.{IsHeldOwn, IsOwn, WaitsOwn, AllOwn}
 use Rattle.cluster_core.specs.Calls.{are_at_rest, here_after, is_at_rest}
 use Rattle.residents.specs.Arriving.{with_page_come}
@@ -265,6 +267,33 @@ own_page cursor p i bytes (e ∷ here) own = (by_test (same_pid e.0 p), own_page
     by_test : (b : Bool) → IsHeldOwn cursor (cond b (e.0, page_held i bytes e.1) e).0 (cond b (e.0, page_held i bytes e.1) e).1
     by_test true = one_page cursor e.0 i bytes e.1 own.0
     by_test false = own.0
+
+-- ---- its new backup was sent
+
+one_renewed : (cursor : ℕ) (pid : Pid) (h : Held) → IsHeldOwn cursor pid h → IsHeldOwn cursor pid (renewed_held h)
+one_renewed cursor pid (Runs process) own = record { pid_is = own.pid_is; arrived = own.arrived }
+one_renewed cursor pid (Rolls process counts births) own = own
+one_renewed cursor pid (Waits waiting) own = own
+
+own_counts : (cursor : ℕ) (p : Pid) (here : List (Pid × Held)) → AllOwn cursor here → AllOwn cursor (with_renewed p here)
+own_counts cursor p [] own = tt
+own_counts cursor p (e ∷ here) own = (by_test (same_pid e.0 p), own_counts cursor p here own.1)
+  where
+    by_test : (b : Bool) → IsHeldOwn cursor (cond b (e.0, renewed_held e.1) e).0 (cond b (e.0, renewed_held e.1) e).1
+    by_test true = one_renewed cursor e.0 e.1 own.0
+    by_test false = own.0
+
+pub own_renewed : (cursor : ℕ) (w : What) (here : List (Pid × Held)) → AllOwn cursor here → AllOwn cursor (renewed_by w here)
+own_renewed cursor (Rebackup to true recs) here own = by_recs recs
+  where
+    by_recs : (recs : List BackRec) → AllOwn cursor (renewed_by (Rebackup to true recs) here)
+    by_recs [] = own
+    by_recs (r ∷ rs) = own_counts cursor r.pid here own
+own_renewed cursor _ here own = own
+
+pub own_by_head : (cursor : ℕ) (queue : List Post) (here : List (Pid × Held)) → AllOwn cursor here → AllOwn cursor (renewed_by_head queue here)
+own_by_head cursor [] here own = own
+own_by_head cursor (head ∷ rest) here own = own_renewed cursor head.what here own
 
 -- ---- a page is asked for
 
