@@ -12,7 +12,7 @@ ghost use Rattle.residents.specs.Arriving.{with_letter, with_page_come};
 ghost use Rattle.residents.specs.Bearing.{CanBear, CanForkAt, ForksAt, with_born};
 ghost use Rattle.residents.specs.ForkingAgain.{child_again, rolls_at, waits_for_fork_at, with_begun, BearsAgain, CanBeginWith, CanForkAgain, CanForkAgainAt, CanForkAgainNow, ForksAgain, RollsPartAt, RollsQuantum, RollsStepsAt, StandsThere};
 ghost use Rattle.residents.specs.ChildrenFirst.{child_before, comes_after, comes_after_at, is_free, is_hindered};
-ghost use Rattle.residents.specs.Duty.{is_able, is_owed, owed_at};
+ghost use Rattle.residents.specs.Duty.{AreOwing, is_able, is_owed, owed_at};
 ghost use Rattle.residents.specs.Records.{record_at};
 ghost use Rattle.residents.specs.Residents.{AsksOf, GivenTurnIs, HasRoom, NextAble, RenewsAt, RunsAt, RunsOnAt, SyncsAt, TurnIs, are_rising, are_settled, is_settled, is_stuck_at, lacks_none_at, next_ready, none_has_turn, pids_in};
 ghost use Rattle.residents.specs.Changed.{with_more};
@@ -23,10 +23,12 @@ ghost use Rattle.residents.specs.Asking.{AsksNext, any_lacks, any_waits, is_lowe
 use crate::duty::Duty;
 use crate::quantum::Quantum;
 use crate::resident::Resident;
+use backup_mode::next::next_backup;
 use backup_queue::record::Record;
 use birth_notice::family::Family;
 use bus_msg::entry::Post;
 use bus_msg::shared::Shared;
+use channel_table::placement::Placement;
 use proc_state::process::Process;
 use quanta::limits::Limits;
 use quanta::quantum::MOST;
@@ -92,8 +94,34 @@ impl Residents {
         self.duty.limits()
     }
 
-    /// These processes are to get a new backup, each in its cluster, and no others. After want of memory nothing has changed.
-    pub fn owe(&mut self, owing: BTreeMap<u32, ClusterNo>) -> Result<(), NoMemory>
+    /// Those processes here are to get a new backup from now on that get one by where they are placed. After want of memory nothing has
+    /// changed.
+    pub fn place(&mut self, alloc: Global, places: &Placement) -> Result<(), NoMemory>
+        ensures here { self.new.here ≡ self.old.here }
+        ensures last { self.new.last ≡ self.old.last }
+        ensures owing { OnOk result (AreOwing places.now self.old.here self.new.duty.owing) }
+        ensures limits { self.new.duty.limits ≡ self.old.duty.limits }
+        ensures err { OnErr result (self.new.duty ≡ self.old.duty) }
+    {
+        let owing = self.owing(alloc, places)?;
+        self.owe(owing)
+    }
+
+    // Those processes here that are to get a new backup by where they are placed, each with its cluster.
+    fn owing(&self, alloc: Global, places: &Placement) -> Result<BTreeMap<u32, ClusterNo>, NoMemory>
+        ensures { IfOk result (λ owing. AreOwing places.now self.now.here owing.entries) }
+    {
+        let mut owing = BTreeMap::new(alloc);
+        for pid in self.keys.keys() {
+            if let Some(to) = next_backup(places, Pid(*pid)) {
+                owing.insert(*pid, to)?;
+            }
+        }
+        Ok(owing)
+    }
+
+    // These processes are to get a new backup, each in its cluster, and no others. After want of memory nothing has changed.
+    fn owe(&mut self, owing: BTreeMap<u32, ClusterNo>) -> Result<(), NoMemory>
         ensures here { self.new.here ≡ self.old.here }
         ensures last { self.new.last ≡ self.old.last }
         ensures ok { OnOk result (self.new.duty ≡ record self.old.duty { owing = owing.entries }) }
