@@ -25,9 +25,8 @@ use Rattle.log_laws.specs.births.Unsynced.{unsynced_births}
 use Rattle.cluster_core.specs.Follows.{FollowsBuilt, IsOpen, StandsBetween}
 use Rattle.cluster_core.specs.Known.{CanKnow, IsKnown}
 use Rattle.cluster_core.specs.Returned.{returned}
-use Rattle.cluster_core.specs.View.{ClusterView, after_head, after_sent}
+use Rattle.cluster_core.specs.View.{ClusterView, after_sent}
 use Rattle.bus_msg.specs.declared.entry.Post.{Post}
-use Rattle.bus_msg.specs.declared.entry.What.TheVariants.{Rebackup}
 use Rattle.bus_order.specs.Script.{off_at}
 use Rattle.bus_order.specs.View.{BusView}
 use Rattle.bus_order.proofs.LogParts.{take_one}
@@ -90,19 +89,11 @@ take_more_by (y ∷ xs) (suc n) (suc m) x order at =
 -- what it knows of the log up to its cursor
 sent_places : (c : ClusterView) (queue : List Post) → (after_sent c queue).places ≡ c.places
 sent_places c [] = refl
-sent_places c (post ∷ rest) = by_what (post.what)
-  where
-    by_what : (w : What) → (after_head c w).places ≡ c.places
-    by_what (Rebackup to true (r ∷ rs)) = refl
-    by_what _ = refl
+sent_places c (post ∷ rest) = refl
 
 sent_family : (c : ClusterView) (queue : List Post) → (after_sent c queue).family ≡ c.family
 sent_family c [] = refl
-sent_family c (post ∷ rest) = by_what (post.what)
-  where
-    by_what : (w : What) → (after_head c w).family ≡ c.family
-    by_what (Rebackup to true (r ∷ rs)) = refl
-    by_what _ = refl
+sent_family c (post ∷ rest) = refl
 
 between_known : (system : System) (log : List Entry) (e : Entry) (c : ClusterView) → StandsBetween FollowsBuilt system log e c → IsKnown system log c.places c.family
 between_known system log e c between =

@@ -10,6 +10,8 @@ use Rattle.std.proofs.lemmas.Nat.{mul-le}
 use Rattle.std.proofs.lemmas.Option.{slice_get_cases, same_Some}
 use Rattle.std.proofs.Math.Nat.{mul-le-mul_right}
 use Rattle.t32_base.specs.declared.process.Pid.{Pid}
+use Rattle.t32_base.specs.declared.process.ClusterNo.{ClusterNo}
+use Rattle.t32_base.specs.declared.letter.BackRec.{BackRec}
 use Rattle.t32_base.specs.Small.{SmallState}
 use Rattle.sys_text.specs.declared.system.System.{System}
 use Rattle.sys_text.specs.Valid.{is_system}
@@ -33,24 +35,25 @@ use Rattle.cert_sched.specs.Deeds.{since, starts}
 use Rattle.cert_sched.specs.Rolling.{refilled}
 use Rattle.cert_sched.specs.Schedule.{placement, plain_after, process_after}
 use Rattle.cert_sched.specs.Kinds.{after_take, took_is}
-use Rattle.cert_sched.specs.Steps.{emission_at, process_of, silent_upto}
+use Rattle.cert_sched.specs.Steps.{at_record, emission_at, first_record, process_of, silent_upto}
 use Rattle.cert_sched.specs.Appended.{entry_of}
 use Rattle.cert_sched.specs.Rests.{home_pids}
 use Rattle.cert_sched.specs.Rules.{is_over}
 use Rattle.cert_sched.specs.Built.{MayStand}
 use Rattle.cluster_core.specs.Sent.{SentMayFollow, is_sent}
-use Rattle.cluster_core.specs.HandingOn.{HandsOver}
 use Rattle.cert_sched.specs.Legal.{IsLegalBy, Stands}
 use Rattle.cluster_turns.specs.Ends.{is_cut_off}
 use Rattle.cert_sched.proofs.KernelSums.{one_of_sum, sum_of}
 use Rattle.cert_sched.proofs.RisingLaws.{NoTwo}
 use Rattle.cert_sched.proofs.StepLaws.{sent_from, silent_from}
-use Rattle.cluster_core.specs.View.{ClusterView, after_sent, head_of, has_moved, held_load, load, process_load}
-use Rattle.residents.specs.Held.{Held, Runs, Rolls, Waits, held_of}
+use Rattle.cluster_core.specs.View.{ClusterView, after_head, after_sent, head_of, has_moved, held_load, load, process_load}
+use Rattle.residents.specs.Held.{Held, Runs, Rolls, Waits, held_of, renewed, renewed_held, with_renewed}
 use Rattle.cluster_core.specs.Holds.{IsHeldAs}
 use Rattle.cluster_core.specs.Calls.{FollowsSome}
-use Rattle.cluster_core.specs.Follows.{FollowsBuilt, IsOpen}
-use Rattle.cluster_core.specs.Queue.{Nothing, One, IsQueueLegal, is_move_of, state_by, AreTogether, IsQueued, Queued, is_lone, move_of, posts_of, tells_steps}
+use Rattle.cluster_core.specs.Follows.{FollowsBuilt, IsOpen, QueuedIn}
+use Rattle.cluster_core.specs.Renewing.{renewing_left}
+use Rattle.backup_mode.specs.Posts.{fresh_post}
+use Rattle.cluster_core.specs.Queue.{Nothing, One, IsQueueLegal, is_move_of, state_by, AreTogether, Queued, is_lone, move_of, posts_of, tells_steps}
 use Rattle.residents.proofs.Changing.{same_itself, pid_same}
 use Rattle.residents.specs.Residents.{pids_in}
 use Rattle.cluster_core.proofs.working.Lightening.{held_apart}
@@ -76,12 +79,10 @@ use Rattle.cluster_turns.proofs.Prefixes.{goes_on_before}
 use Rattle.cluster_run.proofs.PagesWithin.{few_placed, most_pages, pages_within, placed_count}
 use Rattle.cluster_turns.proofs.StepLosses.{gone_inside, same_sent}
 use Rattle.cluster_run.proofs.Together.{one_member}
-use Rattle.cluster_turns.proofs.SentKinds.{by_sent, same_after}
+use Rattle.cluster_turns.proofs.SentKinds.{by_sent}
 use Rattle.log_laws.specs.pages.Left.{left_of_pages}
 use Rattle.sys_calls.proofs.TakeLaws.{taken_strikes}
 use Rattle.std.proofs.lemmas.Bool.{and_parts}
-use Rattle.cluster_core.specs.Syncing.{Synchronises}
-use Rattle.cluster_core.specs.Bearing.{BearsChild}
 use Rattle.cluster_core.proofs.syncs.BatchPosts.{batch_moves, batch_moves_other}
 use Rattle.checkpoint_laws.specs.batches.Underway.{posts_left}
 use Rattle.checkpoint_laws.proofs.posts.TakeLeaves.{takes_leave}
@@ -169,8 +170,12 @@ moved_within system log p steps t =
     (λ pid at end tells can there. emitted_within system log pid at t (emission_at system log pid at) refl (same_option _ ∙ there))
     (λ pid index tells. absurd (true≢false (sym tells))) (λ pid index bytes tells. absurd (true≢false (sym tells))) (λ pid at index bytes tells. absurd (true≢false (sym tells)))
     (λ pid small read took tells can there. cut_within pid small took (silent_upto system log pid small.steps) refl can there)
-    (λ to recs tells. absurd (true≢false (sym tells))) (λ rests tells. absurd (true≢false (sym tells))) (λ tells. absurd (true≢false (sym tells)))
+    (λ to fresh recs tells can there. renewed_within (first_record recs) (same_option _ ∙ there)) (λ rests tells. absurd (true≢false (sym tells))) (λ tells. absurd (true≢false (sym tells)))
   where
+    renewed_within : (o : Option BackRec) → option_and_then (at_record system log) o ≡ Some t → weight_with_children t.small ≤ boot_load system
+    renewed_within None there = cc
+    renewed_within (Some r) there = silent_within system log r.pid (steps_in r.state) t there
+
     cut_within : (pid : Pid) (small : SmallState) (took : Option ℕ) (o : Option ProcState) → silent_upto system log pid small.steps ≡ o → option_map (took_is took) o ≡ Some true → option_map (after_take took) o ≡ Some t → weight_with_children t.small ≤ boot_load system
     cut_within pid small took None is can there = cc
     cut_within pid small took (Some u) is can there =
@@ -223,7 +228,7 @@ lone_rightly system log (PageIs pid index bytes) lone = tt
 lone_rightly system log _ lone = absurd (true≢false (sym lone))
 
 -- a signal that is queued as taken is one that its process can take
-queued_rightly : (system : System) (log : List Entry) (c : ClusterView) (p : Pid) → IsQueued c.queue ⊎ Synchronises system log c ⊎ BearsChild system log c ⊎ HandsOver c → (w : What) → move_of p c.queue ≡ Some w → TakesRightly system log w
+queued_rightly : (system : System) (log : List Entry) (c : ClusterView) (p : Pid) → QueuedIn system log c → (w : What) → move_of p c.queue ≡ Some w → TakesRightly system log w
 queued_rightly system log c p (inl alone) w is = by_queued alone.queued alone.together (ap (move_of p) (sym alone.posts) ∙ is)
   where
     by_test : (post : Post) (b : Bool) → is_lone post.what ≡ true → option_map (λ (post : Post). post.what) (cond b (Some post) None) ≡ Some w → TakesRightly system log w
@@ -252,10 +257,23 @@ queued_rightly system log c p (inr (inl y)) w is = by_pid (same_pid y.pid p) ref
         subst (TakesRightly system log) (same_Some (Sync y.pid s.small y.read y.took) w (sym moves ∙ here)) can
     by_pid false other = let none : None ≡ Some w = sym (batch_moves_other c.number y.pid s y.read y.took p y.indices other) ∙ here in cc
 queued_rightly system log c p (inr (inr (inl b))) w is = let none : None ≡ Some w = ap (move_of p) (sym b.posts) ∙ is in cc
-queued_rightly system log c p (inr (inr (inr h))) w is = let none : None ≡ Some w = sym (stays h.post h.standing) ∙ ap (move_of p) (sym h.posts) ∙ is in cc
+queued_rightly system log c p (inr (inr (inr (inl h)))) w is = let none : None ≡ Some w = sym (stays h.post h.standing) ∙ ap (move_of p) (sym h.posts) ∙ is in cc
   where
     stays : (post : Post) → post.what ≡ Rebackup h.to false h.recs → move_of p (post ∷ []) ≡ None
     stays post is = ap (λ (w : What). move_of p (record post { what = w } ∷ [])) is
+queued_rightly system log c p (inr (inr (inr (inr y)))) w is = of_renewal y.to y.indices (ap (move_of p) (sym y.posts) ∙ is)
+  where
+    fresh : ClusterNo → Post
+    fresh k = fresh_post c.number k y.pid (state_of y.process)
+
+    by_test : (k : ClusterNo) (b : Bool) → option_map (λ (post : Post). post.what) (cond b (Some (fresh k)) None) ≡ Some w → TakesRightly system log w
+    by_test k true is = subst (TakesRightly system log) (same_Some ((fresh k).what) w is) tt
+    by_test k false is = cc
+
+    of_renewal : (to : Option ClusterNo) (indices : List ℕ) → move_of p (renewing_left c.number to y.pid (state_of y.process) indices) ≡ Some w → TakesRightly system log w
+    of_renewal None [] is = cc
+    of_renewal (Some k) [] is = by_test k (same_pid y.pid p) is
+    of_renewal to (i ∷ js) is = of_renewal to js is
 
 held_within : (system : System) (log : List Entry) (queue : List Post) (p : Pid) (h : Held) → IsQueueLegal SentMayFollow system log queue → ((w : What) → move_of p queue ≡ Some w → TakesRightly system log w) → IsHeldAs system log queue p h → held_load h ≤ most_held system
 held_within system log queue p (Runs process) legal can is =
@@ -326,6 +344,45 @@ load_within system log c valid legal follows two =
     each_held (λ h. held_load h ≤ most_held system) c.here two (λ p h at. held_within system log c.queue p h (follows.queue).legal (queued_rightly system log c p follows.queued) ((follows.processes).held p h at)) in
     omega (arith, sum_by-le (λ (e : Pid × Held). held_load e.1) (most_held system) c.here each, mul-le (length c.here) (most_held system) (placed_count system) (most_held system) (few_here system log c valid legal (follows.processes).each_once) (omega arith))
 
+-- ---- what a cluster has left whose head was sent
+
+-- a process that counts from where it stands has no more left
+renewed_lighter : (h : Held) → held_load (renewed_held h) ≤ held_load h
+renewed_lighter (Runs process) = by_test (has_moved process) (has_moved (renewed process)) still
+  where
+    still : has_moved (renewed process) ≡ false
+    still = ap (λ b. b || false) (irreflexive (process.small).steps)
+      where
+        irreflexive : (n : ℕ) → nat_lt n n ≡ false
+        irreflexive n = hole
+
+    by_test : (b now : Bool) → now ≡ false → 2 * weight_with_children (process.small) + cond now 1 0 ≤ 2 * weight_with_children (process.small) + cond b 1 0
+    by_test true now is = hole
+    by_test false now is = hole
+renewed_lighter (Rolls process counts births) = omega arith
+renewed_lighter (Waits waiting) = omega arith
+
+renewed_load : (p : Pid) (here : List (Pid × Held)) → sum_by (λ (e : Pid × Held). held_load e.1) (with_renewed p here) ≤ sum_by (λ (e : Pid × Held). held_load e.1) here
+renewed_load p [] = omega arith
+renewed_load p (e ∷ here) = by_test (same_pid e.0 p) (renewed_load p here)
+  where
+    abbrev weigh : List (Pid × Held) → ℕ
+    weigh l = sum_by (λ (e : Pid × Held). held_load e.1) l
+
+    by_test : (b : Bool) → weigh (with_renewed p here) ≤ weigh here → weigh (cond b (e.0, renewed_held e.1) e ∷ with_renewed p here) ≤ weigh (e ∷ here)
+    by_test true more = omega (arith, renewed_lighter e.1, more)
+    by_test false more = omega (arith, more)
+
+sent_lighter : (c : ClusterView) (queue : List Post) → load (after_sent c queue) ≤ load c
+sent_lighter c [] = omega arith
+sent_lighter c (post ∷ rest) = by_what post.what
+  where
+    by_what : (w : What) → load (after_head c w) ≤ load c
+    by_what (Rebackup to true (r ∷ rs)) = renewed_load r.pid c.here
+    by_what (Rebackup to true []) = omega arith
+    by_what (Rebackup to false recs) = omega arith
+    by_what _ = omega arith
+
 -- ---- all clusters
 
 -- the most that all may have left
@@ -361,10 +418,6 @@ module _ (b : BusView) (c : ClusterView) (sound : IsSound b) (gone : IsGone b c)
     follows = subst (λ s. FollowsBuilt s (take c.cursor b.log) v) (sym system) follows;
   })
 
-  sent_load : (was : ClusterView) (queue : List Post) (e : Entry) → IsQueueLegal SentMayFollow b.system (take c.cursor b.log) queue → option_map (entry_of b.system (take c.cursor b.log)) (head_of queue) ≡ Some e → load (after_sent was queue) ≡ load was
-  sent_load was [] e legal head = cc
-  sent_load was (p ∷ queue) e legal head = ap load (ap (λ (v : ClusterView). record v { queue = queue; tried = false }) (same_after p.what was (legal.0).built))
-
   pub gone_within : load c ≤ most_load b.system
   gone_within = by_stood (gone.left).followed
     where
@@ -373,9 +426,10 @@ module _ (b : BusView) (c : ClusterView) (sound : IsSound b) (gone : IsGone b c)
       by_way (inr (lost, stood)) =
           let was = (stood.between).before in
           let system : was.system ≡ b.system = sym (ap (λ (v : ClusterView). v.system) (stood.between).sent ∙ (same_sent was was.queue).2) ∙ (gone.left).system in
-          let same : load c ≡ load was = ap load (stood.between).sent ∙ sent_load was was.queue stood.entry (((stood.between).followed).queue).legal (stood.between).head in
+          let same : load c ≡ load (after_sent was was.queue) = ap load (stood.between).sent in
+          let less = sent_lighter was was.queue in
           let most = follows_then was system (stood.between).followed in
-          omega (arith, same, most)
+          omega (arith, same, less, most)
 
       by_stood : StoodAs b c → load c ≤ most_load b.system
       by_stood (inl (unfailed, stood)) = by_way stood

@@ -29,7 +29,7 @@ use Rattle.checkpoint_laws.proofs.remaining.Falling.{to_send_falls}
 use Rattle.checkpoint_laws.proofs.remaining.Renewing.{to_send_renewed}
 use Rattle.backup_laws.proofs.Fewer.{backups_less, backups_most}
 use Rattle.cluster_core.specs.Sent.{SentMayFollow}
-use Rattle.cluster_core.specs.View.{ClusterView, after_sent, with_server}
+use Rattle.cluster_core.specs.View.{ClusterView, after_sent, renewed_by_head, with_server}
 use Rattle.cluster_core.specs.Queue.{IsQueueLegal}
 use Rattle.cluster_core.specs.Follows.{FollowsBuilt, IsOpen, StandsBetween}
 use Rattle.cluster_core.specs.Calls.{Absorbs, IsReady, ReadyFor, absorbed}
@@ -44,13 +44,13 @@ use Rattle.cluster_turns.proofs.Heads.{head_first, tail_of}
 use Rattle.cluster_turns.proofs.Prefixes.{drop_whole, get_last}
 use Rattle.cluster_turns.proofs.OwnLosses.{own_living, passed_next}
 use Rattle.cluster_turns.specs.Progress.{left_of_posts}
-use Rattle.cluster_turns.proofs.SentKinds.{by_sent, closes_not, ends_closed, may_sent, no_loss, no_turn, same_after}
+use Rattle.cluster_turns.proofs.SentKinds.{by_sent, closes_not, ends_closed, may_sent, no_loss, no_turn}
 use Rattle.cluster_turns.proofs.TakingIn.{disk_kept, open_where, upto_all}
 use Rattle.cluster_turns.proofs.Upto.{lost_next}
 
 -- a cluster whose head was sent
 abbrev pub cleared : ClusterView → ClusterView
-cleared c = record c { queue = tail_of c.queue; tried = false }
+cleared c = record c { here = renewed_by_head c.queue c.here; queue = tail_of c.queue; tried = false }
 
 module _ (log : List Entry) (c : ClusterView) (post : Post) (after : BusView) (s : IsSent log c post after) where
   abbrev pub next : Entry
@@ -71,7 +71,7 @@ module _ (log : List Entry) (c : ClusterView) (post : Post) (after : BusView) (s
       (and_parts (is_from c.number post.by) (list_all (λ (p : Post). is_from c.number p.by) (tail_of c.queue)) all).0
 
   pub clears : after_sent c c.queue ≡ cleared c
-  clears = ap (after_sent c) queue_is ∙ ap (λ (v : ClusterView). record v { queue = tail_of c.queue; tried = false }) (same_after post.what c may.built)
+  clears = ap (after_sent c) queue_is ∙ sym (ap (λ q. record c { here = renewed_by_head q c.here; queue = tail_of q; tried = false }) queue_is)
 
   legal_next : IsLegalBy MayStand c.system (log ++ next ∷ [])
   legal_next = IsLegal-snoc MayStand c.system log next s.legal (may_sent c.system log next may)
@@ -115,10 +115,10 @@ module _ (log : List Entry) (c : ClusterView) (post : Post) (after : BusView) (s
       omega (arith, less, most)
 
   -- a new backup leaves one less to be made, and no more such posts
-  renews_less : (to : ClusterNo) (recs : List BackRec) → what next ≡ Rebackup to false recs → IsSound after → left_of_posts c.system (log ++ next ∷ []) < left_of_posts c.system log
-  renews_less to recs is sound =
-      let most = to_send_renewed c.system log next to false recs (valid_system sound) (built_stands c.system log s.legal) may.stands is in
-      let less = backups_less c.system log next to false recs (valid_system sound) stands_next is in
+  renews_less : (to : ClusterNo) (fresh : Bool) (recs : List BackRec) → what next ≡ Rebackup to fresh recs → IsSound after → left_of_posts c.system (log ++ next ∷ []) < left_of_posts c.system log
+  renews_less to fresh recs is sound =
+      let most = to_send_renewed c.system log next to fresh recs (valid_system sound) (built_stands c.system log s.legal) may.stands is in
+      let less = backups_less c.system log next to fresh recs (valid_system sound) stands_next is in
       omega (arith, less, most)
 
   sends_less : IsSound after → left_of_posts c.system (log ++ next ∷ []) < left_of_posts c.system log
@@ -126,7 +126,7 @@ module _ (log : List Entry) (c : ClusterView) (post : Post) (after : BusView) (s
       by_sent (λ w. what next ≡ w → closes w ≡ false → IsSound after → left_of_posts c.system (log ++ next ∷ []) < left_of_posts c.system log)
       (λ at letter is still. tells_less (Mail at letter) refl refl is) (λ parent at child end is still. tells_less (Birth parent at child end) refl refl is) (λ pid at end is still. tells_less (Exit pid at end) refl refl is)
       (λ pid index is still. tells_less (Fetch pid index) refl refl is) (λ pid index bytes is still. tells_less (PageIs pid index bytes) refl refl is) (λ pid at index bytes is still. tells_less (Page pid at index bytes) refl refl is)
-      (λ pid small read took is still. tells_less (Sync pid small read took) refl refl is) (λ to recs is still. renews_less to recs is) (λ rests is still. absurd (true≢false still)) (λ is still. absurd (true≢false still))
+      (λ pid small read took is still. tells_less (Sync pid small read took) refl refl is) (λ to fresh recs is still. renews_less to fresh recs is) (λ rests is still. absurd (true≢false still)) (λ is still. absurd (true≢false still))
       post.what may.built refl open_still sound
 
   -- it leaves a post less to send, at least

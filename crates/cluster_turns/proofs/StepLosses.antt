@@ -12,7 +12,7 @@ use Rattle.sys_text.specs.declared.system.System.{System}
 use Rattle.proc_state.specs.Mail.{without_first}
 use Rattle.bus_msg.specs.declared.entry.By.TheVariants.{Bus}
 use Rattle.bus_msg.specs.declared.entry.What.{What}
-use Rattle.bus_msg.specs.declared.entry.What.TheVariants.{Crash, Rebackup}
+use Rattle.bus_msg.specs.declared.entry.What.TheVariants.{Crash}
 use Rattle.bus_msg.specs.declared.entry.Post.{Post}
 use Rattle.bus_msg.specs.declared.entry.Cause.TheVariants.{Step, Disk}
 use Rattle.bus_msg.specs.declared.entry.Entry.{Entry}
@@ -24,7 +24,7 @@ use Rattle.cert_sched.specs.Rules.{is_over}
 use Rattle.cert_sched.specs.Legal.{IsLegalBy}
 use Rattle.cert_sched.specs.Built.{MayStand}
 use Rattle.cert_sched.specs.Losses.{capped, heard, is_by_cluster, is_crash_of, least_calls, least_steps, was_lost_in}
-use Rattle.cluster_core.specs.View.{ClusterView, after_head, after_sent}
+use Rattle.cluster_core.specs.View.{ClusterView, after_sent}
 use Rattle.cluster_core.specs.Follows.{FollowsBuilt, StandsBetween}
 use Rattle.bus_lock.specs.Lists.{MayAdd}
 use Rattle.bus_order.specs.Log.{author, author_of}
@@ -209,14 +209,9 @@ cut_gone b c before cut = by_way (cut_parts c.number b.system b.log c.cursor cut
 abbrev IsSameStill : ClusterView → ClusterView → Type 0
 IsSameStill c after = (after.number ≡ c.number) × (after.steps ≡ c.steps) × (after.system ≡ c.system)
 
-same_head : (c : ClusterView) (w : What) → IsSameStill c (after_head c w)
-same_head c (Rebackup to true (r ∷ rs)) = (refl, refl, refl)
-same_head c (Rebackup to true []) = (refl, refl, refl)
-same_head c _ = (refl, refl, refl)
-
 pub same_sent : (c : ClusterView) (queue : List Post) → IsSameStill c (after_sent c queue)
 same_sent c [] = (refl, refl, refl)
-same_sent c (head ∷ rest) = same_head c head.what
+same_sent c (head ∷ rest) = (refl, refl, refl)
 
 -- by which cause
 cause_unfailed : (c : ClusterView) → c.failed ≡ None → own_cause c ≡ Step c.steps
