@@ -106,26 +106,28 @@ renewed_found p (e ∷ here) q = by_tests (same_pid e.0 p) (same_pid e.0 q) refl
         either true is = ap (λ r. same_pid p r) (pid_same e.0 p (eqb-true (e.0).0 p.0 is)) ∙ ap (λ r. same_pid r p) (sym (pid_same e.0 p (eqb-true (e.0).0 p.0 is)))
         either false is = ne_eqb p.0 (e.0).0 (λ same. true≢false (sym (eq-eqb (e.0).0 p.0 (sym same)) ∙ is)) ∙ sym is
 
+    now : Bool → Pid × Held
+    now b = cond b (e.0, renewed_held e.1) e
+
+    at : Option (Pid × Held) → Option Held
+    at = option_map (λ (e : Pid × Held). e.1)
+
     by_tests : (b c : Bool) → same_pid e.0 p ≡ b → same_pid e.0 q ≡ c → held_of (with_renewed p here) q ≡ option_map of (held_of here q)
-        → option_map (λ (e : Pid × Held). e.1) (cond (same_pid (cond b (e.0, renewed_held e.1) e).0 q) (Some (cond b (e.0, renewed_held e.1) e)) rest_now) ≡ option_map of (option_map (λ (e : Pid × Held). e.1) (cond (same_pid e.0 q) (Some e) rest))
+        → at (cond (same_pid (now b).0 q) (Some (now b)) rest_now) ≡ option_map of (at (cond (same_pid e.0 q) (Some e) rest))
     by_tests true true is own more =
-        (λ i. option_map (λ (e : Pid × Held). e.1) (cond (own i) (Some (e.0, renewed_held e.1)) rest_now))
-        ∙ (λ i. Some (cond (sym (turned own ∙ is) i) (renewed_held e.1) e.1))
-        ∙ (λ i. option_map of (option_map (λ (e : Pid × Held). e.1) (cond (sym own i) (Some e) rest)))
+        (λ i. at (cond (own i) (Some (e.0, renewed_held e.1)) rest_now))
+        ∙ (λ i. Some (cond (sym (turned own ∙ is) i) (renewed_held e.1) e.1)) ∙ (λ i. option_map of (at (cond (sym own i) (Some e) rest)))
     by_tests false true is own more =
-        (λ i. option_map (λ (e : Pid × Held). e.1) (cond (own i) (Some e) rest_now))
-        ∙ (λ i. Some (cond (sym (turned own ∙ is) i) (renewed_held e.1) e.1))
-        ∙ (λ i. option_map of (option_map (λ (e : Pid × Held). e.1) (cond (sym own i) (Some e) rest)))
-    by_tests true false is other more =
-        (λ i. option_map (λ (e : Pid × Held). e.1) (cond (other i) (Some (e.0, renewed_held e.1)) rest_now)) ∙ more ∙ (λ i. option_map of (option_map (λ (e : Pid × Held). e.1) (cond (sym other i) (Some e) rest)))
-    by_tests false false is other more =
-        (λ i. option_map (λ (e : Pid × Held). e.1) (cond (other i) (Some e) rest_now)) ∙ more ∙ (λ i. option_map of (option_map (λ (e : Pid × Held). e.1) (cond (sym other i) (Some e) rest)))
+        (λ i. at (cond (own i) (Some e) rest_now)) ∙ (λ i. Some (cond (sym (turned own ∙ is) i) (renewed_held e.1) e.1)) ∙ (λ i. option_map of (at (cond (sym own i) (Some e) rest)))
+    by_tests true false is other more = (λ i. at (cond (other i) (Some (e.0, renewed_held e.1)) rest_now)) ∙ more ∙ (λ i. option_map of (at (cond (sym other i) (Some e) rest)))
+    by_tests false false is other more = (λ i. at (cond (other i) (Some e) rest_now)) ∙ more ∙ (λ i. option_map of (at (cond (sym other i) (Some e) rest)))
 
 -- so it is where a process runs at that pid
 abbrev ItOrOther : Pid → Process → List (Pid × Held) → Pid → Held → Type 0
 ItOrOther p process here q h = ((p ≡ q) × (h ≡ Runs (renewed process))) ⊎ ((same_pid p q ≡ false) × (held_of here q ≡ Some h))
 
-it_or_other : (p : Pid) (process : Process) (here : List (Pid × Held)) → held_of here p ≡ Some (Runs process) → (q : Pid) (h : Held) → held_of (with_renewed p here) q ≡ Some h → ItOrOther p process here q h
+it_or_other : (p : Pid) (process : Process) (here : List (Pid × Held)) → held_of here p ≡ Some (Runs process)
+    → (q : Pid) (h : Held) → held_of (with_renewed p here) q ≡ Some h → ItOrOther p process here q h
 it_or_other p process here there q h at = by_pid (same_pid p q) refl
   where
     at_test : (b : Bool) → same_pid p q ≡ b → option_map (λ h. cond b (renewed_held h) h) (held_of here q) ≡ Some h
@@ -144,8 +146,9 @@ it_or_other p process here there q h at = by_pid (same_pid p q) refl
 
 -- ---- the new backup in the log
 
-module _ (system : System) (valid : is_system system ≡ true) (log : List Entry) (b : ClusterView) (f : FollowsBuilt system log b) (tried : b.tried ≡ true) (y : Renews system log b) (to : ClusterNo) (may : PagesMay system log b.number y.pid (state_of y.process) [])
-    (own : AllOwn b.cursor (with_renewed y.pid b.here)) (now : IsOpen MayStand system log) (next : IsOpen MayStand system (log ++ entry_of system log (fresh_post b.number to y.pid (state_of y.process)) ∷ [])) where
+module _ (system : System) (valid : is_system system ≡ true) (log : List Entry) (b : ClusterView) (f : FollowsBuilt system log b) (tried : b.tried ≡ true)
+    (y : Renews system log b) (to : ClusterNo) (may : PagesMay system log b.number y.pid (state_of y.process) []) (own : AllOwn b.cursor (with_renewed y.pid b.here)) (now : IsOpen MayStand system log)
+    (next : IsOpen MayStand system (log ++ entry_of system log (fresh_post b.number to y.pid (state_of y.process)) ∷ [])) where
   abbrev p : Pid
   p = y.pid
 
@@ -279,10 +282,13 @@ module _ (system : System) (valid : is_system system ≡ true) (log : List Entry
       }
 
       by_pid : ItOrOther p y.process b.here q h → MarkedIfThere CarriesMarks system later q (unended_process h)
-      by_pid (inl me) = subst (λ h. MarkedIfThere CarriesMarks system later q (unended_process h)) (sym me.1) (subst (λ q. MarkedIfThere CarriesMarks system later q (unended_process (Runs after))) me.0 at_p)
+      by_pid (inl me) =
+          subst (λ h. MarkedIfThere CarriesMarks system later q (unended_process h)) (sym me.1)
+          (subst (λ q. MarkedIfThere CarriesMarks system later q (unended_process (Runs after))) me.0 at_p)
       by_pid (inr other) =
           let unended : IsUnended system log q = ap is_some (home q h other.1).found in
-          other_marks (unended_process h) other.0 unended (arrived_low system log q h valid legal unended (one_of_them (all_but p) system log [] q h (ap not other.0) ((beside.processes).held q h other.1)))
+          other_marks (unended_process h) other.0 unended
+          (arrived_low system log q h valid legal unended (one_of_them (all_but p) system log [] q h (ap not other.0) ((beside.processes).held q h other.1)))
           (beside.marks q h other.1 (ap not other.0))
 
   -- ---- the whole
@@ -304,7 +310,8 @@ module _ (system : System) (valid : is_system system ≡ true) (log : List Entry
     owed = owed_next system log e b.number b.places b.owed valid next (f.log).places refl f.owed;
     backups = λ q h at begun. let w = was_there q h at in awaited_after system log e q b.number valid now.0 stands differ (home q w.was w.there) refl (f.backups q w.was w.there (w.begun ∙ begun));
     forks = forks_renewed to true (renewed_record p s ∷ []) b.family (with_renewed p b.here)
-        (forks_kept b.family b.family b.here (with_renewed p b.here) (λ parent child born. born) (λ q h at. let w = was_there q h at in record { was = w.was; there = w.there; same = w.forks }) f.forks);
+        (forks_kept b.family b.family b.here (with_renewed p b.here) (λ parent child born. born)
+        (λ q h at. let w = was_there q h at in record { was = w.was; there = w.there; same = w.forks }) f.forks);
     records = records_kept system log e b.number b.records valid (built_stands system later next.0) refl f.records;
     accounts = accounts_next system log e (unqueued b) (with_server server (passed counted_anew e)) Nothing refl serves refl refl refl tt beside.accounts;
     disk = ((f.disk).0, ahead_after places e b.server server serves (f.disk).1);
@@ -317,25 +324,43 @@ renewing_aside : (k : ClusterNo) (to : Option ClusterNo) (p : Pid) (s : ProcStat
 renewing_aside k to p s indices = record { moves = λ q. renewal_moves_other k to p s q indices; fetches = λ q i. renewal_fetches_none k to p s q i indices }
 
 -- it counts from where it did
-counts_page : (system : System) (log : List Entry) (k : ClusterNo) (p : Pid) (s : ProcState) (i : ℕ) (process : Process) → CountsFrom system log p process → CountsFrom system (log ++ entry_of system log (page_left k p s i) ∷ []) p process
+counts_page : (system : System) (log : List Entry) (k : ClusterNo) (p : Pid) (s : ProcState) (i : ℕ) (process : Process)
+    → CountsFrom system log p process → CountsFrom system (log ++ entry_of system log (page_left k p s i) ∷ []) p process
 counts_page system log k p s i process counts =
     let page = entry_of system log (page_left k p s i) in
+    let start = page_start system log page p (s.small).steps i (page_at s.memory i) refl p in
+    let saved = page_saved system log page p (s.small).steps i (page_at s.memory i) refl p in
     record {
-      since_start = counts.since_start ∙ sym (ap (λ (o : Option ProcState). option_map_or (λ (t : ProcState). (t.small).steps) o 0) (page_start system log page p (s.small).steps i (page_at s.memory i) refl p));
-      read = counts.read ∙ sym (ap (λ saved. numbers_read (arrived_below (process.mail).next saved) (process.mail).letters) (page_saved system log page p (s.small).steps i (page_at s.memory i) refl p));
+      since_start = counts.since_start ∙ sym (ap (λ (o : Option ProcState). option_map_or (λ (t : ProcState). (t.small).steps) o 0) start);
+      read = counts.read ∙ sym (ap (λ saved. numbers_read (arrived_below (process.mail).next saved) (process.mail).letters) saved);
     }
 
 -- the cluster with these pages queued, and no new backup behind them
 abbrev paged : ClusterView → Pid → ProcState → List ℕ → ClusterView
 paged b p s indices = record b { queue = renewing_left b.number None p s indices }
 
-pages_queued : (system : System) (log : List Entry) (b : ClusterView) → is_system system ≡ true → IsOpen MayStand system log → FollowsBuilt system log b → (y : Renews system log b) → FollowsBuilt system log (paged b y.pid (state_of y.process) y.indices)
+pages_queued : (system : System) (log : List Entry) (b : ClusterView) → is_system system ≡ true → IsOpen MayStand system log → FollowsBuilt system log b → (y : Renews system log b)
+    → FollowsBuilt system log (paged b y.pid (state_of y.process) y.indices)
 pages_queued system log b valid now f y =
     with_renewal system log (paged b y.pid (state_of y.process) y.indices)
-    (record { pid = y.pid; process = y.process; to = None; indices = y.indices; posts = refl; there = y.there; owed = tt; within = y.within; may = y.may; counts = y.counts; unmarked = y.unmarked }) valid now
+    (record {
+      pid = y.pid;
+      process = y.process;
+      to = None;
+      indices = y.indices;
+      posts = refl;
+      there = y.there;
+      owed = tt;
+      within = y.within;
+      may = y.may;
+      counts = y.counts;
+      unmarked = y.unmarked;
+    })
+    valid now
     (without_renewal system log b y valid now f) (sent_there system log b y valid now f)
 
-module _ (system : System) (log : List Entry) (b : ClusterView) (i : ℕ) (indices : List ℕ) (valid : is_system system ≡ true) (tried : b.tried ≡ true) (own : AllOwn b.cursor b.here) (now : IsOpen MayStand system log) (f : FollowsBuilt system log b) (y : Renews system log b)
+module _ (system : System) (log : List Entry) (b : ClusterView) (i : ℕ) (indices : List ℕ) (valid : is_system system ≡ true) (tried : b.tried ≡ true)
+    (own : AllOwn b.cursor b.here) (now : IsOpen MayStand system log) (f : FollowsBuilt system log b) (y : Renews system log b)
     (is : y.indices ≡ i ∷ indices) (next : IsOpen MayStand system (log ++ entry_of system log (page_left b.number y.pid (state_of y.process) i) ∷ [])) where
   abbrev k : ClusterNo
   k = b.number
@@ -361,7 +386,8 @@ module _ (system : System) (log : List Entry) (b : ClusterView) (i : ℕ) (indic
   -- the rest is left once the head was taken in
   pub page_follows : (server : Option PagerState) → Serves (placement system log) page b.server server → FollowsBuilt system with_page (with_server server (passed (left b rest) page))
   page_follows server serves =
-      follows_head system valid log (paged b at of (i ∷ indices)) (subst (λ js. FollowsBuilt system log (paged b at of js)) is (pages_queued system log b valid now f y)) tried own at y.process y.there (page_left k at of i) rest refl refl refl now next server serves
+      follows_head system valid log (paged b at of (i ∷ indices)) (subst (λ js. FollowsBuilt system log (paged b at of js)) is (pages_queued system log b valid now f y))
+      tried own at y.process y.there (page_left k at of i) rest refl refl refl now next server serves
       (renewing_aside k None at of (i ∷ indices)) (renewing_aside k None at of indices) (renewal_state k None at of system with_page indices (sent.may).reached)
       (inr (inr (inr (inr (record {
         pid = at;
@@ -380,8 +406,10 @@ module _ (system : System) (log : List Entry) (b : ClusterView) (i : ℕ) (indic
 -- ---- the whole
 
 -- After the entry that its head became, a cluster follows the log with it: it has the rest of the pages to send, or nothing once that was the new backup.
-pub follows_own_renewal : (c : ClusterView) (log : List Entry) (e : Entry) (server : Option PagerState) → is_system c.system ≡ true → AllOwn c.cursor c.here → IsOpen MayStand c.system log → IsOpen MayStand c.system (log ++ e ∷ [])
-    → (s : StandsBetween FollowsBuilt c.system log e c) → Renews c.system log s.before → Serves (placement c.system log) e c.server server → FollowsBuilt c.system (log ++ e ∷ []) (with_server server (absorbed c e))
+pub follows_own_renewal : (c : ClusterView) (log : List Entry) (e : Entry) (server : Option PagerState) → is_system c.system ≡ true
+    → AllOwn c.cursor c.here → IsOpen MayStand c.system log → IsOpen MayStand c.system (log ++ e ∷ [])
+    → (s : StandsBetween FollowsBuilt c.system log e c) → Renews c.system log s.before → Serves (placement c.system log) e c.server server
+    → FollowsBuilt c.system (log ++ e ∷ []) (with_server server (absorbed c e))
 follows_own_renewal c log e server valid own now next s y serves = by_form y.to y.indices y.posts refl refl
   where
     system : System
@@ -395,7 +423,8 @@ follows_own_renewal c log e server valid own now next s y serves = by_form y.to 
 
     -- it is what the head left, and its entry is the one that the head became
     from_head : (head : Post) (rest : List Post) (v : ClusterView) → b.queue ≡ head ∷ rest → after_sent b (head ∷ rest) ≡ v
-        → (AllOwn v.cursor v.here → IsOpen MayStand system (log ++ entry_of system log head ∷ []) → Serves (placement system log) (entry_of system log head) v.server server → FollowsBuilt system (log ++ entry_of system log head ∷ []) (with_server server (absorbed v (entry_of system log head))))
+        → (AllOwn v.cursor v.here → IsOpen MayStand system (log ++ entry_of system log head ∷ []) → Serves (placement system log) (entry_of system log head) v.server server
+        → FollowsBuilt system (log ++ entry_of system log head ∷ []) (with_server server (absorbed v (entry_of system log head))))
         → FollowsBuilt system (log ++ e ∷ []) (with_server server (absorbed c e))
     from_head head rest v posts sent follows =
         subst (λ x. FollowsBuilt system (log ++ x ∷ []) (with_server server (absorbed c x))) whole
@@ -409,7 +438,8 @@ follows_own_renewal c log e server valid own now next s y serves = by_form y.to 
         same : c ≡ v
         same = s.sent ∙ ap (after_sent b) posts ∙ sent
 
-    by_form : (to : Option ClusterNo) (indices : List ℕ) → b.queue ≡ renewing_left b.number to y.pid state indices → y.to ≡ to → y.indices ≡ indices → FollowsBuilt system (log ++ e ∷ []) (with_server server (absorbed c e))
+    by_form : (to : Option ClusterNo) (indices : List ℕ) → b.queue ≡ renewing_left b.number to y.pid state indices → y.to ≡ to → y.indices ≡ indices
+        → FollowsBuilt system (log ++ e ∷ []) (with_server server (absorbed c e))
     by_form None [] posts goes is = let none : ◌≡◌ {A = Option Entry} None (Some e) = ap (λ ps. option_map (entry_of system log) (head_of ps)) (sym posts) ∙ s.head in cc
     by_form (Some to) [] posts goes is = from_head (fresh_post b.number to y.pid state) [] v posts refl follows
       where
@@ -419,11 +449,12 @@ follows_own_renewal c log e server valid own now next s y serves = by_form y.to 
         v : ClusterView
         v = record b { here = with_renewed y.pid b.here; queue = []; tried = false }
 
-        follows : AllOwn v.cursor v.here → IsOpen MayStand system (log ++ x ∷ []) → Serves (placement system log) x v.server server → FollowsBuilt system (log ++ x ∷ []) (with_server server (absorbed v x))
+        follows : AllOwn v.cursor v.here → IsOpen MayStand system (log ++ x ∷ []) → Serves (placement system log) x v.server server
+            → FollowsBuilt system (log ++ x ∷ []) (with_server server (absorbed v x))
         follows own next serves =
             subst (λ v. FollowsBuilt system (log ++ x ∷ []) (with_server server v)) (sym (renewal_taken v x to true (renewed_record y.pid state ∷ []) refl))
             (follows_fresh system valid log b s.followed s.tried y to (subst (PagesMay system log b.number y.pid state) is y.may) own now next server serves)
-    by_form to (i ∷ indices) posts goes is = from_head (page_left b.number y.pid state i) (renewing_left b.number to y.pid state indices) (left b (renewing_left b.number to y.pid state indices)) posts refl follows
+    by_form to (i ∷ indices) posts goes is = from_head (page_left b.number y.pid state i) (renewing_left b.number to y.pid state indices) v posts refl follows
       where
         x : Entry
         x = entry_of system log (page_left b.number y.pid state i)
@@ -438,6 +469,7 @@ follows_own_renewal c log e server valid own now next s y serves = by_form y.to 
         taken : absorbed v x ≡ passed (left b rest) x
         taken = ap (λ ps. record (with_entry v x) { queue = ps }) (renewal_falls b.number to y.pid state b.places (what x) indices) ∙ sync_taken (left b rest) x refl
 
-        follows : AllOwn v.cursor v.here → IsOpen MayStand system (log ++ x ∷ []) → Serves (placement system log) x v.server server → FollowsBuilt system (log ++ x ∷ []) (with_server server (absorbed v x))
+        follows : AllOwn v.cursor v.here → IsOpen MayStand system (log ++ x ∷ []) → Serves (placement system log) x v.server server
+            → FollowsBuilt system (log ++ x ∷ []) (with_server server (absorbed v x))
         follows own next serves =
             subst (λ v. FollowsBuilt system (log ++ x ∷ []) (with_server server v)) (sym taken) (page_follows system log b i indices valid s.tried own now s.followed y is next server serves)

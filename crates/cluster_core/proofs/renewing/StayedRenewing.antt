@@ -81,7 +81,8 @@ module _ (system : System) (log : List Entry) (p : Pid) (process : Process) wher
   reads_still s (letter ∷ letters) reads = reads_still (delivered s letter) letters (read_still s letter reads)
 
 -- so one that has letters more counts from where it counted
-counts_told : (system : System) (log : List Entry) (p : Pid) (letters : List Letter) (process now : Process) → now.read ≡ process.read → now.since ≡ process.since → state_of now ≡ with_letters (state_of process) letters
+counts_told : (system : System) (log : List Entry) (p : Pid) (letters : List Letter) (process now : Process)
+    → now.read ≡ process.read → now.since ≡ process.since → state_of now ≡ with_letters (state_of process) letters
     → CountsFrom system log p process → CountsFrom system log p now
 counts_told system log p letters process now read since state counts = record {
   since_start = since ∙ counts.since_start;
@@ -90,7 +91,8 @@ counts_told system log p letters process now read since state counts = record {
 
 -- ---- the whole
 
-module _ (c : ClusterView) (log : List Entry) (e : Entry) (y : Renews c.system log c) (valid : is_system c.system ≡ true) (now : IsOpen MayStand c.system log) (next : IsOpen MayStand c.system (log ++ e ∷ []))
+module _ (c : ClusterView) (log : List Entry) (e : Entry) (y : Renews c.system log c) (valid : is_system c.system ≡ true)
+    (now : IsOpen MayStand c.system log) (next : IsOpen MayStand c.system (log ++ e ∷ []))
     (f : FollowsBuilt c.system log c) (foreign : is_by_cluster c.number e ≡ false) where
   abbrev later : List Entry
   later = log ++ e ∷ []
@@ -105,8 +107,9 @@ module _ (c : ClusterView) (log : List Entry) (e : Entry) (y : Renews c.system l
   home_now = home_here (placement c.system log) c.number (pids_in c.here) p (differ_built c.system log valid now.0) (f.processes).each_once (is_among c.here p (Runs y.process) y.there)
 
   -- Beside the posts the cluster follows the log with the entry, by which the process neither moved nor changed but for letters that came: then it does so with the pages that are left.
-  pub stays_renewing : (new : ClusterView) → new.system ≡ c.system → new.number ≡ c.number → new.queue ≡ renewing_left c.number None p s y.indices → FollowsBeside (all_but p) c.system later (unqueued new)
-      → home_at (placement c.system later) p ≡ home_at (placement c.system log) p → ((h : Held) → held_at new p ≡ Some h → RunsStill (letter_for p (what e)) y.process h) → FollowsBuilt c.system later new
+  pub stays_renewing : (new : ClusterView) → new.system ≡ c.system → new.number ≡ c.number → new.queue ≡ renewing_left c.number None p s y.indices
+      → FollowsBeside (all_but p) c.system later (unqueued new) → home_at (placement c.system later) p ≡ home_at (placement c.system log) p
+      → ((h : Held) → held_at new p ≡ Some h → RunsStill (letter_for p (what e)) y.process h) → FollowsBuilt c.system later new
   stays_renewing new system_is number queue beside same_home stays = with_renewal c.system later new still valid next beside sent_still
     where
       home_then : HomeHere (placement c.system later) p c.number
@@ -128,7 +131,8 @@ module _ (c : ClusterView) (log : List Entry) (e : Entry) (y : Renews c.system l
       there : held_at new p ≡ Some (Runs r.now)
       there = at.1 ∙ ap Some r.is
 
-      by_home_of : (entries : List Entry) → IsOpen MayStand c.system entries → HomeHere (placement c.system entries) p c.number → is_by_home (placement c.system entries) (Cluster c.number) (Some p) ≡ true
+      by_home_of : (entries : List Entry) → IsOpen MayStand c.system entries → HomeHere (placement c.system entries) p c.number
+          → is_by_home (placement c.system entries) (Cluster c.number) (Some p) ≡ true
       by_home_of entries open_log home = home_by (placement c.system entries) c.number p (home_lives c.system entries p c.number valid open_log.0 open_log.1 home) home
 
       stands : Stands c.system log e
