@@ -1,11 +1,11 @@
 -- The processes of a cluster that follows a log have no more steps left than so many as the system says.
-use Rattle.std.proofs.Common.{◌≡◌, ℕ, zero, suc, ◌+◌, ◌*◌, ◌^◌, ◌≤◌, ◌<◌, ◌⊎◌, inl, inr, refl, sym, ◌∙◌, ap, subst, arith, List, [], ◌∷◌, ◌++◌, length, take, get_or, Bool, true, false, cond, ◌||◌, eqb, ltb, eqb-true, Option, Some, None, true≢false}
+use Rattle.std.proofs.Common.{◌≡◌, ℕ, zero, suc, ◌+◌, ◌*◌, ◌^◌, ◌≤◌, ◌<◌, ◌⊎◌, inl, inr, refl, sym, ◌∙◌, ap, subst, arith, List, [], ◌∷◌, ◌++◌, length, take, get_or, Bool, true, false, cond, ◌||◌, eqb, ltb, eqb-true, ltb-true, nat_lt, Option, Some, None, true≢false}
 use Rattle.std.specs.Prelude.{All, count_by, filter, find, option_and_then, option_map}
 use Rattle.std.specs.List.{list_any, sum_by}
 use Rattle.std.specs.Option.{option_map_or}
 use Rattle.std.proofs.lemmas.List.{length-map}
 use Rattle.std.proofs.lemmas.List.Elements.{All-nil, All-cons, All-from_get_or}
-use Rattle.std.proofs.lemmas.List.Sums.{sum_by-le, length-filter, count_by-le-length}
+use Rattle.std.proofs.lemmas.List.Sums.{sum_by-cons, sum_by-le, length-filter, count_by-le-length}
 use Rattle.std.proofs.lemmas.Nat.{mul-le}
 use Rattle.std.proofs.lemmas.Option.{slice_get_cases, same_Some}
 use Rattle.std.proofs.Math.Nat.{mul-le-mul_right}
@@ -33,7 +33,7 @@ use Rattle.roll_forward.specs.Replay.{put_first, replayed, replay_step}
 use Rattle.cert_sched.specs.Parts.{put_rising, rising, upto_last}
 use Rattle.cert_sched.specs.Deeds.{since, starts}
 use Rattle.cert_sched.specs.Rolling.{refilled}
-use Rattle.cert_sched.specs.Schedule.{placement, plain_after, process_after}
+use Rattle.cert_sched.specs.Schedule.{placement, plain_after, process_after, steps_in}
 use Rattle.cert_sched.specs.Kinds.{after_take, took_is}
 use Rattle.cert_sched.specs.Steps.{at_record, emission_at, first_record, process_of, silent_upto}
 use Rattle.cert_sched.specs.Appended.{entry_of}
@@ -348,30 +348,29 @@ load_within system log c valid legal follows two =
 
 -- a process that counts from where it stands has no more left
 renewed_lighter : (h : Held) → held_load (renewed_held h) ≤ held_load h
-renewed_lighter (Runs process) = by_test (has_moved process) (has_moved (renewed process)) still
+renewed_lighter (Runs process) = by_tests (has_moved process) (nat_lt (process.small).steps (process.small).steps) refl
   where
-    still : has_moved (renewed process) ≡ false
-    still = ap (λ b. b || false) (irreflexive (process.small).steps)
-      where
-        irreflexive : (n : ℕ) → nat_lt n n ≡ false
-        irreflexive n = hole
-
-    by_test : (b now : Bool) → now ≡ false → 2 * weight_with_children (process.small) + cond now 1 0 ≤ 2 * weight_with_children (process.small) + cond b 1 0
-    by_test true now is = hole
-    by_test false now is = hole
+    by_tests : (moved later : Bool) → nat_lt (process.small).steps (process.small).steps ≡ later → 2 * weight_with_children process.small + cond (later || false) 1 0 ≤ 2 * weight_with_children process.small + cond moved 1 0
+    by_tests moved true is = absurd (let less : (process.small).steps < (process.small).steps = ltb-true (process.small).steps (process.small).steps is in omega (arith, less))
+    by_tests true false is = omega arith
+    by_tests false false is = omega arith
 renewed_lighter (Rolls process counts births) = omega arith
 renewed_lighter (Waits waiting) = omega arith
 
-renewed_load : (p : Pid) (here : List (Pid × Held)) → sum_by (λ (e : Pid × Held). held_load e.1) (with_renewed p here) ≤ sum_by (λ (e : Pid × Held). held_load e.1) here
+-- all that is left of those that are here
+abbrev weigh : List (Pid × Held) → ℕ
+weigh here = sum_by (λ (e : Pid × Held). held_load e.1) here
+
+renewed_load : (p : Pid) (here : List (Pid × Held)) → weigh (with_renewed p here) ≤ weigh here
 renewed_load p [] = omega arith
 renewed_load p (e ∷ here) = by_test (same_pid e.0 p) (renewed_load p here)
   where
-    abbrev weigh : List (Pid × Held) → ℕ
-    weigh l = sum_by (λ (e : Pid × Held). held_load e.1) l
+    parts : (d : Pid × Held) (rest : List (Pid × Held)) → weigh (d ∷ rest) ≡ held_load d.1 + weigh rest
+    parts d rest = sum_by-cons (λ (e : Pid × Held). held_load e.1) d rest
 
     by_test : (b : Bool) → weigh (with_renewed p here) ≤ weigh here → weigh (cond b (e.0, renewed_held e.1) e ∷ with_renewed p here) ≤ weigh (e ∷ here)
-    by_test true more = omega (arith, renewed_lighter e.1, more)
-    by_test false more = omega (arith, more)
+    by_test true more = omega (arith, renewed_lighter e.1, more, parts (e.0, renewed_held e.1) (with_renewed p here), parts e here)
+    by_test false more = omega (arith, more, parts e (with_renewed p here), parts e here)
 
 sent_lighter : (c : ClusterView) (queue : List Post) → load (after_sent c queue) ≤ load c
 sent_lighter c [] = omega arith

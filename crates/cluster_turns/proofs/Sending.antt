@@ -1,5 +1,5 @@
 -- A cluster takes in the entry that it sent.
-use Rattle.std.proofs.Common.{true≢false, refl, true, ◌≡◌, ◌+◌, ◌≤◌, ◌<◌, take, sym, ◌∙◌, ap, subst, arith, List, [], ◌∷◌, ◌++◌, length, drop, length-append, false, true, cond, ◌||◌, None, Some, slice_get, inr, inl, add-one}
+use Rattle.std.proofs.Common.{true≢false, Bool, refl, true, ◌≡◌, ◌+◌, ◌≤◌, ◌<◌, take, sym, ◌∙◌, ap, subst, arith, List, [], ◌∷◌, ◌++◌, length, drop, length-append, false, true, cond, ◌||◌, None, Some, slice_get, inr, inl, add-one}
 use Rattle.std.specs.Prelude.{option_map}
 use Rattle.std.specs.List.{list_any, list_all}
 use Rattle.std.proofs.lemmas.List.{drop-append-le, take-append-le, take_all}
