@@ -30,8 +30,7 @@ use Rattle.residents.specs.Held.{Held, Runs, Waits, held_of}
 use Rattle.cluster_core.specs.Parts.{AllOwn}
 use Rattle.cluster_core.specs.Recovered.{moved_by, CanWait, with_all_waiting}
 use Rattle.cluster_core.specs.Follows.{FollowsBuilt, IsOpen, StandsBetween, QueuedIn}
-use Rattle.cluster_core.specs.Queue.{AreTogether, IsQueued, Queued, Nothing, One, falls, is_lone, is_rebackup, left_queued, posts_of, are_plain}
-use Rattle.cluster_core.specs.Syncing.{Synchronises}
+use Rattle.cluster_core.specs.Queue.{AreTogether, Queued, Nothing, One, falls, is_lone, is_rebackup, left_queued, posts_of, are_plain}
 use Rattle.cluster_core.specs.Calls.{Absorbs, IsReady, ReadyFor, absorbed, with_entry, here_after}
 use Rattle.cluster_core.proofs.absorbing.ByKind.{IsLoss, OneOf, by_kind, by_page, by_sync, is_of_page, is_of_sync}
 use Rattle.cluster_core.proofs.losses.Homes.{HomeHere, differ_built, home_here}
@@ -51,7 +50,6 @@ use Rattle.cluster_core.proofs.absorbing.Fallen.{IsComing, NoneFalls, batch_left
 use Rattle.cluster_core.proofs.absorbing.Renewed.{follows_renewed, renewal_taken, home_same as home_same_renewed}
 use Rattle.cluster_core.proofs.absorbing.Returned.{follows_returned, return_taken, home_same as home_same_returned}
 use Rattle.cluster_core.proofs.paging.WithoutAnswer.{without_answer}
-use Rattle.cluster_core.specs.Bearing.{BearsChild}
 use Rattle.cluster_core.specs.HandingOn.{HandsOver}
 use Rattle.cluster_core.proofs.handing.OwnStanding.{follows_own_standing}
 use Rattle.cluster_core.proofs.handing.Queued.{hands_left, without_standing}

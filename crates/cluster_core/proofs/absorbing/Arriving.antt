@@ -1,5 +1,5 @@
 -- A letter for a process that is here goes to this cluster.
-use Rattle.std.proofs.Common.{◌≡◌, ◌⊎◌, ℕ, refl, sym, ◌∙◌, ap, subst, arith, List, [], ◌∷◌, ◌++◌, Bool, true, false, cond, eqb, eqb-true, inl, inr, Option, Some, true≢false}
+use Rattle.std.proofs.Common.{◌≡◌, ℕ, refl, sym, ◌∙◌, ap, subst, arith, List, [], ◌∷◌, ◌++◌, Bool, true, false, cond, eqb, eqb-true, inl, inr, Option, Some, true≢false}
 use Rattle.std.specs.Prelude.{◌^◌, bit_or, find, option_map}
 use Rattle.std.specs.Option.{option_map_or}
 use Rattle.std.specs.Int.{bit_at}
@@ -29,10 +29,6 @@ use Rattle.cluster_core.specs.Calls.{IsReady, ReadyFor, here_after}
 use Rattle.residents.specs.Residents.{pids_in}
 use Rattle.cluster_core.specs.View.{ClusterView}
 use Rattle.residents.specs.Held.{Held, arrived_held, held_of}
-use Rattle.cluster_core.specs.Queue.{IsQueued}
-use Rattle.cluster_core.specs.Syncing.{Synchronises}
-use Rattle.cluster_core.specs.Bearing.{BearsChild}
-use Rattle.cluster_core.specs.HandingOn.{HandsOver}
 use Rattle.cluster_core.proofs.absorbing.Fallen.{handed_is}
 use Rattle.cluster_core.proofs.births.BirthQueued.{birth_is}
 use Rattle.cluster_core.proofs.syncs.Batching.{batch_head}

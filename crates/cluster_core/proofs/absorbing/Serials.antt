@@ -1,5 +1,5 @@
 -- The pid of the next child of a cluster fits 32 bits.
-use Rattle.std.proofs.Common.{◌≡◌, ◌+◌, ◌*◌, ◌^◌, ◌<◌, subst, sym, arith, true}
+use Rattle.std.proofs.Common.{◌≡◌, ◌^◌, ◌<◌, subst, sym, arith, true}
 use Rattle.sys_text.specs.Valid.{is_system}
 use Rattle.sys_text.proofs.Bounds.{system_bounds}
 use Rattle.number_laws.proofs.NextPids.{pid_fits}

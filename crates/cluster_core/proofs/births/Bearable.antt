@@ -1,5 +1,5 @@
 -- A birth that a cluster takes in may be made there: its parent, where it is here, can fork, and the child is not here.
-use Rattle.std.proofs.Common.{◌≡◌, ◌⊎◌, sym, ◌∙◌, ap, subst, true, false, Some, None, true≢false, inl, inr}
+use Rattle.std.proofs.Common.{◌≡◌, sym, ◌∙◌, ap, subst, true, false, Some, None, true≢false, inl, inr}
 use Rattle.std.specs.List.{list_any}
 use Rattle.t32_base.specs.declared.process.Pid.{Pid}
 use Rattle.sys_text.specs.Valid.{is_system}
@@ -14,13 +14,11 @@ use Rattle.residents.specs.Held.{Held, Runs, held_of}
 use Rattle.cluster_core.specs.Absorbing.{CanBeBorn}
 use Rattle.cluster_core.specs.Parts.{AllOwn}
 use Rattle.cluster_core.specs.Bearing.{BearsChild}
-use Rattle.cluster_core.specs.HandingOn.{HandsOver}
 use Rattle.cluster_core.proofs.absorbing.Fallen.{handed_is}
 use Rattle.residents.specs.Bearing.{CanBear, CanForkNow}
 use Rattle.cluster_core.specs.Calls.{IsReady, ReadyFor}
 use Rattle.cluster_core.specs.Follows.{FollowsBuilt, StandsBetween, QueuedIn}
-use Rattle.cluster_core.specs.Queue.{IsQueued, is_lone, is_rebackup}
-use Rattle.cluster_core.specs.Syncing.{Synchronises}
+use Rattle.cluster_core.specs.Queue.{is_lone, is_rebackup}
 use Rattle.cluster_core.proofs.syncs.Batching.{batch_head}
 use Rattle.cluster_core.proofs.births.BirthQueued.{birth_head, birth_is}
 use Rattle.cluster_core.proofs.births.Births.{parent_not_here}

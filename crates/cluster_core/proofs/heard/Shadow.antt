@@ -1,5 +1,5 @@
 -- A cluster that follows a log by what goes to it is one that follows the whole log, but for its cursor, its count of steps, and what it does not know.
-use Rattle.std.proofs.Common.{◌≡◌, ◌⊎◌, ℕ, ◌≤◌, refl, sym, ◌∙◌, ap, arith, List, [], ◌∷◌, length, Bool, true, false, ◌&&◌, ◌||◌, eqb-true, inl, inr, true≢false, not}
+use Rattle.std.proofs.Common.{◌≡◌, ℕ, ◌≤◌, refl, sym, ◌∙◌, ap, arith, List, [], ◌∷◌, length, Bool, true, false, ◌&&◌, ◌||◌, eqb-true, inl, inr, true≢false}
 use Rattle.std.specs.Prelude.{◌^◌, ◌-◌, filter}
 use Rattle.std.specs.List.{list_any}
 use Rattle.std.specs.Option.{option_map_or}
@@ -15,17 +15,13 @@ use Rattle.cert_sched.specs.Losses.{capped}
 use Rattle.cert_sched.specs.Schedule.{placement}
 use Rattle.log_laws.specs.births.Unsynced.{unsynced_births}
 use Rattle.log_laws.proofs.births.Filters.{any_kept}
-use Rattle.cluster_core.specs.Bearing.{BearsChild}
 use Rattle.cluster_core.specs.Follows.{FollowsBuilt, QueuedIn}
 use Rattle.cluster_core.specs.Hearing.{FollowsHeard, concerns}
-use Rattle.cluster_core.specs.Queue.{IsQueued, is_rebackup}
 use Rattle.residents.specs.Residents.{pids_in}
-use Rattle.cluster_core.specs.Syncing.{Synchronises}
 use Rattle.cluster_core.specs.View.{ClusterView}
 use Rattle.cluster_core.proofs.here.Here.{is_among}
 use Rattle.residents.proofs.Changing.{pid_same}
 use Rattle.cluster_core.proofs.losses.Homes.{HomeHere, differ_built, home_here}
-use Rattle.cluster_core.specs.HandingOn.{HandsOver}
 
 -- the cluster with all that it would know if it took in each entry
 abbrev pub shadow : List Entry → ClusterView → ClusterView

@@ -1,6 +1,6 @@
 -- The posts that are left of what brings a process its new backup, as they stand in a queue.
 use Rattle.std.proofs.Common.{◌≡◌, ℕ, ◌≤◌, refl, sym, ◌∙◌, ap, subst, arith, List, [], ◌∷◌, ◌++◌, map, length, Bool, true, false, cond, ◌&&◌, eq-eqb, Option, Some, None, true≢false}
-use Rattle.std.specs.Prelude.{option_and_then, option_map, replicate}
+use Rattle.std.specs.Prelude.{option_map, replicate}
 use Rattle.std.specs.List.{list_all}
 use Rattle.std.specs.Option.{IfSome}
 use Rattle.std.proofs.lemmas.List.{append-nil, length-replicate}
@@ -34,7 +34,7 @@ use Rattle.checkpoint_laws.specs.marks.Sent.{SentUpto}
 use Rattle.checkpoint_laws.specs.limits.Within.{AllKeepLimits}
 use Rattle.checkpoint_laws.specs.batches.Underway.{PagesMay, page_left}
 use Rattle.checkpoint_laws.proofs.batches.QueuedBatch.{pages_before, pages_kept, pages_others, pages_own, pages_sent_before}
-use Rattle.backup_mode.specs.Posts.{fresh_post, renewed_record}
+use Rattle.backup_mode.specs.Posts.{fresh_post}
 use Rattle.backup_laws.specs.Posts.{CountsFrom}
 use Rattle.backup_laws.proofs.RenewalMarks.{pages_marked}
 use Rattle.backup_laws.proofs.RenewalStands.{pages_are_new, pages_keep_limits, pages_stand, renewal_is_new, renewal_keeps_limits, renewal_stands}

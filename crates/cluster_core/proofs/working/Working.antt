@@ -1,5 +1,5 @@
 -- A cluster that works goes on to follow each log that it followed.
-use Rattle.std.proofs.Common.{◌≡◌, ◌⊎◌, ℕ, zero, suc, ◌+◌, ◌-◌, ◌≤◌, ◌<◌, refl, sym, ◌∙◌, ap, subst, arith, List, [], ◌∷◌, Bool, true, false, cond, not, ◌&&◌, ◌||◌, eqb-true, eq-eqb, add-zero, Option, Some, None, is_none, is_some, inl, inr, true≢false}
+use Rattle.std.proofs.Common.{◌≡◌, ℕ, zero, suc, ◌+◌, ◌-◌, ◌≤◌, ◌<◌, refl, sym, ◌∙◌, ap, subst, arith, List, [], ◌∷◌, Bool, true, false, cond, not, ◌&&◌, ◌||◌, eqb-true, eq-eqb, add-zero, Option, Some, None, is_none, is_some, inl, inr, true≢false}
 use Rattle.std.specs.Prelude.{option_map, option_and_then, find}
 use Rattle.std.specs.Option.{option_map_or}
 use Rattle.t32_base.specs.declared.process.Pid.{Pid}
@@ -41,11 +41,8 @@ use Rattle.residents.specs.Changed.{with_changed}
 use Rattle.residents.specs.ForkingAgain.{RollsAgain}
 use Rattle.cluster_core.specs.Parts.{IsOwn}
 use Rattle.cluster_core.proofs.absorbing.Served.{accounts_queued}
-use Rattle.cluster_core.specs.Queue.{IsQueued, IsQueueLegal, Nothing, One, is_lone, move_of, taken_by, state_by, state_now, with_queue}
+use Rattle.cluster_core.specs.Queue.{IsQueueLegal, Nothing, One, is_lone, move_of, taken_by, state_by, state_now, with_queue}
 use Rattle.cluster_core.specs.Holds.{CarriesMarks, HoldsLimits, HoldsPages, IsHeldAs, MarkedIfThere, is_fetch_queued, process_in, unended_process}
-use Rattle.cluster_core.specs.Syncing.{Synchronises}
-use Rattle.cluster_core.specs.Bearing.{BearsChild}
-use Rattle.cluster_core.specs.HandingOn.{HandsOver}
 use Rattle.cluster_core.specs.Standing.{HoldsBackups, has_begun}
 use Rattle.cluster_core.specs.Follows.{FollowsBuilt, IsOpen, QueuedIn}
 use Rattle.cluster_core.specs.Calls.{GoesOn, OwesNothing, WorkIs, is_at_rest, are_at_rest, is_resting}
