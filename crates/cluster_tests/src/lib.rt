@@ -2,8 +2,6 @@
 #![tactic(auto)]
 
 #[cfg(test)]
-mod boots;
-#[cfg(test)]
-mod returned;
+mod clusters;
 #[cfg(test)]
 mod rolls;

@@ -1,7 +1,5 @@
 //! Tests of processes that roll forward, by themselves and as residents of a cluster, and of residents that come after their children.
 #[cfg(test)]
-mod children;
-#[cfg(test)]
-mod processes;
+mod at_home;
 #[cfg(test)]
 mod rolls;

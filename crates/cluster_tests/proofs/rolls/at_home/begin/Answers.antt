@@ -5,7 +5,7 @@ use Rattle.roll_forward.specs.Rolling.{with_saved}
 use Rattle.roll_forward.proofs.Examples.{can_roll_alike, counted, pid, two_first, two_start}
 use Rattle.residents.specs.ForkingAgain.{CanBeginWith}
 use Rattle.residents.specs.Held.{Waits}
-use Rattle.cluster_tests.proofs.rolls.processes.begun.Goals as goal
+use Rattle.cluster_tests.proofs.rolls.at_home.begin.Goals as goal
 
 pub begin_again-requires : goal.begin_again-requires
 begin_again-requires c =

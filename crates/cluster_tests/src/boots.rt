@@ -1,3 +1,0 @@
-//! Tests of a cluster at its start.
-#[cfg(test)]
-mod disks;
