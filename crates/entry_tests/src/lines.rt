@@ -2,6 +2,4 @@
 #[cfg(test)]
 mod copies;
 #[cfg(test)]
-mod entries;
-#[cfg(test)]
 mod lines;

@@ -1,140 +1,117 @@
-//! Copies, and what of them no line shows.
-use crate::lines::entries::{page_of, rebackup_of, rests_of, sync_of};
+//! What no line shows of entries, in their copies.
+use crate::entries::{Row, made};
 use bus_msg::entry::{By, Post, What};
 use std::alloc::Global;
 use std::test::Fail;
 use t32_base::letter::BackRec;
-use t32_base::lists::List;
-use t32_base::process::{ClusterNo, Pid};
+use t32_base::process::{ClusterNo, Pid, Small};
 use t32_base::streams::NoMemory;
 use test_asserts::same;
 
-fn copied(by: By, what: What) -> Result<Post, NoMemory> {
-    Post { by, what }.copy()
-}
-
-// The two of a list that has just two.
-fn both<T: Copy>(list: &List<T>) -> Option<(T, T)> {
-    match list.as_slice() {
-        [first, second] => Some((*first, *second)),
+// The handler, the numbers of the letters read and the signal taken.
+fn of_sync(small: &Small, read: &[u64], took: Option<u8>) -> Option<[u64; 4]> {
+    match read {
+        [first, second] => Some([u64::from(small.handler), *first, *second, u64::from(took?)]),
         _ => None,
     }
 }
 
-// The handler, the numbers of the letters read and the signal taken, where it is a synchronisation.
-type Synced = (u32, Option<(u64, u64)>, Option<u8>);
+// The two that have not ended, and their steps.
+fn of_rests(rests: &[(Pid, u64)]) -> Option<[u64; 4]> {
+    match rests {
+        [(first, at), (second, then)] => Some([
+            u64::from(first.0),
+            *at,
+            u64::from(second.0),
+            *then,
+        ]),
+        _ => None,
+    }
+}
 
-fn synced(post: &Post) -> (By, Option<Synced>) {
-    let what = match &post.what {
+// The number of the next letter, the signals counted, how many letters are saved, and the one birth.
+fn of_record(record: &BackRec) -> Option<[u64; 4]> {
+    let saved = record.saved.len() as u64;
+    match record.births.as_slice() {
+        [birth] => Some([
+            record.next,
+            u64::from(record.counts.signals),
+            saved,
+            u64::from(birth.0),
+        ]),
+        _ => None,
+    }
+}
+
+// The first two bytes and the last two.
+fn of_page(bytes: &[u8; 256]) -> [u64; 4] {
+    [
+        u64::from(bytes[0]),
+        u64::from(bytes[1]),
+        u64::from(bytes[254]),
+        u64::from(bytes[255]),
+    ]
+}
+
+// What no line shows of an entry, and of the record of a new backup by its number.
+fn hidden(what: &What, number: usize) -> Option<[u64; 4]> {
+    match what {
         What::Sync {
             small,
             read,
             took,
             ..
-        } => Some((small.get().handler, both(read), *took)),
+        } => of_sync(small.get(), read.as_slice(), *took),
+        What::Done { rests } => of_rests(rests.as_slice()),
+        What::Rebackup { recs, .. } => of_record(recs.get().as_slice().get(number)?),
+        What::PageIs { bytes, .. } => Some(of_page(bytes.get())),
         _ => None,
+    }
+}
+
+fn shown(post: &Post, number: usize) -> (By, Option<[u64; 4]>) {
+    (post.by, hidden(&post.what, number))
+}
+
+fn copy_shows(post: &Post, number: usize) -> Result<(By, Option<[u64; 4]>), NoMemory> {
+    let copy = post.copy()?;
+    Ok(shown(&copy, number))
+}
+
+fn copied(
+    alloc: Global,
+    by: By,
+    row: &Row,
+    number: usize,
+) -> Result<(By, Option<[u64; 4]>), NoMemory> {
+    let post = Post {
+        by,
+        what: made(alloc, row)?,
     };
-    (post.by, what)
+    copy_shows(&post, number)
 }
 
-fn copied_sync(alloc: Global, by: By) -> Result<(By, Option<Synced>), NoMemory> {
-    let copy = copied(by, sync_of(alloc, Some(10))?)?;
-    Ok(synced(&copy))
-}
+const BACKUP: Row = Row::Rebackup(0, false, &[(17, true), (33, false)]);
 
-#[test]
-fn a_synchronisation_is_copied_with_what_is_not_printed(rt: HostRuntime) -> Result<(), Fail> {
-    let by = By::Cluster(ClusterNo(3));
-    let wanted = Some((65600, Some((5, 3)), Some(10)));
-    same("the copy", &copied_sync(rt.alloc(), by)?, &(by, wanted))
-}
-
-// The steps of the two that have not ended, where it is the end.
-type Rests = Option<((Pid, u64), (Pid, u64))>;
-
-fn rests(post: &Post) -> Rests {
-    match &post.what {
-        What::Done { rests } => both(rests),
-        _ => None,
-    }
-}
-
-fn copied_end(alloc: Global) -> Result<Rests, NoMemory> {
-    let made = rests_of(alloc)?;
-    let copy = copied(By::Bus, What::Done { rests: made })?;
-    Ok(rests(&copy))
-}
-
-#[test]
-fn an_end_is_copied_with_what_is_not_printed(rt: HostRuntime) -> Result<(), Fail> {
-    let wanted = ((Pid(16), 10), (Pid(33), 18446744073709551615));
-    same("the copy", &copied_end(rt.alloc())?, &Some(wanted))
-}
-
-// The number of the next letter, the signals counted, how many letters are saved, and the one birth.
-type Held = (u64, u32, usize, Option<Pid>);
-
-fn only(births: &[Pid]) -> Option<Pid> {
-    match births {
-        [birth] => Some(*birth),
-        _ => None,
-    }
-}
-
-fn held(rec: &BackRec) -> Held {
+// An entry, the number of a record, and what its copy has that no line shows.
+static COPIES: [(By, Row, usize, [u64; 4]); 5] = [
     (
-        rec.next,
-        rec.counts.signals,
-        rec.saved.len(),
-        only(rec.births.as_slice()),
-    )
-}
-
-// What the records hold, where it is a new backup of just two.
-fn both_held(post: &Post) -> Option<(Held, Held)> {
-    match &post.what {
-        What::Rebackup { recs, .. } => match recs.get().as_slice() {
-            [first, second] => Some((held(first), held(second))),
-            _ => None,
-        },
-        _ => None,
-    }
-}
-
-fn copied_records(alloc: Global) -> Result<Option<(Held, Held)>, NoMemory> {
-    let copy = copied(By::Bus, rebackup_of(alloc, false)?)?;
-    Ok(both_held(&copy))
-}
+        By::Cluster(ClusterNo(3)),
+        Row::Sync(16, Some(10)),
+        0,
+        [65600, 5, 3, 10],
+    ),
+    (By::Bus, Row::Done, 0, [16, 10, 33, u64::MAX]),
+    (By::Bus, BACKUP, 0, [7, 5, 1, 48]),
+    (By::Bus, BACKUP, 1, [7, 5, 1, 48]),
+    (By::Bus, Row::PageIs(16), 0, [0, 0, 0, 9]),
+];
 
 #[test]
-fn records_are_copied(rt: HostRuntime) -> Result<(), Fail> {
-    let wanted = (7, 5, 1, Some(Pid(48)));
-    same(
-        "the copy",
-        &copied_records(rt.alloc())?,
-        &Some((wanted, wanted)),
-    )
-}
-
-// The first and the last byte of the page, where it is one that is answered.
-fn page_ends(post: &Post) -> Option<(u8, u8)> {
-    match &post.what {
-        What::PageIs { bytes, .. } => Some((bytes.get()[0], bytes.get()[255])),
-        _ => None,
+fn copies_have_what_is_not_printed(rt: HostRuntime) -> Result<(), Fail> {
+    for row in COPIES.iter() {
+        let copy = copied(rt.alloc(), row.0, &row.1, row.2)?;
+        same("the copy", &copy, &(row.0, Some(row.3)))?;
     }
-}
-
-fn copied_page(alloc: Global) -> Result<Option<(u8, u8)>, NoMemory> {
-    let answer = What::PageIs {
-        pid: Pid(16),
-        index: 2,
-        bytes: page_of(alloc, 9)?,
-    };
-    let copy = copied(By::Bus, answer)?;
-    Ok(page_ends(&copy))
-}
-
-#[test]
-fn a_page_is_copied(rt: HostRuntime) -> Result<(), Fail> {
-    same("the copy", &copied_page(rt.alloc())?, &Some((0, 9)))
+    Ok(())
 }

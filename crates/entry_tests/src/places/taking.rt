@@ -1,18 +1,16 @@
-//! The system of three clusters with two roots, the entries that its placement takes in, and what it shows.
+//! A system of three clusters with two roots, and the logs that its placement takes in.
 ghost use Rattle.std.specs.Prelude.{◌≡◌, ◌+◌, ◌*◌, IsTrue};
 ghost use Rattle.channel_table.specs.Changes.{CanBeAbsorbed, IsNextChild};
 
+use crate::entries::{Row, made};
 use bus_msg::entry::{By, Cause, Dests, Entry, Post, What};
 use bus_msg::placed::Placed;
-use bus_msg::shared::Shared;
 use channel_table::placement::Placement;
 use std::alloc::Global;
-use t32_base::letter::BackRec;
-use t32_base::lists::List;
-use t32_base::process::{ClusterNo, Counts, End, EndState, Mode, Pid, Regs, Small, Status};
+use t32_base::process::{ClusterNo, End, Mode, Pid};
 use t32_base::streams::NoMemory;
 
-// The first root, at home in cluster 0 with its backup in cluster 1.
+/// The first root, at home in cluster 0 with its backup in cluster 1.
 pub const FIRST: Placed = Placed {
     pid: Pid(16),
     home: ClusterNo(0),
@@ -23,7 +21,7 @@ pub const FIRST: Placed = Placed {
     synced: false,
 };
 
-// The second, at home in cluster 1 with its backup in cluster 2.
+/// The second, at home in cluster 1 with its backup in cluster 2.
 pub const SECOND: Placed = Placed {
     pid: Pid(17),
     home: ClusterNo(1),
@@ -35,39 +33,73 @@ pub const SECOND: Placed = Placed {
 };
 
 // Three clusters, of which 1 and 2 serve pages.
-pub fn booted(alloc: Global) -> Result<Placement, NoMemory> {
+fn booted(alloc: Global) -> Result<Placement, NoMemory> {
     Placement::boot(alloc, 3, (ClusterNo(1), ClusterNo(2)), &[FIRST, SECOND])
 }
 
-// ---- entries taken in
-
-pub fn absorbs(places: &mut Placement, what: What) -> Result<(), NoMemory>
-    requires { CanBeAbsorbed places.old what }
-{
-    places.absorb(&Entry {
-        place: 0,
-        post: Post { by: By::Bus, what },
-        dests: Dests {
-            clusters: 0,
-            tty: None,
-        },
-    })
+/// What happens to a placement: an entry is taken in, or it is changed by hand.
+pub enum Deed {
+    Entry(Row),
+    TakeBack(u32),
+    SetBackup(u32, u8),
+    Lose(u8),
+    ComeBack(u8),
 }
 
-// A child is born, where it is the next of its parent.
-pub fn bears(places: &mut Placement, parent: Pid, child: Pid) -> Result<(), NoMemory> {
-    if !is_next(places, parent, child) {
-        return Ok(());
-    }
-    absorbs(
-        places,
-        What::Birth {
-            parent,
-            at: 1,
-            child,
-            end: 0,
-        },
-    )
+static LOGS: [&[Deed]; 5] = [
+    // The log that most tests take in, entry by entry.
+    &[
+        Deed::Entry(Row::Birth(16, 32)),
+        Deed::Entry(Row::Birth(16, 48)),
+        Deed::Entry(Row::Exit(32, End::Exit(0))),
+        Deed::Entry(Row::Sync(16, None)),
+        Deed::Entry(Row::Crash(0, Cause::Place)),
+        Deed::Entry(Row::Return(0)),
+        Deed::Entry(Row::Rebackup(0, false, &[(16, false), (48, false)])),
+        Deed::Entry(Row::Crash(2, Cause::Place)),
+        Deed::Entry(Row::Return(2)),
+        Deed::Entry(Row::Rebackup(2, true, &[(17, false)])),
+    ],
+    // A root that has synchronised bears a child, that bears one, and so does the other root.
+    &[
+        Deed::Entry(Row::Sync(16, None)),
+        Deed::Entry(Row::Birth(16, 32)),
+        Deed::Entry(Row::Birth(32, 48)),
+        Deed::Entry(Row::Birth(17, 33)),
+    ],
+    // A root bears a child, is moved, and bears another.
+    &[
+        Deed::Entry(Row::Birth(16, 32)),
+        Deed::Entry(Row::Crash(0, Cause::Place)),
+        Deed::Entry(Row::Birth(16, 33)),
+    ],
+    // A birth is taken back, and its pid given again, to a child of the child.
+    &[
+        Deed::Entry(Row::Birth(16, 32)),
+        Deed::Entry(Row::Birth(16, 48)),
+        Deed::TakeBack(16),
+        Deed::Entry(Row::Birth(32, 48)),
+    ],
+    // One backup is set and one cluster lost, which returns.
+    &[Deed::SetBackup(16, 2), Deed::Lose(1), Deed::ComeBack(1)],
+];
+
+// The numbers of these logs.
+pub const LONG: usize = 0;
+
+pub const BIRTHS: usize = 1;
+
+pub const MOVE: usize = 2;
+
+pub const TAKEN_BACK: usize = 3;
+
+pub const BY_HAND: usize = 4;
+
+// Whether a child has the pid of a serial of its home.
+fn has_pid(child: Pid, home: ClusterNo, serial: u32) -> bool
+    ensures { IsTrue result → child.0 ≡ home.0 + 16 * serial }
+{
+    u64::from(child.0) == u64::from(home.0) + 16 * u64::from(serial)
 }
 
 fn is_next(places: &Placement, parent: Pid, child: Pid) -> bool
@@ -80,99 +112,68 @@ fn is_next(places: &Placement, parent: Pid, child: Pid) -> bool
     }
 }
 
-// Whether a child has the pid of a serial of its home.
-fn has_pid(child: Pid, home: ClusterNo, serial: u32) -> bool
-    ensures { IsTrue result → child.0 ≡ home.0 + 16 * serial }
+fn can_absorb(places: &Placement, what: &What) -> bool
+    ensures { IsTrue result → CanBeAbsorbed places.now what.now }
 {
-    u64::from(child.0) == u64::from(home.0) + 16 * u64::from(serial)
-}
-
-pub fn small(pid: Pid) -> Small {
-    Small {
-        pid,
-        regs: Regs::new(0),
-        ends: [EndState::Never; 32],
-        handler: 0,
-        frame: None,
-        left: 0,
-        steps: 0,
-        births: 0,
-        status: Status::Live,
-        pages: 1,
+    match what {
+        What::Birth { parent, child, .. } => is_next(places, *parent, *child),
+        _ => true,
     }
 }
 
-pub fn records(alloc: Global, pids: &[u32]) -> Result<Shared<List<BackRec>>, NoMemory> {
-    let mut recs = List::new(alloc);
-    for pid in pids {
-        recs.push(BackRec {
-            pid: Pid(*pid),
-            state: None,
-            saved: List::new(alloc),
-            next: 0,
-            counts: Counts {
-                ends: [0; 32],
-                signals: 0,
-            },
-            births: List::new(alloc),
-        })?;
+// A birth is taken in where the child is the next of its parent.
+fn absorb(places: &mut Placement, entry: &Entry) -> Result<(), NoMemory> {
+    if can_absorb(places, &entry.post.what) {
+        places.absorb(entry)
+    } else {
+        Ok(())
     }
-    Shared::new(alloc, recs)
 }
 
-pub fn exit(places: &mut Placement, pid: Pid) -> Result<(), NoMemory> {
-    absorbs(
-        places,
-        What::Exit {
-            pid,
-            at: 2,
-            end: End::Exit(0),
+fn take_in(alloc: Global, places: &mut Placement, row: &Row) -> Result<(), NoMemory> {
+    let entry = Entry {
+        place: 0,
+        post: Post {
+            by: By::Bus,
+            what: made(alloc, row)?,
         },
-    )
-}
-
-pub fn sync(alloc: Global, places: &mut Placement, pid: Pid) -> Result<(), NoMemory> {
-    absorbs(
-        places,
-        What::Sync {
-            pid,
-            small: Shared::new(alloc, small(pid))?,
-            read: List::new(alloc),
-            took: None,
+        dests: Dests {
+            clusters: 0,
+            tty: None,
         },
-    )
+    };
+    absorb(places, &entry)
 }
 
-pub fn crash(places: &mut Placement, k: ClusterNo) -> Result<(), NoMemory> {
-    absorbs(
-        places,
-        What::Crash {
-            k,
-            cause: Cause::Place,
-        },
-    )
+fn take(alloc: Global, places: &mut Placement, deed: &Deed) -> Result<(), NoMemory> {
+    match deed {
+        Deed::Entry(row) => return take_in(alloc, places, row),
+        Deed::TakeBack(parent) => places.take_back_birth(Pid(*parent)),
+        Deed::SetBackup(pid, to) => places.set_backup(Pid(*pid), ClusterNo(*to)),
+        Deed::Lose(k) => places.move_after_crash(ClusterNo(*k)),
+        Deed::ComeBack(k) => places.come_back(ClusterNo(*k)),
+    }
+    Ok(())
 }
 
-pub fn rebackup(
+fn take_all(
+    alloc: Global,
     places: &mut Placement,
-    to: ClusterNo,
-    fresh: bool,
-    recs: Shared<List<BackRec>>,
+    log: usize,
+    steps: usize,
 ) -> Result<(), NoMemory> {
-    absorbs(places, What::Rebackup { to, fresh, recs })
+    let Some(deeds) = LOGS.get(log) else {
+        return Ok(());
+    };
+    for deed in deeds.iter().take(steps) {
+        take(alloc, places, deed)?;
+    }
+    Ok(())
 }
 
-// ---- what the placement shows
-
-// Whether just these processes are placed, in this order.
-pub fn shows(places: &Placement, wanted: &[Placed]) -> bool {
-    if places.len() != wanted.len() {
-        return false;
-    }
-    for (index, placed) in wanted.iter().enumerate() {
-        if places.at(index) != Some(*placed) || places.get(placed.pid) != Some(*placed) {
-            return false;
-        }
-    }
-    true
+/// The placement after so much of a log.
+pub fn after(alloc: Global, log: usize, steps: usize) -> Result<Placement, NoMemory> {
+    let mut places = booted(alloc)?;
+    take_all(alloc, &mut places, log, steps)?;
+    Ok(places)
 }

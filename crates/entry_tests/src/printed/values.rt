@@ -5,8 +5,8 @@ use std::test::Fail;
 use t32_base::streams::NoMemory;
 use test_asserts::same;
 
-// The place, the sender and the first number of a line, and its last number or the number of its bytes.
-type Ends = (u64, ToldBy, u64, u64);
+/// The place, the sender and the first number of a line, and its last number or the number of its bytes.
+pub type Ends = (u64, ToldBy, u64, u64);
 
 fn of_letter(letter: &ToldLetter) -> u64 {
     match letter {
@@ -37,7 +37,7 @@ fn ends_of(told: &Told) -> Ends {
     (told.place, told.by, first, last)
 }
 
-fn ends(alloc: Global, line: &[u8]) -> Result<Option<Ends>, NoMemory> {
+pub fn ends(alloc: Global, line: &[u8]) -> Result<Option<Ends>, NoMemory> {
     match read_told(alloc, line)? {
         Some(told) => Ok(Some(ends_of(&told))),
         None => Ok(None),
