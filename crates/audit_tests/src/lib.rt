@@ -12,6 +12,8 @@ mod done;
 #[cfg(test)]
 mod fetched;
 #[cfg(test)]
+mod followed;
+#[cfg(test)]
 mod kept;
 #[cfg(test)]
 mod lines;

@@ -18,6 +18,7 @@ use Rattle.cert_sched.specs.Rules.{has_awaited_backup, is_alone, is_full, is_mov
 use Rattle.cert_sched.specs.Legal.{IsLegalBy, Stands}
 use Rattle.cert_sched.specs.Built.{MayStand}
 use Rattle.cert_sched.specs.Simulation.{IsUnended}
+use Rattle.log_laws.specs.pages.Next.{moves_next}
 use Rattle.log_cuts.specs.SentPages.{IsSentOf}
 use Rattle.log_renewals.specs.Moved.{moved_only}
 use Rattle.audited_process.specs.declared.since_moved.SinceMoved.{SinceMoved}
@@ -45,6 +46,10 @@ is_fullback places p = option_map_or (λ (q : Placed). is_full q.mode) (unended_
 -- a fullback that is moved waits; another goes on, unless the entry names it or no cluster beside its home lived before
 abbrev pub waits_on : Bool → Pid → Bool → Places → What → Bool
 waits_on waits p moved before w = if moved then is_fullback before p else waits && not (names p w) && not (is_alone p before)
+
+-- whether a process has only been moved, and then after an entry that moves it, or does not
+abbrev pub KeepsOnly : Pid → Bool → Bool → Bool → Entry → Type 0
+KeepsOnly p moved old new e = (system : System) (log : List Entry) → moves_next system log e p ≡ moved → old ≡ moved_only system log p → new ≡ moved_only system (log ++ e ∷ []) p
 
 -- what was kept of a process that has not ended, and then of the log with an entry that ends neither it nor the run
 abbrev pub TakesEntry : Pid → Places → SinceMoved → SinceMoved → Entry → Type 0

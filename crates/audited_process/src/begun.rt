@@ -58,12 +58,7 @@ pub fn go_on(
 }
 
 // The letter of an entry that does not cut the process arrives, if it goes to the process.
-fn arrive(
-    pid: Pid,
-    entry: &Entry,
-    begun: &mut Begun,
-    process: &mut Process,
-) -> Result<(), NoMemory>
+fn arrive(pid: Pid, entry: &Entry, begun: &mut Begun, process: &mut Process) -> Result<(), NoMemory>
     requires letters { process.old.mail.next < 2 ^ 64 - 1 }
     requires saved { begun.old.saved < 2 ^ 64 - 1 }
     ensures state { OnOk result (state_of process.new ≡ all_delivered (state_of process.old) (letter_for pid (what entry.now))) }

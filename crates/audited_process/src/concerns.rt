@@ -71,7 +71,13 @@ pub fn page_sent(pid: Pid, what: &What) -> Option<(u16, u64)>
             at,
             index,
             ..
-        } => { if own.0 == pid.0 { Some((*index, *at)) } else { None } }
+        } => {
+            if own.0 == pid.0 {
+                Some((*index, *at))
+            } else {
+                None
+            }
+        }
         _ => None,
     }
 }

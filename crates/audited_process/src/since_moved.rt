@@ -2,7 +2,7 @@
 ghost use Rattle.std.specs.Prelude.{◌≡◌, ◌&&◌, not, OnOk};
 ghost use Rattle.bus_msg.specs.PlacedAfter.{what};
 ghost use Rattle.log_renewals.specs.Moved.{KeepsMovedOnly};
-ghost use Rattle.audited_process.specs.SinceMoved.{BeginsUnmoved, SaysWait, TakesEntry};
+ghost use Rattle.audited_process.specs.SinceMoved.{BeginsUnmoved, KeepsOnly, SaysWait, TakesEntry};
 ghost use Rattle.audited_process.specs.Pages.{TakesPages};
 
 use crate::concerns::{is_moved, page_sent};
@@ -43,7 +43,7 @@ impl SinceMoved {
     {
         let moved = is_moved(pid, before, &entry.post.what);
         take_page(pid, moved, entry, &mut self.sent)?;
-        self.only = moved || follow(pid, self.only, entry);
+        self.only = only_on(pid, moved, self.only, entry);
         self.waits = wait_on(self.waits, pid, moved, before, entry);
         Ok(())
     }
@@ -53,6 +53,17 @@ impl SinceMoved {
         ensures { SaysWait pid places.now self.now result }
     {
         self.waits && !is_alone(places, pid)
+    }
+}
+
+// It has only been moved right after that, and until it does something.
+fn only_on(pid: Pid, moved: bool, only: bool, entry: &Entry) -> bool
+    ensures { KeepsOnly pid moved only result entry.now }
+{
+    if moved {
+        true
+    } else {
+        follow(pid, only, entry)
     }
 }
 

@@ -1,0 +1,7 @@
+pub mod ByKind
+pub mod GoingOn
+pub mod Paging
+pub mod Waits
+pub mod Beginning
+pub mod LeadsOn
+pub mod Room
