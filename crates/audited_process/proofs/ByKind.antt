@@ -81,7 +81,7 @@ pub record IsPageOf (p : Pid) (w : What) (index at : ℕ) : Type 0 where
 pub page_is : (p : Pid) (w : What) (index at : ℕ) → page_sent p w ≡ Some (index, at) → IsPageOf p w index at
 page_is p (Page pid n i bytes) index at is = by_pid (same_pid pid p) refl is
   where
-    by_pid : (b : Bool) → same_pid pid p ≡ b → cond b (Some (i, n)) None ≡ Some (index, at) → IsPageOf p (Page pid n i bytes) index at
+    by_pid : (b : Bool) → same_pid pid p ≡ b → cond {A = Option (ℕ × ℕ)} b (Some (i, n)) None ≡ Some (index, at) → IsPageOf p (Page pid n i bytes) index at
     by_pid true own said =
         let pair : (i, n) ≡ (index, at) = same_Some (i, n) (index, at) said in
         let me : pid ≡ p = same_of pid p own in
@@ -92,7 +92,7 @@ page_is p _ index at is = cc
 pub no_page : (p : Pid) (w : What) → page_sent p w ≡ None → is_some_page p w ≡ false
 no_page p (Page pid n i bytes) is = by_pid (same_pid pid p) is
   where
-    by_pid : (b : Bool) → cond b (Some (i, n)) None ≡ None → b ≡ false
+    by_pid : (b : Bool) → cond {A = Option (ℕ × ℕ)} b (Some (i, n)) None ≡ None → b ≡ false
     by_pid true said = cc
     by_pid false said = refl
 no_page p _ is = refl

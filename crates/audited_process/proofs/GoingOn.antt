@@ -1,5 +1,6 @@
 -- How a process goes on by an entry that ends neither it nor the run.
-use Rattle.std.proofs.Common.{◌≡◌, ℕ, ◌+◌, refl, sym, ◌∙◌, ap, subst, List, [], ◌∷◌, ◌++◌, length, Bool, true, false, cond, ◌||◌, Option, Some, None, is_some, true≢false}
+use Rattle.std.proofs.Common.{◌≡◌, ℕ, ◌+◌, refl, sym, ◌∙◌, ap, subst, List, [], ◌∷◌, ◌++◌, length, Bool, true, false, cond, ◌||◌, Option, Some, None, is_some, Result, Ok, Err, true≢false}
+use Rattle.std.specs.Prelude.{OnOk}
 use Rattle.t32_base.specs.declared.process.Pid.{Pid}
 use Rattle.t32_base.proofs.Facts.{or_true}
 use Rattle.sys_text.specs.declared.system.System.{System}
@@ -115,3 +116,8 @@ cuts_go_on e p s old new cuts at system log valid legal may unended goes there i
 pub others_go_on : (e : Entry) (p : Pid) (s : ProcState) (old : Begun) (t : ProcState) (new : Begun) → is_cut p (what e) ≡ false → t ≡ all_delivered s (letter_for p (what e))
     → new ≡ record old { saved = old.saved + length (letter_for p (what e)) } → GoesOn e p s old t new
 others_go_on e p s old t new uncut at same system log valid legal may unended goes there is = arrive_on system log e p valid legal may unended goes s there old is uncut t new at same
+
+-- two facts where a call is Ok give a third
+pub both_ok : {E : Type 0} {A B C : Type 0} (r : Result (Unit {0}) E) → (A → B → C) → OnOk r A → OnOk r B → OnOk r C
+both_ok (Ok u) f a b = f a b
+both_ok (Err e) f a b = tt

@@ -5,3 +5,4 @@ pub mod Waits
 pub mod Beginning
 pub mod LeadsOn
 pub mod Room
+pub mod CopyStays

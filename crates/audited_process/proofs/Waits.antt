@@ -1,8 +1,9 @@
 -- Whether a process waits for its new backup, after one more entry.
-use Rattle.std.proofs.Common.{◌≡◌, refl, sym, ◌∙◌, ap, List, [], ◌∷◌, ◌++◌, map, Bool, true, false, cond, not, ◌&&◌, ◌||◌, Option, Some, None, is_some, true≢false}
-use Rattle.std.specs.List.{list_any}
+use Rattle.std.proofs.Common.{◌≡◌, refl, sym, ◌∙◌, ap, List, [], ◌∷◌, ◌++◌, length, map, Bool, true, false, cond, not, ◌&&◌, ◌||◌, Option, Some, None, is_some, true≢false}
+use Rattle.std.specs.List.{list_all, list_any, range_with_len}
 use Rattle.std.specs.Option.{option_map_or}
 use Rattle.std.proofs.lemmas.List.{map-append}
+use Rattle.std.proofs.lemmas.List.Folds.{list_all-map}
 use Rattle.t32_base.specs.declared.process.Pid.{Pid}
 use Rattle.t32_base.specs.declared.process.Mode.{Mode}
 use Rattle.t32_base.proofs.Facts.{or_true, or_false, and_true}
@@ -10,7 +11,8 @@ use Rattle.sys_text.specs.declared.system.System.{System}
 use Rattle.bus_msg.specs.declared.entry.What.{What}
 use Rattle.bus_msg.specs.declared.entry.What.TheVariants.{Birth}
 use Rattle.bus_msg.specs.declared.entry.Entry.{Entry}
-use Rattle.bus_msg.specs.Places.{Places, placed_at, unended_at}
+use Rattle.bus_msg.specs.declared.placed.Placed.{Placed}
+use Rattle.bus_msg.specs.Places.{Places, all_clusters, cluster_no, lives_in, placed_at, same_cluster, unended_at}
 use Rattle.bus_msg.specs.PlacedAfter.{placed_after, what}
 use Rattle.cert_sched.specs.Account.{is_exit_of}
 use Rattle.cert_sched.specs.Deeds.{is_birth_of}
@@ -28,7 +30,7 @@ use Rattle.log_laws.specs.pages.Next.{moves_next, next_told}
 use Rattle.log_laws.proofs.pages.OneEntry.{any_since-snoc, list_any-last}
 use Rattle.backup_laws.proofs.Modes.{mode_stays}
 use Rattle.backup_laws.proofs.Since.{full_mode, mode_at, was_moved-snoc}
-use Rattle.audited_process.specs.SinceMoved.{is_fullback, waited, waits_on}
+use Rattle.audited_process.specs.SinceMoved.{is_fullback, is_home_or_lost, waited, waits_on}
 
 -- who has not ended stays so, where the entry is neither its exit nor its birth
 pub still_unended : (w : What) (places : Places) (p : Pid) → is_birth_of p w ≡ false → is_exit_of p w ≡ false → is_some (unended_at places p) ≡ true → is_some (unended_at (placed_after places w) p) ≡ true
@@ -94,6 +96,14 @@ module _ (system : System) (log : List Entry) (e : Entry) (p : Pid) (unended : I
       ap (λ b. b && not (names p (what e)) && not (is_alone p here)) is
       ∙ sym (waited_is ∙ ap (λ b. so b (names p (what e)) (is_alone p here)) moves
       ∙ stayed_parts (is_fullback here p) (was_moved system log p) (any_since_moved system log p (names p)) (was_alone system log p) (names p (what e)) (is_alone p here))
+
+-- ---- now
+
+-- by the clusters one after the other
+pub alone_is : (places : Places) (p : Pid) (q : Placed) → unended_at places p ≡ Some q → list_all (is_home_or_lost places q.home) (range_with_len 0 (length places.clusters)) ≡ is_alone p places
+alone_is places p q there =
+    sym (list_all-map (λ k. same_cluster k q.home || not (lives_in places k)) cluster_no (range_with_len 0 (length places.clusters)))
+    ∙ ap (λ o. option_map_or (λ (q : Placed). list_all (λ k. same_cluster k q.home || not (lives_in places k)) (all_clusters places)) o false) (sym there)
 
 -- with the last placement it says who waits
 pub waits_now : (system : System) (log : List Entry) (p : Pid) → (waited system log p && not (is_alone p (placement system log))) ≡ not (has_awaited_backup system log p)

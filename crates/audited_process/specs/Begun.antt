@@ -24,10 +24,10 @@ pub record IsBegunOf (system : System) (log : List Entry) (p : Pid) (b : Begun) 
   pub start : KeepsStart p b.start system log
 
 -- This is kept of a process that starts where it stands.
-pub record StandsAt (s : ProcState) (stated : Bool) (b : Begun) : Type 0 where
+pub record StandsAt (s : ProcState) (has : Bool) (b : Begun) : Type 0 where
   pub steps : b.steps ≡ (s.small).steps
   pub saved : b.saved ≡ length s.mail
-  pub stated : (b.start).stated ≡ stated
+  pub stated : (b.start).stated ≡ has
   pub start : BeginsAt s b.start
 
 -- the process right behind the next entry, before a letter of it arrives: where its fork or its cut leaves it, where it sent the letter, or where it stood

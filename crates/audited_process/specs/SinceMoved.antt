@@ -3,12 +3,13 @@ use Rattle.std.specs.Prelude.{ℕ, ◌≡◌, Bool, true, false, not, ◌&&◌, 
 use Rattle.std.specs.List.{list_any}
 use Rattle.std.specs.Option.{option_map_or}
 use Rattle.t32_base.specs.declared.process.Pid.{Pid}
+use Rattle.t32_base.specs.declared.process.ClusterNo.{ClusterNo}
 use Rattle.sys_text.specs.declared.system.System.{System}
 use Rattle.sys_text.specs.Valid.{is_system}
 use Rattle.bus_msg.specs.declared.entry.What.{What}
 use Rattle.bus_msg.specs.declared.entry.Entry.{Entry}
 use Rattle.bus_msg.specs.declared.placed.Placed.{Placed}
-use Rattle.bus_msg.specs.Places.{Places, unended_at}
+use Rattle.bus_msg.specs.Places.{Places, cluster_no, lives_in, same_cluster, unended_at}
 use Rattle.bus_msg.specs.PlacedAfter.{what}
 use Rattle.cert_sched.specs.Schedule.{placement}
 use Rattle.cert_sched.specs.Told.{Told}
@@ -42,6 +43,10 @@ pub record IsSinceMovedOf (system : System) (log : List Entry) (p : Pid) (m : Si
 
 abbrev pub is_fullback : Places → Pid → Bool
 is_fullback places p = option_map_or (λ (q : Placed). is_full q.mode) (unended_at places p) false
+
+-- the cluster with a number is the home, or does not live
+abbrev pub is_home_or_lost : Places → ClusterNo → ℕ → Bool
+is_home_or_lost places home n = same_cluster (cluster_no n) home || not (lives_in places (cluster_no n))
 
 -- a fullback that is moved waits; another goes on, unless the entry names it or no cluster beside its home lived before
 abbrev pub waits_on : Bool → Pid → Bool → Places → What → Bool

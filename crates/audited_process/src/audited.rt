@@ -1,5 +1,5 @@
 //! What is kept of one process of a log that is checked.
-ghost use Rattle.std.specs.Prelude.{◌≡◌, ◌-◌, ◌<◌, ◌^◌, false, IfOk, OnOk};
+ghost use Rattle.std.specs.Prelude.{◌≡◌, ◌-◌, ◌<◌, ◌^◌, true, false, None, IfOk, OnOk};
 ghost use Rattle.proc_state.specs.State.{state_of};
 ghost use Rattle.bus_msg.specs.PlacedAfter.{what};
 ghost use Rattle.log_cuts.specs.Ahead.{IsAhead};
@@ -60,11 +60,19 @@ impl Audited {
         ensures takes { OnOk result (TakesEntry pid before.now self.old self.new entry.now) }
         ensures ahead { OnOk result (IsAhead (state_of self.new.process) self.new.ahead) }
     {
-        if changes(pid, &entry.post.what) {
-            self.ahead.clear();
-        }
+        drop_copy(pid, entry, &mut self.ahead);
         self.since_moved.take(pid, before, entry)?;
         go_on(alloc, pid, entry, &mut self.begun, &mut self.process)
+    }
+}
+
+// A copy that was led ahead of the process is dropped where the entry changes that.
+fn drop_copy(pid: Pid, entry: &Entry, ahead: &mut Ahead)
+    ensures dropped { changes pid (what entry.now) ≡ true → ahead.new ≡ None }
+    ensures kept { changes pid (what entry.now) ≡ false → ahead.new ≡ ahead.old }
+{
+    if changes(pid, &entry.post.what) {
+        ahead.clear();
     }
 }
 

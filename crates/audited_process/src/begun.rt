@@ -5,6 +5,7 @@ ghost use Rattle.sys_calls.proofs.RunLemma.{all_delivered};
 ghost use Rattle.bus_msg.specs.PlacedAfter.{what};
 ghost use Rattle.cert_sched.specs.Deeds.{is_cut, letter_for};
 ghost use Rattle.audited_process.specs.Begun.{GoesOn, StandsAt};
+ghost use Rattle.audited_process.specs.Concerns.{changes};
 
 use crate::concerns::is_cut;
 use bus_msg::entry::Entry;
@@ -47,7 +48,8 @@ pub fn go_on(
 ) -> Result<(), NoMemory>
     requires letters { process.old.mail.next < 2 ^ 64 - 1 }
     requires saved { begun.old.saved < 2 ^ 64 - 1 }
-    ensures { OnOk result (GoesOn entry.now pid (state_of process.old) begun.old (state_of process.new) begun.new) }
+    ensures goes_on { OnOk result (GoesOn entry.now pid (state_of process.old) begun.old (state_of process.new) begun.new) }
+    ensures stays { changes pid (what entry.now) ≡ false → OnOk result (state_of process.new ≡ state_of process.old) }
 {
     if is_cut(pid, &entry.post.what) {
         *begun = begun_at(alloc, process, true)?;

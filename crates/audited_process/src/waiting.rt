@@ -1,10 +1,9 @@
 //! Whether a process waits for its new backup.
-ghost use Rattle.std.specs.Prelude.{◌≡◌, false, not, ◌&&◌, ◌||◌};
-ghost use Rattle.std.specs.Option.{option_map_or};
-ghost use Rattle.bus_msg.specs.Places.{lives_in, same_cluster, unended_at};
+ghost use Rattle.std.specs.Prelude.{◌≡◌, length};
+ghost use Rattle.std.specs.List.{list_all, range_with_len};
 ghost use Rattle.bus_msg.specs.PlacedAfter.{what};
-ghost use Rattle.cert_sched.specs.Rules.{is_alone, is_full};
-ghost use Rattle.audited_process.specs.SinceMoved.{is_fullback, waits_on};
+ghost use Rattle.cert_sched.specs.Rules.{is_alone};
+ghost use Rattle.audited_process.specs.SinceMoved.{is_fullback, is_home_or_lost, waits_on};
 
 use crate::concerns::names;
 use bus_msg::entry::Entry;
@@ -30,13 +29,21 @@ pub fn is_alone(places: &Placement, pid: Pid) -> bool
     let Some(placed) = places.unended(pid) else {
         return false;
     };
-    (0..places.clusters()).all(|number| is_home_or_lost(places, ClusterNo(number), placed.home))
+    lives_alone(places, placed.home)
 }
 
-// Whether a cluster is the home, or does not live.
-fn is_home_or_lost(places: &Placement, k: ClusterNo, home: ClusterNo) -> bool
-    ensures { result ≡ (same_cluster k home || not (lives_in places.now k)) }
+// Whether no cluster but a home lives.
+fn lives_alone(places: &Placement, home: ClusterNo) -> bool
+    ensures { result ≡ list_all (is_home_or_lost places.now home) (range_with_len 0 (length places.now.clusters)) }
 {
+    (0..places.clusters()).all(|number| is_home_or_lost(places, home, number))
+}
+
+// Whether the cluster with a number is the home, or does not live.
+fn is_home_or_lost(places: &Placement, home: ClusterNo, number: u8) -> bool
+    ensures { result ≡ is_home_or_lost places.now home number }
+{
+    let k = ClusterNo(number);
     k == home || !places.living(k)
 }
 
