@@ -3,6 +3,5 @@ pub mod GoingOn
 pub mod Paging
 pub mod Waits
 pub mod Beginning
-pub mod LeadsOn
 pub mod Room
 pub mod CopyStays

@@ -70,6 +70,3 @@ pages_gone p e old new none system log valid stands moves are = none.moved syste
 
 pub only_moved : (p : Pid) (e : Entry) (old : Bool) → KeepsOnly p true old true e
 only_moved p e old system log moves is = sym (begins.moved system log e p moves)
-
-pub only_kept : (p : Pid) (e : Entry) (old new : Bool) → KeepsMovedOnly p old new e → KeepsOnly p false old new e
-only_kept p e old new keeps system log stays is = keeps system log stays is
