@@ -6,6 +6,7 @@ use Rattle.t32_base.specs.declared.process.Pid.{Pid}
 use Rattle.t32_base.specs.declared.letter.Letter.{Letter}
 use Rattle.t32_base.specs.declared.letter.To.{To}
 use Rattle.t32_base.specs.declared.letter.To.TheVariants.{Proc, Tty}
+use Rattle.t32_base.proofs.Facts.{or_false}
 use Rattle.bus_msg.specs.declared.entry.What.{What}
 use Rattle.bus_msg.specs.declared.entry.What.TheVariants.{Mail, Birth, Exit, Page, Sync, Rebackup, Done}
 use Rattle.bus_msg.specs.Places.{same_pid}
@@ -13,8 +14,10 @@ use Rattle.cert_sched.specs.Account.{is_exit_of}
 use Rattle.cert_sched.specs.Deeds.{is_birth_of, is_cut, is_end_of, letter_for, to_process}
 use Rattle.cert_sched.proofs.CameLaws.{same_of}
 use Rattle.checkpoint_laws.specs.marks.Beside.{is_some_page}
+use Rattle.entry_lines.specs.Told.{told_what}
 use Rattle.log_processes.specs.Arrivals.{is_writer, leaves}
 use Rattle.audited_process.specs.Concerns.{changes, forks, gets_letter, goes_on, page_sent, steps_by}
+use Rattle.audited_process.specs.Leading.{is_letter_told, is_standing_told, is_step_told}
 
 not_true : (b : Bool) → not b ≡ true → b ≡ false
 not_true true is = absurd (true≢false (sym is))
@@ -63,6 +66,11 @@ unchanged p w is =
     let parts = or_parts (steps_by p w) (gets_letter p w) is in
     record { uncut = (or_parts (is_writer p w || forks p w) (is_cut p w) parts.0).1; none = none_comes p w parts.1 }
 
+-- who writes a letter neither forks nor is cut by it
+pub writer_stays : (p : Pid) (w : What) → is_writer p w ≡ true → (forks p w || is_cut p w) ≡ false
+writer_stays p (Mail at letter) is = refl
+writer_stays p _ is = absurd (true≢false (sym is))
+
 -- ---- pages
 
 -- it is this page of the process
@@ -88,3 +96,25 @@ no_page p (Page pid n i bytes) is = by_pid (same_pid pid p) is
     by_pid true said = cc
     by_pid false said = refl
 no_page p _ is = refl
+
+-- ---- what a line tells
+
+pub step_told : (p : Pid) (w : What) → steps_by p w ≡ is_step_told p.0 (told_what w)
+step_told p (Mail at letter) = or_false (same_pid letter.from p || false) ∙ or_false (same_pid letter.from p)
+step_told p (Birth parent at child end) = or_false (same_pid parent p)
+step_told p (Rebackup to true []) = refl
+step_told p (Rebackup to true (r ∷ rs)) = refl
+step_told p (Rebackup to false recs) = refl
+step_told p _ = refl
+
+pub letter_told : (p : Pid) (w : What) → is_writer p w ≡ is_letter_told p.0 (told_what w)
+letter_told p (Rebackup to true recs) = refl
+letter_told p (Rebackup to false recs) = refl
+letter_told p _ = refl
+
+pub standing_told : (p : Pid) (w : What) → (forks p w || is_cut p w) ≡ is_standing_told p.0 (told_what w)
+standing_told p (Birth parent at child end) = or_false (same_pid parent p)
+standing_told p (Rebackup to true []) = refl
+standing_told p (Rebackup to true (r ∷ rs)) = refl
+standing_told p (Rebackup to false recs) = refl
+standing_told p _ = refl

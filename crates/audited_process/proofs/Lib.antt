@@ -5,3 +5,5 @@ pub mod Waits
 pub mod Beginning
 pub mod Room
 pub mod CopyStays
+pub mod LeadsOn
+pub mod LineLeads

@@ -5,3 +5,4 @@ pub mod SinceMoved
 pub mod Audited
 pub mod Leading
 pub mod Answering
+pub mod Lines

@@ -7,5 +7,6 @@ pub mod audited;
 pub mod begun;
 pub mod concerns;
 pub mod leading;
+pub mod lines;
 pub mod since_moved;
 mod waiting;
