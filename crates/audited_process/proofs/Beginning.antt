@@ -1,17 +1,15 @@
 -- What is kept of a process at boot, and of a child that is born.
-use Rattle.std.proofs.Common.{◌≡◌, ℕ, refl, sym, ◌∙◌, ap, subst, List, [], ◌∷◌, ◌++◌, append-nil, length, Bool, true, false, not, ◌&&◌, ◌||◌, Option, Some, None, true≢false}
-use Rattle.std.specs.List.{list_any}
+use Rattle.std.proofs.Common.{◌≡◌, ℕ, refl, sym, ◌∙◌, ap, subst, List, [], ◌∷◌, ◌++◌, append-nil, length, true, false, not, ◌&&◌, ◌||◌, Option, Some, true≢false}
 use Rattle.std.specs.Option.{option_map_or}
 use Rattle.t32_base.specs.declared.process.Pid.{Pid}
 use Rattle.t32_base.proofs.Facts.{and_false, or_true}
 use Rattle.sys_text.specs.declared.system.System.{System}
 use Rattle.sys_text.specs.Valid.{is_system}
-use Rattle.proc_state.specs.State.{ProcState, state_of}
+use Rattle.proc_state.specs.State.{ProcState}
 use Rattle.plain_kernel.specs.Kernel.{boot, process_at}
 use Rattle.bus_msg.specs.declared.entry.What.{What}
 use Rattle.bus_msg.specs.declared.entry.What.TheVariants.{Birth}
 use Rattle.bus_msg.specs.declared.entry.Entry.{Entry}
-use Rattle.bus_msg.specs.Places.{Places, unended_at}
 use Rattle.bus_msg.specs.PlacedAfter.{what}
 use Rattle.cert_sched.specs.Schedule.{placement, plain_after, process_after}
 use Rattle.cert_sched.specs.Told.{cluster_lost, told}
@@ -20,11 +18,9 @@ use Rattle.cert_sched.specs.Deeds.{is_birth_of, is_cut, saved_letters}
 use Rattle.cert_sched.specs.Kinds.{KindHolds}
 use Rattle.cert_sched.specs.Rules.{is_by_right}
 use Rattle.cert_sched.specs.Legal.{IsLegalBy, Stands}
-use Rattle.cert_sched.specs.Built.{MayStand}
 use Rattle.cert_sched.proofs.CameLaws.{same_of}
 use Rattle.cert_sched.proofs.FreshLaws.{born_rightly, child_new, numbered}
 use Rattle.cert_sched.proofs.UnplacedLaws.{never_moved}
-use Rattle.log_laws.specs.pages.Next.{moves_next}
 use Rattle.log_laws.proofs.pages.OneEntry.{moves_none}
 use Rattle.log_laws.proofs.records.Standing.{built_stands, itself}
 use Rattle.backup_laws.proofs.Since.{was_moved-snoc}

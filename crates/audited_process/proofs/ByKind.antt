@@ -1,9 +1,8 @@
 -- Which kinds of entries are what to a process.
-use Rattle.std.proofs.Common.{◌≡◌, ℕ, refl, sym, ◌∙◌, ap, List, [], ◌∷◌, Bool, true, false, cond, not, ◌&&◌, ◌||◌, Option, Some, None, true≢false}
+use Rattle.std.proofs.Common.{◌≡◌, ℕ, refl, sym, ap, List, [], ◌∷◌, Bool, true, false, cond, not, ◌&&◌, ◌||◌, Option, Some, None, true≢false}
 use Rattle.std.proofs.lemmas.Bool.{or_parts}
 use Rattle.std.proofs.lemmas.Option.{same_Some}
 use Rattle.t32_base.specs.declared.process.Pid.{Pid}
-use Rattle.t32_base.specs.declared.letter.Letter.{Letter}
 use Rattle.t32_base.specs.declared.letter.To.{To}
 use Rattle.t32_base.specs.declared.letter.To.TheVariants.{Proc, Tty}
 use Rattle.t32_base.proofs.Facts.{or_false}
@@ -17,7 +16,7 @@ use Rattle.checkpoint_laws.specs.marks.Beside.{is_some_page}
 use Rattle.entry_lines.specs.Told.{told_what}
 use Rattle.log_processes.specs.Arrivals.{is_writer, leaves}
 use Rattle.audited_process.specs.Concerns.{changes, forks, gets_letter, goes_on, page_sent, steps_by}
-use Rattle.audited_process.specs.Leading.{is_letter_told, is_standing_told, is_step_told}
+use Rattle.audited_process.specs.Leading.{is_letter_told, is_standing_told}
 
 not_true : (b : Bool) → not b ≡ true → b ≡ false
 not_true true is = absurd (true≢false (sym is))
@@ -98,14 +97,6 @@ no_page p (Page pid n i bytes) is = by_pid (same_pid pid p) is
 no_page p _ is = refl
 
 -- ---- what a line tells
-
-pub step_told : (p : Pid) (w : What) → steps_by p w ≡ is_step_told p.0 (told_what w)
-step_told p (Mail at letter) = or_false (same_pid letter.from p || false) ∙ or_false (same_pid letter.from p)
-step_told p (Birth parent at child end) = or_false (same_pid parent p)
-step_told p (Rebackup to true []) = refl
-step_told p (Rebackup to true (r ∷ rs)) = refl
-step_told p (Rebackup to false recs) = refl
-step_told p _ = refl
 
 pub letter_told : (p : Pid) (w : What) → is_writer p w ≡ is_letter_told p.0 (told_what w)
 letter_told p (Rebackup to true recs) = refl

@@ -11,7 +11,6 @@ use Rattle.bus_msg.specs.declared.entry.Entry.{Entry}
 use Rattle.bus_msg.specs.PlacedAfter.{what}
 use Rattle.cert_sched.specs.Schedule.{process_after}
 use Rattle.cert_sched.specs.Deeds.{is_birth_of, is_cut, letter_for, starts}
-use Rattle.cert_sched.specs.Steps.{start_steps, saved_of}
 use Rattle.cert_sched.specs.Legal.{IsLegalBy, Stands}
 use Rattle.cert_sched.specs.Built.{MayStand}
 use Rattle.cert_sched.specs.Simulation.{IsUnended}
@@ -23,7 +22,7 @@ use Rattle.log_processes.specs.Sending.{KeepsProcess}
 use Rattle.log_processes.proofs.Beside.{begins_again, keeps_on}
 use Rattle.log_processes.proofs.Beside as beside
 use Rattle.log_cuts.specs.declared.start.Start.{Start}
-use Rattle.log_cuts.specs.Start.{BeginsAt, KeepsStart}
+use Rattle.log_cuts.specs.Start.{KeepsStart}
 use Rattle.log_cuts.proofs.Starting.{leaves_start}
 use Rattle.audited_process.specs.declared.begun.Begun.{Begun}
 use Rattle.audited_process.specs.Concerns.{forks, goes_on}

@@ -1,5 +1,5 @@
 -- The entry of a line of a process that is kept leads it to where it stands then.
-use Rattle.std.proofs.Common.{◌≡◌, ℕ, refl, ◌∙◌, ap, List, ◌∷◌, Bool, true, false, eqb, eq-eqb, Option, Some, None, Result, Ok, Err}
+use Rattle.std.proofs.Common.{◌≡◌, ℕ, refl, ◌∙◌, ap, List, true, eqb, eq-eqb, Option, Some, None, Result, Ok, Err}
 use Rattle.std.specs.Prelude.{IfOk, option_map}
 use Rattle.std.specs.Option.{IfSome}
 use Rattle.t32_base.specs.declared.process.Pid.{Pid}
@@ -10,8 +10,6 @@ use Rattle.bus_msg.specs.PlacedAfter.{what}
 use Rattle.cert_sched.specs.Built.{MayStand}
 use Rattle.entry_lines.specs.declared.told.Told.{Told}
 use Rattle.entry_lines.specs.declared.told.ToldLetter.{ToldLetter}
-use Rattle.entry_lines.specs.declared.told.ToldWhat.{ToldWhat}
-use Rattle.entry_lines.specs.Told.{told_of}
 use Rattle.page_server.specs.Account.{PagerState}
 use Rattle.log_audit.specs.Decides.{Decides}
 use Rattle.log_audit.specs.Front.{FrontState}
@@ -19,20 +17,17 @@ use Rattle.log_processes.specs.declared.sender.Head.{Head}
 use Rattle.log_processes.specs.declared.sender.Limits.{Limits}
 use Rattle.log_processes.specs.declared.sender.Sender.{Sender}
 use Rattle.log_processes.specs.Letters.{AnswersLetter}
-use Rattle.log_processes.specs.Sending.{KeepsSender, Leads}
-use Rattle.log_cuts.specs.Pages.{AnswersPage, KeepsPages}
+use Rattle.log_processes.specs.Sending.{Leads}
 use Rattle.log_cuts.specs.Syncs.{AnswersSync, KeepsCut, LeadsToCut}
 use Rattle.log_births.specs.declared.births.Born.{Born}
 use Rattle.log_births.specs.declared.births.ToldChild.{ToldChild}
 use Rattle.log_births.specs.Births.{AnswersBirth, BearsChild}
 use Rattle.log_renewals.specs.Fresh.{AnswersFresh, KeepsFresh, LeadsToRenewal}
 use Rattle.audited_process.specs.declared.audited.Audited.{Audited}
-use Rattle.audited_process.specs.Leading.{SameBeside, is_letter_told, is_standing_told, is_step_told}
+use Rattle.audited_process.specs.Leading.{SameBeside, is_letter_told, is_standing_told}
 use Rattle.audited_process.specs.Lines.{KeepsAudited, KeepsPaged, LeadsTo}
-use Rattle.audited_process.proofs.ByKind.{letter_told, standing_told, step_told}
-use Rattle.audited_process.proofs.LeadsOn.{leads, leads_on, unled}
-
--- ---- answers
+use Rattle.audited_process.proofs.ByKind.{letter_told, standing_told}
+use Rattle.audited_process.proofs.LeadsOn.{leads_on}
 
 -- what is right where less is kept is right where more is
 pub decides_more : (Old New : System → List Entry → Type 0) (told : Told) → ((system : System) (log : List Entry) → New system log → Old system log) → (o : Option Entry) → Decides MayStand Old told o → Decides MayStand New told o
@@ -70,21 +65,6 @@ module _ (front : FrontState) (limits : Limits) (head : Head) (a : Audited) (kep
       leads_on.stands system log b.entry p a new
       (standing_told p (what b.entry) ∙ ap (λ (t : Told). is_standing_told p.0 t.what) (decides system log valid legal keeps.sender).0 ∙ itself p.0) keeps.audited same
       ((lead system log valid legal keeps.sender).0).there
-
-  pub paged : (system : System) (log : List Entry) → KeepsAudited front limits p a kept system log → KeepsPages front p s kept (a.since_moved).sent system log
-  paged system log keeps = record {
-    before = (keeps.sender).before;
-    there = (keeps.audited).there;
-    whole = (keeps.sender).whole;
-    pages = ((keeps.audited).since_moved).sent;
-  }
-
-  pub page_leads : (index : ℕ) (new : Audited) → SameBeside a new → state_of a.process ≡ state_of new.process → (o : Option Entry) → AnswersPage front head index kept s (a.since_moved).sent o
-      → IfSome o (LeadsTo (KeepsAudited front limits p a kept) p new)
-  page_leads index new same still None decides = tt
-  page_leads index new same still (Some e) decides = λ system log valid legal keeps.
-      leads system log e p a new keeps.audited same
-      (unled system log e p (step_told p (what e) ∙ ap (λ (t : Told). is_step_told p.0 t.what) (decides system log valid legal (paged system log keeps)).0) ∙ (keeps.audited).there ∙ ap Some still)
 
   module _ (pager : PagerState) where
     pub cut : (system : System) (log : List Entry) → KeepsPaged front limits p a kept pager system log → KeepsCut front limits p s kept (a.begun).start pager system log

@@ -1,5 +1,5 @@
 -- Which pages a process sent since a loss moved it, and whether it has only been moved, after one more entry.
-use Rattle.std.proofs.Common.{◌≡◌, ℕ, refl, sym, ◌∙◌, ap, List, [], ◌∷◌, ◌++◌, Bool, true, false, Option, Some, None, is_some, true≢false}
+use Rattle.std.proofs.Common.{◌≡◌, ℕ, refl, sym, ◌∙◌, ap, List, Bool, true, false, Option, Some, None, is_some, true≢false}
 use Rattle.std.specs.Option.{option_map_or}
 use Rattle.t32_base.specs.declared.process.Pid.{Pid}
 use Rattle.t32_base.specs.declared.process.ClusterNo.{ClusterNo}
@@ -19,7 +19,6 @@ use Rattle.log_laws.specs.pages.Next.{moves_next}
 use Rattle.backup_laws.proofs.Modes.{moved_is}
 use Rattle.log_cuts.specs.SentPages.{NoneSent, PutsPage}
 use Rattle.log_cuts.proofs.Putting.{leaves_sent}
-use Rattle.log_renewals.specs.Moved.{KeepsMovedOnly}
 use Rattle.log_renewals.proofs.Unmoved.{begins}
 use Rattle.audited_process.specs.Concerns.{is_moved_at, page_sent}
 use Rattle.audited_process.specs.Pages.{TakesPages}

@@ -1,12 +1,11 @@
 -- Whether a process waits for its new backup, after one more entry.
-use Rattle.std.proofs.Common.{◌≡◌, refl, sym, ◌∙◌, ap, List, [], ◌∷◌, ◌++◌, length, map, Bool, true, false, cond, not, ◌&&◌, ◌||◌, Option, Some, None, is_some, true≢false}
+use Rattle.std.proofs.Common.{◌≡◌, refl, sym, ◌∙◌, ap, List, [], ◌∷◌, ◌++◌, length, map, Bool, true, false, cond, not, ◌&&◌, ◌||◌, Option, Some, is_some}
 use Rattle.std.specs.List.{list_all, list_any, range_with_len}
 use Rattle.std.specs.Option.{option_map_or}
 use Rattle.std.proofs.lemmas.List.{map-append}
 use Rattle.std.proofs.lemmas.List.Folds.{list_all-map}
 use Rattle.t32_base.specs.declared.process.Pid.{Pid}
 use Rattle.t32_base.specs.declared.process.Mode.{Mode}
-use Rattle.t32_base.proofs.Facts.{or_true, or_false, and_true}
 use Rattle.sys_text.specs.declared.system.System.{System}
 use Rattle.bus_msg.specs.declared.entry.What.{What}
 use Rattle.bus_msg.specs.declared.entry.What.TheVariants.{Birth}
@@ -29,7 +28,7 @@ use Rattle.cert_sched.proofs.StayingUnended.{unended_stays}
 use Rattle.log_laws.specs.pages.Next.{moves_next, next_told}
 use Rattle.log_laws.proofs.pages.OneEntry.{any_since-snoc, list_any-last}
 use Rattle.backup_laws.proofs.Modes.{mode_stays}
-use Rattle.backup_laws.proofs.Since.{full_mode, mode_at, was_moved-snoc}
+use Rattle.backup_laws.proofs.Since.{full_mode, was_moved-snoc}
 use Rattle.audited_process.specs.SinceMoved.{is_fullback, is_home_or_lost, waited, waits_on}
 
 -- who has not ended stays so, where the entry is neither its exit nor its birth

@@ -1,4 +1,3 @@
-use Rattle.std.proofs.Common.{◌∙◌, OnOk, subst, sym}
 use Rattle.proc_state.specs.State.{state_of}
 use Rattle.bus_msg.specs.PlacedAfter.{what}
 use Rattle.audited_process.specs.Concerns.{changes}
