@@ -48,7 +48,8 @@ never_at_boot : (system : System) (p : Pid) → was_moved system [] p ≡ false
 unfolding told
 never_at_boot system p = refl
 
-never_born : (system : System) (log : List Entry) (e : Entry) (parent : Pid) (at : ℕ) (child : Pid) (end : ℕ) → is_system system ≡ true → IsLegalBy Stands system log → Stands system log e → what e ≡ Birth parent at child end
+never_born : (system : System) (log : List Entry) (e : Entry) (parent : Pid) (at : ℕ) (child : Pid) (end : ℕ) → is_system system ≡ true → IsLegalBy Stands system log → Stands system log e
+    → what e ≡ Birth parent at child end
     → was_moved system (log ++ e ∷ []) child ≡ false
 never_born system log e parent at child end valid legal stands is =
     let here = placement system log in

@@ -33,13 +33,15 @@ pub standing : (system : System) (log : List Entry) (e : Entry) → MayStand sys
 standing system log e may = may.stands
 
 -- where it starts by the entry, it starts as it stands then
-pub starts_here : (system : System) (log : List Entry) (e : Entry) (p : Pid) (s : ProcState) (stated : Bool) (b : Begun) → StandsAt s stated b → starts p e ≡ true → process_after system (log ++ e ∷ []) p ≡ Some s
+pub starts_here : (system : System) (log : List Entry) (e : Entry) (p : Pid) (s : ProcState) (stated : Bool) (b : Begun) → StandsAt s stated b → starts p e ≡ true
+    → process_after system (log ++ e ∷ []) p ≡ Some s
     → KeepsStart p b.start system (log ++ e ∷ []) → IsBegunOf system (log ++ e ∷ []) p b
 starts_here system log e p s stated b at begins there start =
     let k = begins_again system log e p s begins there in
     record { steps = at.steps ∙ k.begins; saved = at.saved ∙ k.letters; start = start }
 
-module _ (system : System) (log : List Entry) (e : Entry) (p : Pid) (valid : is_system system ≡ true) (legal : IsLegalBy MayStand system log) (may : MayStand system log e) (unended : IsUnended system log p)
+module _ (system : System) (log : List Entry) (e : Entry) (p : Pid) (valid : is_system system ≡ true) (legal : IsLegalBy MayStand system log) (may : MayStand system log e)
+    (unended : IsUnended system log p)
     (goes : goes_on p (what e) ≡ true) where
   abbrev more : List Entry
   more = log ++ e ∷ []

@@ -45,6 +45,7 @@ module _ (system : System) (log : List Entry) (e : Entry) (p : Pid) where
 pub leads_on : LeadsOn
 leads_on = record {
   others = λ system log e p a none is. leads system log e p a a is (refl, refl) (unled system log e p none ∙ is.there);
-  sends = λ system log e p a new writes is same there. leads system log e p a new is same (led_so system log e p false (writer_stays p (what e) writes) ∙ stepped_so system log e p true writes ∙ there);
+  sends = λ system log e p a new writes is same there. leads system log e p a new is same (led_so system log e p false (writer_stays p (what e) writes) ∙ stepped_so system log e p true writes
+      ∙ there);
   stands = λ system log e p a new does is same there. leads system log e p a new is same (led_so system log e p true does ∙ there);
 }

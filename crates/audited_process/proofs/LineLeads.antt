@@ -30,7 +30,8 @@ use Rattle.audited_process.proofs.ByKind.{letter_told, standing_told}
 use Rattle.audited_process.proofs.LeadsOn.{leads_on}
 
 -- what is right where less is kept is right where more is
-pub decides_more : (Old New : System → List Entry → Type 0) (told : Told) → ((system : System) (log : List Entry) → New system log → Old system log) → (o : Option Entry) → Decides MayStand Old told o → Decides MayStand New told o
+pub decides_more : (Old New : System → List Entry → Type 0) (told : Told) → ((system : System) (log : List Entry) → New system log → Old system log) → (o : Option Entry)
+    → Decides MayStand Old told o → Decides MayStand New told o
 decides_more Old New told more None decides = λ system log e valid legal keeps is may. decides system log e valid legal (more system log keeps) is may
 decides_more Old New told more (Some e) decides = λ system log valid legal keeps. decides system log valid legal (more system log keeps)
 
@@ -51,7 +52,8 @@ module _ (front : FrontState) (limits : Limits) (head : Head) (a : Audited) (kep
   abbrev s : ProcState
   s = state_of a.process
 
-  pub letter_leads : (told : ToldLetter) (new : Audited) → SameBeside a new → (o : Option Entry) → AnswersLetter front limits head kept s told o → IfSome o (λ e. Leads front limits p kept s e (state_of new.process))
+  pub letter_leads : (told : ToldLetter) (new : Audited) → SameBeside a new → (o : Option Entry) → AnswersLetter front limits head kept s told o
+      → IfSome o (λ e. Leads front limits p kept s e (state_of new.process))
       → IfSome o (LeadsTo (KeepsAudited front limits p a kept) p new)
   letter_leads told new same None decides lead = tt
   letter_leads told new same (Some e) decides lead = λ system log valid legal keeps.
@@ -75,7 +77,8 @@ module _ (front : FrontState) (limits : Limits) (head : Head) (a : Audited) (kep
     sync_leads took new same None decides lead = tt
     sync_leads took new same (Some e) decides lead = λ system log valid legal keeps.
         leads_on.stands system log e p a new
-        (standing_told p (what e) ∙ ap (λ (t : Told). is_standing_told p.0 t.what) (decides system log valid legal (cut system log keeps)).0 ∙ itself p.0) keeps.0.audited same (lead system log (cut system log keeps))
+        (standing_told p (what e) ∙ ap (λ (t : Told). is_standing_told p.0 t.what) (decides system log valid legal (cut system log keeps)).0
+        ∙ itself p.0) keeps.0.audited same (lead system log (cut system log keeps))
 
     pub renewed : (system : System) (log : List Entry) → KeepsPaged front limits p a kept pager system log → KeepsFresh front limits p s kept pager system log
     renewed system log keeps = record { sender = keeps.0.sender; accounts = keeps.1 }
@@ -85,4 +88,5 @@ module _ (front : FrontState) (limits : Limits) (head : Head) (a : Audited) (kep
     fresh_leads others to new same None decides lead = tt
     fresh_leads others to new same (Some e) decides lead = λ system log valid legal keeps.
         leads_on.stands system log e p a new
-        (standing_told p (what e) ∙ ap (λ (t : Told). is_standing_told p.0 t.what) (decides system log valid legal (renewed system log keeps)).0 ∙ itself p.0) keeps.0.audited same (lead system log (renewed system log keeps))
+        (standing_told p (what e) ∙ ap (λ (t : Told). is_standing_told p.0 t.what) (decides system log valid legal (renewed system log keeps)).0
+        ∙ itself p.0) keeps.0.audited same (lead system log (renewed system log keeps))

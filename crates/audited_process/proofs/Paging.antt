@@ -46,7 +46,8 @@ moved_so system log e p valid legal unended = by_loss (cluster_lost (what e))
     here : Places
     here = placement system log
 
-    by_loss : (o : Option ClusterNo) → option_map_or (is_moved p (placement system log)) o false ≡ option_map_or (λ k. option_map_or (is_moved_by k) (unended_at (placement system log) p) false) o false
+    by_loss : (o : Option ClusterNo)
+        → option_map_or (is_moved p (placement system log)) o false ≡ option_map_or (λ k. option_map_or (is_moved_by k) (unended_at (placement system log) p) false) o false
     by_loss None = refl
     by_loss (Some k) =
         let f = found (placement system log) p unended in

@@ -32,7 +32,8 @@ use Rattle.backup_laws.proofs.Since.{full_mode, was_moved-snoc}
 use Rattle.audited_process.specs.SinceMoved.{is_fullback, is_home_or_lost, waited, waits_on}
 
 -- who has not ended stays so, where the entry is neither its exit nor its birth
-pub still_unended : (w : What) (places : Places) (p : Pid) → is_birth_of p w ≡ false → is_exit_of p w ≡ false → is_some (unended_at places p) ≡ true → is_some (unended_at (placed_after places w) p) ≡ true
+pub still_unended : (w : What) (places : Places) (p : Pid) → is_birth_of p w ≡ false → is_exit_of p w ≡ false → is_some (unended_at places p) ≡ true
+    → is_some (unended_at (placed_after places w) p) ≡ true
 still_unended (Birth parent at child end) places p unborn stays there = ap is_some (born_beside p child places (placed_at places parent) unborn) ∙ there
 still_unended w places p unborn stays there = unended_stays w refl places p stays there
 
@@ -69,7 +70,8 @@ module _ (system : System) (log : List Entry) (e : Entry) (p : Pid) (unended : I
           ∙ list_any-last (is_alone p) (map (λ (t : Told). t.places) (after_last (moves p) (told system log))) here
 
   abbrev so : Bool → Bool → Bool → Bool
-  so moved named alone = is_fullback here p && (was_moved system log p || moved) && not (cond moved false (any_since_moved system log p (names p) || named) || cond moved false (was_alone system log p || alone))
+  so moved named alone = is_fullback here p && (was_moved system log p || moved)
+      && not (cond moved false (any_since_moved system log p (names p) || named) || cond moved false (was_alone system log p || alone))
 
   waited_is : waited system more p ≡ so (moves_next system log e p) (names p (what e)) (is_alone p here)
   waited_is = λ i. same_fullback i && was_moved-snoc system log e p i && not (any_since-snoc system log e p (names p) i || alone-snoc i)

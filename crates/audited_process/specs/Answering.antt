@@ -30,23 +30,35 @@ use Rattle.audited_process.specs.Audited.{IsAuditedOf}
 
 -- with the fetches and the children of a log this is what is kept of the process as a sender
 abbrev pub SaysSender : Pid → Audited → List (ℕ × Kept) → List (Pid × Pid) → Sender → Type 0
-SaysSender p a fetches births kept = (system : System) (log : List Entry) (front : FrontState) (limits : Limits) → is_system system ≡ true → IsFrontOf system log front → AreLimits limits system
-    → IsFetchesOf system log fetches → births ≡ unsynced_births system log → IsAuditedOf system log p a → KeepsSender front limits p (state_of a.process) kept system log
+SaysSender p a fetches births kept = (system : System) (log : List Entry) (front : FrontState) (limits : Limits)
+    → is_system system ≡ true → IsFrontOf system log front → AreLimits limits system
+    → IsFetchesOf system log fetches → births ≡ unsynced_births system log → IsAuditedOf system log p a
+    → KeepsSender front limits p (state_of a.process) kept system log
 
 -- and this is what is kept of a page of it
 abbrev pub SaysAsked : Pid → Audited → List (ℕ × Kept) → ℕ → Asked → Type 0
-SaysAsked p a fetches index kept = (system : System) (log : List Entry) (front : FrontState) → IsFrontOf system log front → IsFetchesOf system log fetches → IsAuditedOf system log p a
+SaysAsked p a fetches index kept = (system : System) (log : List Entry) (front : FrontState) → IsFrontOf system log front
+    → IsFetchesOf system log fetches → IsAuditedOf system log p a
     → KeepsAsked front p index kept system log
 
--- What the other answers ask: of a page, a synchronisation, a new backup of a process that has run, one of a process that waits, and the end of the run.
+-- What the other answers ask: of a page, a synchronisation, a new backup of a process that has run, one of a process that waits, and the
+-- end of the run.
 pub record AnswersLines : Type 0 where
-  pub page : (system : System) (log : List Entry) (front : FrontState) (limits : Limits) (p : Pid) (a : Audited) (kept : Sender) → IsAuditedOf system log p a
-      → KeepsSender front limits p (state_of a.process) kept system log → KeepsPages front p (state_of a.process) kept (a.since_moved).sent system log
-  pub sync : (system : System) (log : List Entry) (front : FrontState) (limits : Limits) (p : Pid) (a : Audited) (kept : Sender) (pager : PagerState) → IsAuditedOf system log p a → KeepsAccounts system log pager
-      → KeepsSender front limits p (state_of a.process) kept system log → KeepsCut front limits p (state_of a.process) kept (a.begun).start pager system log
-  pub fresh : (system : System) (log : List Entry) (front : FrontState) (limits : Limits) (p : Pid) (a : Audited) (kept : Sender) (pager : PagerState) → KeepsAccounts system log pager
-      → KeepsSender front limits p (state_of a.process) kept system log → KeepsFresh front limits p (state_of a.process) kept pager system log
-  pub standing : (system : System) (log : List Entry) (front : FrontState) (p : Pid) (a : Audited) (births : List (Pid × Pid)) (recs : List BackRec) → IsAuditedOf system log p a → IsFrontOf system log front
-      → births ≡ unsynced_births system log → AreRecordsOf system log recs → KeepsStanding front p (a.since_moved).only births recs system log
+  pub page : (system : System) (log : List Entry) (front : FrontState) (limits : Limits) (p : Pid) (a : Audited) (kept : Sender)
+      → IsAuditedOf system log p a
+      → KeepsSender front limits p (state_of a.process) kept system log
+      → KeepsPages front p (state_of a.process) kept (a.since_moved).sent system log
+  pub sync : (system : System) (log : List Entry) (front : FrontState) (limits : Limits) (p : Pid) (a : Audited) (kept : Sender)
+      (pager : PagerState) → IsAuditedOf system log p a → KeepsAccounts system log pager
+      → KeepsSender front limits p (state_of a.process) kept system log
+      → KeepsCut front limits p (state_of a.process) kept (a.begun).start pager system log
+  pub fresh : (system : System) (log : List Entry) (front : FrontState) (limits : Limits) (p : Pid) (a : Audited) (kept : Sender)
+      (pager : PagerState) → KeepsAccounts system log pager
+      → KeepsSender front limits p (state_of a.process) kept system log
+      → KeepsFresh front limits p (state_of a.process) kept pager system log
+  pub standing : (system : System) (log : List Entry) (front : FrontState) (p : Pid) (a : Audited) (births : List (Pid × Pid))
+      (recs : List BackRec) → IsAuditedOf system log p a → IsFrontOf system log front
+      → births ≡ unsynced_births system log → AreRecordsOf system log recs
+      → KeepsStanding front p (a.since_moved).only births recs system log
   pub done : (system : System) (log : List Entry) (p : Pid) (a : Audited) → IsAuditedOf system log p a → IsUnended system log p
       → Some (state_of a.process) ≡ (if is_some (unended_at (placement system log) p) then process_after system log p else None)

@@ -47,12 +47,15 @@ BeginsAsRoot s a = (system : System) (p : Pid) → is_system system ≡ true →
 
 -- this is kept of each process that an entry bears and that stands so then
 abbrev pub BeginsAsChild : ProcState → Audited → Type 0
-BeginsAsChild s a = (system : System) (log : List Entry) (e : Entry) (p : Pid) → is_system system ≡ true → IsLegalBy MayStand system log → MayStand system log e → is_birth_of p (what e) ≡ true
+BeginsAsChild s a = (system : System) (log : List Entry) (e : Entry) (p : Pid) → is_system system ≡ true → IsLegalBy MayStand system log
+    → MayStand system log e → is_birth_of p (what e) ≡ true
     → process_after system (log ++ e ∷ []) p ≡ Some s → IsAuditedOf system (log ++ e ∷ []) p a
 
 -- ---- what an entry makes of it
 
--- what was kept of the process, which the next entry led there, is what is kept of it after the entry: of each legal log with this placement in which it has not ended
+-- what was kept of the process, which the next entry led there, is what is kept of it after the entry: of each legal log with this
+-- placement in which it has not ended
 abbrev pub TakesEntry : Pid → Places → Audited → Audited → Entry → Type 0
-TakesEntry p before old new e = (system : System) (log : List Entry) → is_system system ≡ true → IsLegalBy MayStand system log → MayStand system log e → placement system log ≡ before
+TakesEntry p before old new e = (system : System) (log : List Entry) → is_system system ≡ true → IsLegalBy MayStand system log
+    → MayStand system log e → placement system log ≡ before
     → IsUnended system log p → goes_on p (what e) ≡ true → IsLedBy e system log p old → IsAuditedOf system (log ++ e ∷ []) p new

@@ -17,7 +17,8 @@ use Rattle.log_cuts.specs.Start.{BeginsAt, KeepsStart}
 use Rattle.audited_process.specs.declared.begun.Begun.{Begun}
 use Rattle.audited_process.specs.Concerns.{forks, goes_on}
 
--- What is kept is what a log says: the steps of the process where it started, how many letters it had not read there and came since, and what the numbers of its letters were there.
+-- What is kept is what a log says: the steps of the process where it started, how many letters it had not read there and came since, and
+-- what the numbers of its letters were there.
 pub record IsBegunOf (system : System) (log : List Entry) (p : Pid) (b : Begun) : Type 0 where
   pub steps : b.steps ≡ start_steps system log p
   pub saved : b.saved ≡ length (saved_of system log p)
@@ -30,12 +31,15 @@ pub record StandsAt (s : ProcState) (has : Bool) (b : Begun) : Type 0 where
   pub stated : (b.start).stated ≡ has
   pub start : BeginsAt s b.start
 
--- the process right behind the next entry, before a letter of it arrives: where its fork or its cut leaves it, where it sent the letter, or where it stood
+-- the process right behind the next entry, before a letter of it arrives: where its fork or its cut leaves it, where it sent the letter, or
+-- where it stood
 abbrev pub led : System → List Entry → Entry → Pid → Option ProcState
 led system log e p = if forks p (what e) || is_cut p (what e) then process_after system (log ++ e ∷ []) p else stepped system log (what e) p
 
--- What was kept of the process, which the next entry led there, is what is kept of it after the entry: of each legal log in which it has not ended.
+-- What was kept of the process, which the next entry led there, is what is kept of it after the entry: of each legal log in which it has
+-- not ended.
 abbrev pub GoesOn : Entry → Pid → ProcState → Begun → ProcState → Begun → Type 0
-GoesOn e p s old t new = (system : System) (log : List Entry) → is_system system ≡ true → IsLegalBy MayStand system log → MayStand system log e → IsUnended system log p → goes_on p (what e) ≡ true
+GoesOn e p s old t new = (system : System) (log : List Entry) → is_system system ≡ true → IsLegalBy MayStand system log
+    → MayStand system log e → IsUnended system log p → goes_on p (what e) ≡ true
     → led system log e p ≡ Some s → IsBegunOf system log p old
     → (process_after system (log ++ e ∷ []) p ≡ Some t) × IsBegunOf system (log ++ e ∷ []) p new

@@ -25,12 +25,16 @@ use Rattle.audited_process.specs.Audited.{IsAuditedOf, IsLedBy}
 abbrev pub SameBeside : Audited → Audited → Type 0
 SameBeside old new = (new.begun ≡ old.begun) × (new.since_moved ≡ old.since_moved)
 
--- A process that does not step by the entry is led nowhere; one that sends stands behind its step, and one that forks or is cut as it does after the entry.
+-- A process that does not step by the entry is led nowhere; one that sends stands behind its step, and one that forks or is cut as it does
+-- after the entry.
 pub record LeadsOn : Type 0 where
-  pub others : (system : System) (log : List Entry) (e : Entry) (p : Pid) (a : Audited) → steps_by p (what e) ≡ false → IsAuditedOf system log p a → IsLedBy e system log p a
-  pub sends : (system : System) (log : List Entry) (e : Entry) (p : Pid) (a led : Audited) → is_writer p (what e) ≡ true → IsAuditedOf system log p a → SameBeside a led
+  pub others : (system : System) (log : List Entry) (e : Entry) (p : Pid) (a : Audited) → steps_by p (what e) ≡ false
+      → IsAuditedOf system log p a → IsLedBy e system log p a
+  pub sends : (system : System) (log : List Entry) (e : Entry) (p : Pid) (a led : Audited) → is_writer p (what e) ≡ true
+      → IsAuditedOf system log p a → SameBeside a led
       → after_items system log (what e) ≡ Some (state_of led.process) → IsLedBy e system log p led
-  pub stands : (system : System) (log : List Entry) (e : Entry) (p : Pid) (a led : Audited) → (forks p (what e) || is_cut p (what e)) ≡ true → IsAuditedOf system log p a → SameBeside a led
+  pub stands : (system : System) (log : List Entry) (e : Entry) (p : Pid) (a led : Audited)
+      → (forks p (what e) || is_cut p (what e)) ≡ true → IsAuditedOf system log p a → SameBeside a led
       → process_after system (log ++ e ∷ []) p ≡ Some (state_of led.process) → IsLedBy e system log p led
 
 -- ---- what a line tells
@@ -65,5 +69,6 @@ is_letter_told n _ = false
 
 -- what comes to a process of a log with so few entries can be counted
 abbrev pub HasRoom : Type 0
-HasRoom = (system : System) (log : List Entry) (e : Entry) (p : Pid) (a : Audited) → is_system system ≡ true → IsLegalBy MayStand system log → MayStand system log e → IsUnended system log p → goes_on p (what e) ≡ true
+HasRoom = (system : System) (log : List Entry) (e : Entry) (p : Pid) (a : Audited) → is_system system ≡ true
+    → IsLegalBy MayStand system log → MayStand system log e → IsUnended system log p → goes_on p (what e) ≡ true
     → length log < 2 ^ 64 - 1 → IsLedBy e system log p a → ((state_of a.process).next < 2 ^ 64 - 1) × ((a.begun).saved < 2 ^ 64 - 1)

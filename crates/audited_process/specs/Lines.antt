@@ -25,7 +25,8 @@ use Rattle.audited_process.specs.declared.audited.Audited.{Audited}
 use Rattle.audited_process.specs.Audited.{IsAuditedOf, IsLedBy}
 
 -- What is kept of the process, and of it as a sender, is what a log says.
-pub record KeepsAudited (front : FrontState) (limits : Limits) (p : Pid) (a : Audited) (kept : Sender) (system : System) (log : List Entry) : Type 0 where
+pub record KeepsAudited (front : FrontState) (limits : Limits) (p : Pid) (a : Audited) (kept : Sender) (system : System)
+    (log : List Entry) : Type 0 where
   pub audited : IsAuditedOf system log p a
   pub sender : KeepsSender front limits p (state_of a.process) kept system log
 
@@ -34,13 +35,15 @@ abbrev pub KeepsPaged : FrontState → Limits → Pid → Audited → Sender →
 KeepsPaged front limits p a kept pager system log = KeepsAudited front limits p a kept system log × KeepsAccounts system log pager
 
 -- What is kept of the process is what a log says, and the front and the fetches are those of the log.
-pub record KeepsFetched (front : FrontState) (p : Pid) (a : Audited) (fetches : List (ℕ × Kept)) (system : System) (log : List Entry) : Type 0 where
+pub record KeepsFetched (front : FrontState) (p : Pid) (a : Audited) (fetches : List (ℕ × Kept)) (system : System)
+    (log : List Entry) : Type 0 where
   pub before : IsFrontOf system log front
   pub fetched : IsFetchesOf system log fetches
   pub audited : IsAuditedOf system log p a
 
 -- So it is, with the children that never synchronised and the records.
-pub record KeepsRecorded (front : FrontState) (p : Pid) (a : Audited) (births : List (Pid × Pid)) (recs : List BackRec) (system : System) (log : List Entry) : Type 0 where
+pub record KeepsRecorded (front : FrontState) (p : Pid) (a : Audited) (births : List (Pid × Pid)) (recs : List BackRec) (system : System)
+    (log : List Entry) : Type 0 where
   pub before : IsFrontOf system log front
   pub family : births ≡ unsynced_births system log
   pub records : AreRecordsOf system log recs
@@ -52,4 +55,5 @@ AnswersLine Kept head w result = Decides MayStand Kept (record { place = head.pl
 
 -- the entry leads the process there, in each legal log of which that is kept
 abbrev pub LeadsTo : (System → List Entry → Type 0) → Pid → Audited → Entry → Type 0
-LeadsTo Kept p led e = (system : System) (log : List Entry) → is_system system ≡ true → IsLegalBy MayStand system log → Kept system log → IsLedBy e system log p led
+LeadsTo Kept p led e = (system : System) (log : List Entry) → is_system system ≡ true → IsLegalBy MayStand system log → Kept system log
+    → IsLedBy e system log p led

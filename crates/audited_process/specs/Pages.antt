@@ -10,5 +10,6 @@ use Rattle.log_cuts.specs.SentPages.{IsSentOf}
 
 -- those of a log, and then of the log with an entry that moves the process, or does not
 abbrev pub TakesPages : Pid → Bool → List (ℕ × List ℕ) → List (ℕ × List ℕ) → Entry → Type 0
-TakesPages p moved old new e = (system : System) (log : List Entry) → is_system system ≡ true → Stands system log e → moves_next system log e p ≡ moved
+TakesPages p moved old new e = (system : System) (log : List Entry) → is_system system ≡ true → Stands system log e
+    → moves_next system log e p ≡ moved
     → IsSentOf system log p old → IsSentOf system (log ++ e ∷ []) p new

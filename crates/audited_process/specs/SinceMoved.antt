@@ -33,7 +33,8 @@ waited system log p =
     is_moved_fullback system log p
     && not (any_since_moved system log p (names p) || list_any (is_alone p) (map (λ (t : Told). t.places) (since_moved system log p)))
 
--- What is kept is what a log says: which pages the process sent since a loss moved it, whether it has only been moved, and whether it waited before the last placement.
+-- What is kept is what a log says: which pages the process sent since a loss moved it, whether it has only been moved, and whether it
+-- waited before the last placement.
 pub record IsSinceMovedOf (system : System) (log : List Entry) (p : Pid) (m : SinceMoved) : Type 0 where
   pub sent : IsSentOf system log p m.sent
   pub only : m.only ≡ moved_only system log p
@@ -54,19 +55,23 @@ waits_on waits p moved before w = if moved then is_fullback before p else waits 
 
 -- whether a process has only been moved, and then after an entry that moves it, or does not
 abbrev pub KeepsOnly : Pid → Bool → Bool → Bool → Entry → Type 0
-KeepsOnly p moved old new e = (system : System) (log : List Entry) → moves_next system log e p ≡ moved → old ≡ moved_only system log p → new ≡ moved_only system (log ++ e ∷ []) p
+KeepsOnly p moved old new e = (system : System) (log : List Entry) → moves_next system log e p ≡ moved → old ≡ moved_only system log p
+    → new ≡ moved_only system (log ++ e ∷ []) p
 
 -- what was kept of a process that has not ended, and then of the log with an entry that ends neither it nor the run
 abbrev pub TakesEntry : Pid → Places → SinceMoved → SinceMoved → Entry → Type 0
-TakesEntry p before old new e = (system : System) (log : List Entry) → is_system system ≡ true → IsLegalBy MayStand system log → MayStand system log e → placement system log ≡ before
+TakesEntry p before old new e = (system : System) (log : List Entry) → is_system system ≡ true → IsLegalBy MayStand system log
+    → MayStand system log e → placement system log ≡ before
     → IsUnended system log p → goes_on p (what e) ≡ true → IsSinceMovedOf system log p old → IsSinceMovedOf system (log ++ e ∷ []) p new
 
 -- So it is of each process at boot, and of a child that is born.
 pub record BeginsUnmoved (m : SinceMoved) : Type 0 where
   pub boot : (system : System) (p : Pid) → IsSinceMovedOf system [] p m
-  pub born : (system : System) (log : List Entry) (e : Entry) (p : Pid) → is_system system ≡ true → IsLegalBy Stands system log → Stands system log e → is_birth_of p (what e) ≡ true
+  pub born : (system : System) (log : List Entry) (e : Entry) (p : Pid) → is_system system ≡ true → IsLegalBy Stands system log
+      → Stands system log e → is_birth_of p (what e) ≡ true
       → IsSinceMovedOf system (log ++ e ∷ []) p m
 
 -- it says of each log with this placement whether the process waits for its new backup
 abbrev pub SaysWait : Pid → Places → SinceMoved → Bool → Type 0
-SaysWait p places m waits = (system : System) (log : List Entry) → placement system log ≡ places → IsSinceMovedOf system log p m → waits ≡ not (has_awaited_backup system log p)
+SaysWait p places m waits = (system : System) (log : List Entry) → placement system log ≡ places → IsSinceMovedOf system log p m
+    → waits ≡ not (has_awaited_backup system log p)

@@ -44,8 +44,10 @@ pub fn letter(
     kept: Sender,
     audited: &mut Audited,
 ) -> Result<Option<Entry>, NoMemory>
-    ensures decides { IfOk result (AnswersLine (KeepsAudited front.now limits head.pid audited.old kept) head (Mail head.pid.0 head.at told.now)) }
-    ensures leads { IfOk result (λ answer. IfSome answer (LeadsTo (KeepsAudited front.now limits head.pid audited.old kept) head.pid audited.new)) }
+    ensures decides { IfOk result (AnswersLine (KeepsAudited front.now limits head.pid audited.old kept)
+        head (Mail head.pid.0 head.at told.now)) }
+    ensures leads { IfOk result (λ answer. IfSome answer
+        (LeadsTo (KeepsAudited front.now limits head.pid audited.old kept) head.pid audited.new)) }
 {
     next_letter(alloc, front, limits, head, told, kept, &mut audited.process)
 }
@@ -75,8 +77,10 @@ pub fn birth(
     kept: Sender,
     audited: &mut Audited,
 ) -> Result<Option<Born>, NoMemory>
-    ensures decides { IfOk result (λ answer. AnswersLine (KeepsAudited front.now limits head.pid audited.old kept) head (Birth head.pid.0 head.at told.pid told.end) (option_map (λ born. born.entry) answer)) }
-    ensures leads { IfOk result (λ answer. IfSome answer (λ born. LeadsTo (KeepsAudited front.now limits head.pid audited.old kept) head.pid audited.new born.entry)) }
+    ensures decides { IfOk result (λ answer. AnswersLine (KeepsAudited front.now limits head.pid audited.old kept)
+        head (Birth head.pid.0 head.at told.pid told.end) (option_map (λ born. born.entry) answer)) }
+    ensures leads { IfOk result (λ answer. IfSome answer
+        (λ born. LeadsTo (KeepsAudited front.now limits head.pid audited.old kept) head.pid audited.new born.entry)) }
 {
     next_birth(alloc, front, limits, head, told, kept, &mut audited.process)
 }
@@ -92,8 +96,10 @@ pub fn page(
     audited: &mut Audited,
 ) -> Result<Option<Entry>, NoMemory>
     requires { IsAhead (state_of audited.old.process) audited.old.ahead }
-    ensures decides { IfOk result (AnswersLine (KeepsAudited front.now limits head.pid audited.old kept) head (Page head.pid.0 head.at index)) }
-    ensures leads { IfOk result (λ answer. IfSome answer (LeadsTo (KeepsAudited front.now limits head.pid audited.old kept) head.pid audited.new)) }
+    ensures decides { IfOk result (AnswersLine (KeepsAudited front.now limits head.pid audited.old kept)
+        head (Page head.pid.0 head.at index)) }
+    ensures leads { IfOk result (λ answer. IfSome answer
+        (LeadsTo (KeepsAudited front.now limits head.pid audited.old kept) head.pid audited.new)) }
     ensures ahead { IsAhead (state_of audited.new.process) audited.new.ahead }
 {
     next_page(
@@ -120,8 +126,10 @@ pub fn sync<D: PageDisk>(
     audited: &mut Audited,
 ) -> Result<Option<Entry>, DiskRefused>
     requires { IsAhead (state_of audited.old.process) audited.old.ahead }
-    ensures decides { IfOk result (AnswersLine (KeepsPaged front.now limits head.pid audited.old kept pager.old) head (Sync head.pid.0 head.at took)) }
-    ensures leads { IfOk result (λ answer. IfSome answer (LeadsTo (KeepsPaged front.now limits head.pid audited.old kept pager.old) head.pid audited.new)) }
+    ensures decides { IfOk result (AnswersLine (KeepsPaged front.now limits head.pid audited.old kept pager.old)
+        head (Sync head.pid.0 head.at took)) }
+    ensures leads { IfOk result (λ answer. IfSome answer
+        (LeadsTo (KeepsPaged front.now limits head.pid audited.old kept pager.old) head.pid audited.new)) }
     ensures accounts { SameAccounts pager.old pager.new }
     ensures fetches { pager.new.fetches ≡ pager.old.fetches }
 {
@@ -153,8 +161,10 @@ pub fn fresh<D: PageDisk>(
     audited: &mut Audited,
 ) -> Result<Option<Entry>, DiskRefused>
     requires { IsAhead (state_of audited.old.process) audited.old.ahead }
-    ensures decides { IfOk result (AnswersLine (KeepsPaged front.now limits head.pid audited.old kept pager.old) head (Fresh (head.pid.0 ∷ others.now) head.at to)) }
-    ensures leads { IfOk result (λ answer. IfSome answer (LeadsTo (KeepsPaged front.now limits head.pid audited.old kept pager.old) head.pid audited.new)) }
+    ensures decides { IfOk result (AnswersLine (KeepsPaged front.now limits head.pid audited.old kept pager.old)
+        head (Fresh (head.pid.0 ∷ others.now) head.at to)) }
+    ensures leads { IfOk result (λ answer. IfSome answer
+        (LeadsTo (KeepsPaged front.now limits head.pid audited.old kept pager.old) head.pid audited.new)) }
     ensures accounts { SameAccounts pager.old pager.new }
     ensures fetches { pager.new.fetches ≡ pager.old.fetches }
 {
@@ -183,7 +193,8 @@ pub fn fetch(
     fetches: &Fetches,
     audited: &Audited,
 ) -> Option<Entry>
-    ensures { Decides MayStand (KeepsFetched front.now pid audited.now fetches.now) (record { place = place; by = by; what = Fetch pid.0 index }) result }
+    ensures { Decides MayStand (KeepsFetched front.now pid audited.now fetches.now)
+        (record { place = place; by = by; what = Fetch pid.0 index }) result }
 {
     let kept = asked_of(pid, audited, fetches, index);
     next_fetch(front, place, by, pid, index, kept)
@@ -200,7 +211,8 @@ pub fn standing(
     records: &Records,
     audited: &Audited,
 ) -> Result<Option<Entry>, NoMemory>
-    ensures { IfOk result (Decides MayStand (KeepsRecorded front.now head.pid audited.now family.now records.now) (record { place = head.place; by = head.by; what = Standing (head.pid.0 ∷ others.now) head.to })) }
+    ensures { IfOk result (Decides MayStand (KeepsRecorded front.now head.pid audited.now family.now records.now)
+        (record { place = head.place; by = head.by; what = Standing (head.pid.0 ∷ others.now) head.to })) }
 {
     let only = audited.since_moved.only;
     next_standing(alloc, front, head, others, only, family, records)

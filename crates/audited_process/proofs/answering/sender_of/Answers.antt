@@ -14,7 +14,12 @@ returns c = λ system log front limits valid before limited fetched family is.
     record {
       before = before;
       limited = limited;
-      process = record { there = is.there; begins = ap (λ (a : Audited). (a.begun).steps) c.audited.view_is ∙ (is.begun).steps; letters = ap (λ (a : Audited). (a.begun).saved) c.audited.view_is ∙ (is.begun).saved };
+      process = record {
+        there = is.there;
+        begins = ap (λ (a : Audited). (a.begun).steps) c.audited.view_is ∙ (is.begun).steps;
+        letters = ap (λ (a : Audited). (a.begun).saved) c.audited.view_is
+            ∙ (is.begun).saved;
+      };
       whole = c.all_come.ensures system log fetched pages;
       parent = c.is_parent.ensures system log family;
     }
