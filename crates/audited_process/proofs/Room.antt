@@ -31,7 +31,7 @@ use Rattle.log_laws.proofs.records.Standing.{built_stands, itself}
 use Rattle.audited_process.specs.declared.audited.Audited.{Audited}
 use Rattle.audited_process.specs.Concerns.{goes_on}
 use Rattle.audited_process.specs.Audited.{IsLedBy}
-use Rattle.audited_process.specs.Leading.{HasRoom}
+use Rattle.audited_process.specs.Leading.{HasRoom, StaysUnended}
 use Rattle.audited_process.proofs.GoingOn.{stands_on, unborn}
 use Rattle.audited_process.proofs.ByKind.{no_exit}
 use Rattle.audited_process.proofs.Waits.{still_unended}
@@ -61,6 +61,11 @@ few_numbered n (a ∷ letters) numbered =
 
 -- ---- the letters of a process
 
+pub stays_unended : StaysUnended
+stays_unended system log e p valid legal may unended goes =
+    ap (λ places. is_some (unended_at places p)) (placement-snoc system log e)
+    ∙ still_unended (what e) (placement system log) p (unborn system log e p valid legal may unended goes) (no_exit p (what e) goes) unended
+
 module _ (system : System) (log : List Entry) (e : Entry) (p : Pid) (a : Audited) (valid : is_system system ≡ true) (legal : IsLegalBy MayStand system log) (may : MayStand system log e)
     (unended : IsUnended system log p) (goes : goes_on p (what e) ≡ true) (is : IsLedBy e system log p a) where
   abbrev more : List Entry
@@ -76,9 +81,7 @@ module _ (system : System) (log : List Entry) (e : Entry) (p : Pid) (a : Audited
   legal_more = built_stands system more (IsLegal-snoc MayStand system log e legal may)
 
   unended_more : IsUnended system more p
-  unended_more =
-      ap (λ places. is_some (unended_at places p)) (placement-snoc system log e)
-      ∙ still_unended (what e) (placement system log) p (unborn system log e p valid legal may unended goes) (no_exit p (what e) goes) unended
+  unended_more = stays_unended system log e p valid legal may unended goes
 
   next_is : (state_of a.process).next ≡ arrived_count log p
   next_is =

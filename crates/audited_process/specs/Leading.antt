@@ -65,6 +65,13 @@ abbrev pub is_letter_told : ℕ → ToldWhat → Bool
 is_letter_told n (ToldMail from at letter) = from == n
 is_letter_told n _ = false
 
+-- ---- who stays
+
+-- a process that has not ended has not after an entry that ends neither it nor the run
+abbrev pub StaysUnended : Type 0
+StaysUnended = (system : System) (log : List Entry) (e : Entry) (p : Pid) → is_system system ≡ true → IsLegalBy MayStand system log
+    → MayStand system log e → IsUnended system log p → goes_on p (what e) ≡ true → IsUnended system (log ++ e ∷ []) p
+
 -- ---- room
 
 -- what comes to a process of a log with so few entries can be counted

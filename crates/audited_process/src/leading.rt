@@ -6,7 +6,7 @@ ghost use Rattle.cert_sched.specs.Deeds.{is_cut};
 ghost use Rattle.entry_lines.specs.Told.{told_what};
 ghost use Rattle.log_processes.specs.Arrivals.{is_writer};
 ghost use Rattle.audited_process.specs.Concerns.{forks, goes_on, steps_by};
-ghost use Rattle.audited_process.specs.Leading.{HasRoom, LeadsOn, is_going_told, is_letter_told, is_standing_told, is_step_told};
+ghost use Rattle.audited_process.specs.Leading.{HasRoom, LeadsOn, StaysUnended, is_going_told, is_letter_told, is_standing_told, is_step_told};
 
 /// A law and no code: a process is led by an entry as the answer to its line left it.
 pub fn answers_lead()
@@ -19,6 +19,11 @@ pub fn lines_tell_who_steps()
     ensures sends { (p : Pid) (w : What) → is_writer p w ≡ is_letter_told p.0 (told_what w) }
     ensures stands { (p : Pid) (w : What) → (forks p w || is_cut p w) ≡ is_standing_told p.0 (told_what w) }
     ensures goes_on { (p : Pid) (w : What) → goes_on p w ≡ is_going_told p.0 (told_what w) }
+{}
+
+/// A law and no code: a process stays among those that have not ended where an entry ends neither it nor the run.
+pub fn processes_stay()
+    ensures { StaysUnended }
 {}
 
 /// A law and no code: the letters of a process can be counted, where there is room for another entry.
