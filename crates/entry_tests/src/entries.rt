@@ -35,20 +35,48 @@ pub enum Row {
 pub fn made(alloc: Global, row: &Row) -> Result<What, NoMemory> {
     match row {
         Row::Mail(from, to, says) => mail(alloc, *from, *to, says),
-        Row::Birth(parent, child) => Ok(birth(*parent, *child)),
-        Row::Exit(pid, end) => Ok(exit(*pid, *end)),
-        Row::Page(pid) => page(alloc, *pid),
-        Row::Sync(pid, took) => sync(alloc, *pid, *took),
-        Row::Fetch(pid) => Ok(fetch(*pid)),
-        Row::PageIs(pid) => page_is(alloc, *pid),
-        Row::Crash(k, cause) => Ok(What::Crash {
-            k: ClusterNo(*k),
-            cause: *cause,
+        Row::Page(pid) => Ok(What::Page {
+            pid: Pid(*pid),
+            at: 40,
+            index: 3,
+            bytes: bytes(alloc)?,
         }),
-        Row::Return(k) => Ok(What::Return { k: ClusterNo(*k) }),
+        Row::Sync(pid, took) => sync(alloc, *pid, *took),
+        Row::PageIs(pid) => Ok(What::PageIs {
+            pid: Pid(*pid),
+            index: 3,
+            bytes: bytes(alloc)?,
+        }),
         Row::Rebackup(to, fresh, pids) => rebackup(alloc, *to, *fresh, pids),
         Row::Done => done(alloc),
-        Row::Stop => Ok(What::Stop),
+        _ => Ok(plain(row)),
+    }
+}
+
+// The same of those that take no memory.
+fn plain(row: &Row) -> What {
+    match row {
+        Row::Birth(parent, child) => What::Birth {
+            parent: Pid(*parent),
+            at: 3,
+            child: Pid(*child),
+            end: 31,
+        },
+        Row::Exit(pid, end) => What::Exit {
+            pid: Pid(*pid),
+            at: 10,
+            end: *end,
+        },
+        Row::Fetch(pid) => What::Fetch {
+            pid: Pid(*pid),
+            index: 3,
+        },
+        Row::Crash(k, cause) => What::Crash {
+            k: ClusterNo(*k),
+            cause: *cause,
+        },
+        Row::Return(k) => What::Return { k: ClusterNo(*k) },
+        _ => What::Stop,
     }
 }
 
@@ -73,52 +101,11 @@ fn mail(alloc: Global, from: u32, to: To, says: &Says) -> Result<What, NoMemory>
     })
 }
 
-fn birth(parent: u32, child: u32) -> What {
-    What::Birth {
-        parent: Pid(parent),
-        at: 3,
-        child: Pid(child),
-        end: 31,
-    }
-}
-
-fn exit(pid: u32, end: End) -> What {
-    What::Exit {
-        pid: Pid(pid),
-        at: 10,
-        end,
-    }
-}
-
 // A page whose last byte alone is not 0.
 fn bytes(alloc: Global) -> Result<Shared<[u8; 256]>, NoMemory> {
     let mut bytes = [0; 256];
     bytes[255] = 9;
     Shared::new(alloc, bytes)
-}
-
-fn page(alloc: Global, pid: u32) -> Result<What, NoMemory> {
-    Ok(What::Page {
-        pid: Pid(pid),
-        at: 40,
-        index: 3,
-        bytes: bytes(alloc)?,
-    })
-}
-
-fn fetch(pid: u32) -> What {
-    What::Fetch {
-        pid: Pid(pid),
-        index: 3,
-    }
-}
-
-fn page_is(alloc: Global, pid: u32) -> Result<What, NoMemory> {
-    Ok(What::PageIs {
-        pid: Pid(pid),
-        index: 3,
-        bytes: bytes(alloc)?,
-    })
 }
 
 fn small(pid: u32, steps: u32) -> Small {

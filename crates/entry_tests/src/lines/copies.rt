@@ -1,12 +1,7 @@
-//! What no line shows of entries, in their copies.
-use crate::entries::{Row, made};
-use bus_msg::entry::{By, Post, What};
-use std::alloc::Global;
-use std::test::Fail;
+//! What no line shows of entries.
+use bus_msg::entry::What;
 use t32_base::letter::BackRec;
-use t32_base::process::{ClusterNo, Pid, Small};
-use t32_base::streams::NoMemory;
-use test_asserts::same;
+use t32_base::process::{Pid, Small};
 
 // The handler, the numbers of the letters read and the signal taken.
 fn of_sync(small: &Small, read: &[u64], took: Option<u8>) -> Option<[u64; 4]> {
@@ -53,65 +48,27 @@ fn of_page(bytes: &[u8; 256]) -> [u64; 4] {
     ]
 }
 
-// What no line shows of an entry, and of the record of a new backup by its number.
-fn hidden(what: &What, number: usize) -> Option<[u64; 4]> {
+/// What no line shows of an entry, in numbers: of a new backup, of each of its two records.
+pub type Hidden = Option<([u64; 4], [u64; 4])>;
+
+fn of_records(records: &[BackRec]) -> Hidden {
+    match records {
+        [first, second] => Some((of_record(first)?, of_record(second)?)),
+        _ => None,
+    }
+}
+
+pub fn hidden(what: &What) -> Hidden {
     match what {
         What::Sync {
             small,
             read,
             took,
             ..
-        } => of_sync(small.get(), read.as_slice(), *took),
-        What::Done { rests } => of_rests(rests.as_slice()),
-        What::Rebackup { recs, .. } => of_record(recs.get().as_slice().get(number)?),
-        What::PageIs { bytes, .. } => Some(of_page(bytes.get())),
+        } => Some((of_sync(small.get(), read.as_slice(), *took)?, [0; 4])),
+        What::Done { rests } => Some((of_rests(rests.as_slice())?, [0; 4])),
+        What::Rebackup { recs, .. } => of_records(recs.get().as_slice()),
+        What::PageIs { bytes, .. } => Some((of_page(bytes.get()), [0; 4])),
         _ => None,
     }
-}
-
-fn shown(post: &Post, number: usize) -> (By, Option<[u64; 4]>) {
-    (post.by, hidden(&post.what, number))
-}
-
-fn copy_shows(post: &Post, number: usize) -> Result<(By, Option<[u64; 4]>), NoMemory> {
-    let copy = post.copy()?;
-    Ok(shown(&copy, number))
-}
-
-fn copied(
-    alloc: Global,
-    by: By,
-    row: &Row,
-    number: usize,
-) -> Result<(By, Option<[u64; 4]>), NoMemory> {
-    let post = Post {
-        by,
-        what: made(alloc, row)?,
-    };
-    copy_shows(&post, number)
-}
-
-const BACKUP: Row = Row::Rebackup(0, false, &[(17, true), (33, false)]);
-
-// An entry, the number of a record, and what its copy has that no line shows.
-static COPIES: [(By, Row, usize, [u64; 4]); 5] = [
-    (
-        By::Cluster(ClusterNo(3)),
-        Row::Sync(16, Some(10)),
-        0,
-        [65600, 5, 3, 10],
-    ),
-    (By::Bus, Row::Done, 0, [16, 10, 33, u64::MAX]),
-    (By::Bus, BACKUP, 0, [7, 5, 1, 48]),
-    (By::Bus, BACKUP, 1, [7, 5, 1, 48]),
-    (By::Bus, Row::PageIs(16), 0, [0, 0, 0, 9]),
-];
-
-#[test]
-fn copies_have_what_is_not_printed(rt: HostRuntime) -> Result<(), Fail> {
-    for row in COPIES.iter() {
-        let copy = copied(rt.alloc(), row.0, &row.1, row.2)?;
-        same("the copy", &copy, &(row.0, Some(row.3)))?;
-    }
-    Ok(())
 }

@@ -1,4 +1,7 @@
 //! What a placement shows, entry by entry: worked by hand.
+use crate::places::routes::{
+    LETTERS, PAGES, PAGES_MOVED, PAGES_OF_ONE, RETURN, Route, assert_routes,
+};
 use crate::places::taking::{BIRTHS, BY_HAND, FIRST, LONG, MOVE, SECOND, TAKEN_BACK, after};
 use bus_msg::placed::Placed;
 use channel_table::placement::Placement;
@@ -176,14 +179,23 @@ fn shown(places: &Placement, wanted: &[Placed]) -> Result<Shown, NoMemory> {
     Ok((placed, stood(places), numbers(places)))
 }
 
-fn after_shows(
-    alloc: Global,
-    log: usize,
-    steps: usize,
-    wanted: &[Placed],
-) -> Result<Shown, NoMemory> {
+// What is wanted of a placement: who is placed, how the clusters stand, the first server, and where entries go.
+type Wanted = (&'static [Placed], Stood, u8, &'static [Route]);
+
+fn assert_shows(alloc: Global, places: &Placement, wanted: &Wanted) -> Result<(), Fail> {
+    let (placed, stood, server, routes) = *wanted;
+    let numbers = (3, Some(ClusterNo(server)), None);
+    same(
+        "the placement",
+        &shown(places, placed)?,
+        &([true, true], stood, numbers),
+    )?;
+    assert_routes(alloc, places, routes)
+}
+
+fn assert_after(alloc: Global, log: usize, steps: usize, wanted: &Wanted) -> Result<(), Fail> {
     let places = after(alloc, log, steps)?;
-    shown(&places, wanted)
+    assert_shows(alloc, &places, wanted)
 }
 
 const ALL: [bool; 4] = [true, true, true, false];
@@ -192,126 +204,164 @@ const WITHOUT_0: [bool; 4] = [false, true, true, false];
 
 const WITHOUT_2: [bool; 4] = [true, true, false, false];
 
-// A log and how much of it is taken in; which processes are placed then, and how the clusters stand.
-static ROWS: [(usize, usize, &[Placed], Stood, u8); 15] = [
+// A log, how much of it is taken in, and what is wanted then.
+static ROWS: [(usize, usize, Wanted); 15] = [
     (
         LONG,
         0,
-        &[FIRST, SECOND],
-        (ALL, [2, 2, 1, 0], [true, true, true]),
-        1,
+        (
+            &[FIRST, SECOND],
+            (ALL, [2, 2, 1, 0], [true, true, true]),
+            1,
+            PAGES,
+        ),
     ),
     (
         LONG,
         2,
-        &[FIRST, SECOND, CHILD, LATER],
-        (ALL, [4, 2, 1, 0], [true, true, true]),
-        1,
+        (
+            &[FIRST, SECOND, CHILD, LATER],
+            (ALL, [4, 2, 1, 0], [true, true, true]),
+            1,
+            &[],
+        ),
     ),
     (
         LONG,
         3,
-        &[FIRST, SECOND, OVER, LATER],
-        (ALL, [4, 2, 1, 0], [true, true, true]),
-        1,
+        (
+            &[FIRST, SECOND, OVER, LATER],
+            (ALL, [4, 2, 1, 0], [true, true, true]),
+            1,
+            LETTERS,
+        ),
     ),
     (
         LONG,
         4,
-        &[SYNCED, SECOND, OVER, LATER],
-        (ALL, [4, 2, 1, 0], [true, true, true]),
-        1,
+        (
+            &[SYNCED, SECOND, OVER, LATER],
+            (ALL, [4, 2, 1, 0], [true, true, true]),
+            1,
+            &[],
+        ),
     ),
     (
         LONG,
         5,
-        &[MOVED_SYNCED, SECOND, OVER, MOVED_LATER],
-        (WITHOUT_0, [4, 2, 1, 0], [true, false, true]),
-        1,
+        (
+            &[MOVED_SYNCED, SECOND, OVER, MOVED_LATER],
+            (WITHOUT_0, [4, 2, 1, 0], [true, false, true]),
+            1,
+            RETURN,
+        ),
     ),
     (
         LONG,
         6,
-        &[MOVED_SYNCED, SECOND, OVER, MOVED_LATER],
-        (ALL, [4, 2, 1, 0], [true, false, true]),
-        1,
+        (
+            &[MOVED_SYNCED, SECOND, OVER, MOVED_LATER],
+            (ALL, [4, 2, 1, 0], [true, false, true]),
+            1,
+            &[],
+        ),
     ),
     (
         LONG,
         7,
-        &[KEPT, SECOND, OVER, KEPT_LATER],
-        (ALL, [4, 2, 1, 0], [true, true, true]),
-        1,
+        (
+            &[KEPT, SECOND, OVER, KEPT_LATER],
+            (ALL, [4, 2, 1, 0], [true, true, true]),
+            1,
+            PAGES_MOVED,
+        ),
     ),
     (
         LONG,
         8,
-        &[KEPT, ALONE, OVER, KEPT_LATER],
-        (WITHOUT_2, [4, 2, 1, 0], [true, false, true]),
-        1,
+        (
+            &[KEPT, ALONE, OVER, KEPT_LATER],
+            (WITHOUT_2, [4, 2, 1, 0], [true, false, true]),
+            1,
+            &[],
+        ),
     ),
     (
         LONG,
         9,
-        &[KEPT, ALONE, OVER, KEPT_LATER],
-        (ALL, [4, 2, 1, 0], [true, false, true]),
-        1,
+        (
+            &[KEPT, ALONE, OVER, KEPT_LATER],
+            (ALL, [4, 2, 1, 0], [true, false, true]),
+            1,
+            PAGES_OF_ONE,
+        ),
     ),
     (
         LONG,
         10,
-        &[KEPT, RENEWED, OVER, KEPT_LATER],
-        (ALL, [4, 2, 1, 0], [true, false, true]),
-        1,
+        (
+            &[KEPT, RENEWED, OVER, KEPT_LATER],
+            (ALL, [4, 2, 1, 0], [true, false, true]),
+            1,
+            &[],
+        ),
     ),
     (
         BIRTHS,
         4,
-        &[SYNCED, SECOND, CHILD, LATER, OTHER],
-        (ALL, [4, 3, 1, 0], [true, true, true]),
-        1,
+        (
+            &[SYNCED, SECOND, CHILD, LATER, OTHER],
+            (ALL, [4, 3, 1, 0], [true, true, true]),
+            1,
+            &[],
+        ),
     ),
     (
         MOVE,
         3,
-        &[MOVED, SECOND, MOVED_CHILD, AFTERWARDS],
-        (WITHOUT_0, [3, 3, 1, 0], [true, false, true]),
-        1,
+        (
+            &[MOVED, SECOND, MOVED_CHILD, AFTERWARDS],
+            (WITHOUT_0, [3, 3, 1, 0], [true, false, true]),
+            1,
+            &[],
+        ),
     ),
     (
         TAKEN_BACK,
         3,
-        &[FIRST, SECOND, CHILD],
-        (ALL, [3, 2, 1, 0], [true, true, true]),
-        1,
+        (
+            &[FIRST, SECOND, CHILD],
+            (ALL, [3, 2, 1, 0], [true, true, true]),
+            1,
+            &[],
+        ),
     ),
     (
         TAKEN_BACK,
         4,
-        &[FIRST, SECOND, CHILD, LATER],
-        (ALL, [4, 2, 1, 0], [true, true, true]),
-        1,
+        (
+            &[FIRST, SECOND, CHILD, LATER],
+            (ALL, [4, 2, 1, 0], [true, true, true]),
+            1,
+            &[],
+        ),
     ),
     (
         BY_HAND,
         3,
-        &[SET, SECOND_MOVED],
-        (ALL, [2, 2, 1, 0], [true, true, false]),
-        2,
+        (
+            &[SET, SECOND_MOVED],
+            (ALL, [2, 2, 1, 0], [true, true, false]),
+            2,
+            &[],
+        ),
     ),
 ];
 
 #[test]
 fn a_log_is_taken_in_entry_by_entry(rt: HostRuntime) -> Result<(), Fail> {
-    for row in ROWS.iter() {
-        let (log, steps, wanted, stood, server) = *row;
-        let shown = after_shows(rt.alloc(), log, steps, wanted)?;
-        let numbers = (3, Some(ClusterNo(server)), None);
-        same(
-            "what stands after so much of a log",
-            &(log, steps, shown),
-            &(log, steps, ([true, true], stood, numbers)),
-        )?;
+    for (log, steps, wanted) in &ROWS {
+        assert_after(rt.alloc(), *log, *steps, wanted)?;
     }
     Ok(())
 }

@@ -3,7 +3,6 @@ ghost use Rattle.std.specs.Prelude.{IsTrue};
 ghost use Rattle.channel_table.specs.Changes.{IsRoutable};
 
 use crate::entries::{Row, Says, made};
-use crate::places::taking::{LONG, after};
 use bus_msg::entry::{By, Dests, Post, What};
 use channel_table::placement::Placement;
 use std::alloc::Global;
@@ -39,58 +38,62 @@ fn routed(alloc: Global, places: &Placement, row: &Row) -> Result<Option<Dests>,
     Ok(route(places, &post))
 }
 
-fn routed_after(alloc: Global, steps: usize, row: &Row) -> Result<Option<Dests>, NoMemory> {
-    let places = after(alloc, LONG, steps)?;
-    routed(alloc, &places, row)
-}
+/// An entry, the clusters to which it goes, and the terminal.
+pub type Route = (Row, u16, Option<u8>);
 
-const NEAR: To = To::Proc(Pid(16), 0);
-
-// How many entries were taken in; what then goes to these clusters, and to the terminal. Letters go to homes and backups, pages and
-// synchronisations to the servers, and a lost cluster gets nothing but its return.
-static ROUTES: [(usize, Row, u16, Option<u8>); 23] = [
-    (3, Row::Mail(17, NEAR, Says::Bytes), 0b111, None),
-    (3, Row::Mail(16, NEAR, Says::Bytes), 0b011, None),
-    (3, Row::Mail(32, NEAR, Says::Bytes), 0b011, None),
-    (
-        3,
-        Row::Mail(17, To::Proc(Pid(32), 0), Says::Bytes),
-        0b100,
-        None,
-    ),
-    (3, Row::Mail(16, To::Tty(5), Says::Bytes), 0b010, Some(5)),
-    (0, Row::Page(16), 0b110, None),
-    (0, Row::Fetch(16), 0b110, None),
-    (0, Row::PageIs(16), 0b111, None),
-    (0, Row::Sync(16, None), 0b110, None),
-    (0, Row::Page(17), 0b110, None),
-    (0, Row::Fetch(17), 0b110, None),
-    (0, Row::PageIs(17), 0b110, None),
-    (0, Row::Sync(17, None), 0b110, None),
-    (7, Row::Page(16), 0b110, None),
-    (7, Row::Fetch(16), 0b110, None),
-    (7, Row::PageIs(16), 0b110, None),
-    (7, Row::Sync(16, None), 0b111, None),
-    (9, Row::Page(16), 0b010, None),
-    (9, Row::Fetch(16), 0b010, None),
-    (9, Row::PageIs(16), 0b010, None),
-    (9, Row::Sync(16, None), 0b011, None),
-    (5, Row::Stop, 0b110, None),
-    (5, Row::Return(0), 0b111, None),
-];
-
-#[test]
-fn entries_go_to_those_that_take_them_in(rt: HostRuntime) -> Result<(), Fail> {
-    for (steps, entry, clusters, tty) in &ROUTES {
+pub fn assert_routes(alloc: Global, places: &Placement, routes: &[Route]) -> Result<(), Fail> {
+    for (row, clusters, tty) in routes {
         let wanted = Dests {
             clusters: *clusters,
             tty: *tty,
         };
-        same(
-            "the route",
-            &routed_after(rt.alloc(), *steps, entry)?,
-            &Some(wanted),
-        )?;
+        same("the route", &routed(alloc, places, row)?, &Some(wanted))?;
     }
     Ok(())
 }
+
+const NEAR: To = To::Proc(Pid(16), 0);
+
+/// Letters go to homes and backups, after three entries.
+pub const LETTERS: &[Route] = &[
+    (Row::Mail(17, NEAR, Says::Bytes), 0b111, None),
+    (Row::Mail(16, NEAR, Says::Bytes), 0b011, None),
+    (Row::Mail(32, NEAR, Says::Bytes), 0b011, None),
+    (
+        Row::Mail(17, To::Proc(Pid(32), 0), Says::Bytes),
+        0b100,
+        None,
+    ),
+    (Row::Mail(16, To::Tty(5), Says::Bytes), 0b010, Some(5)),
+];
+
+/// Pages and synchronisations go to the servers, at the start,
+pub const PAGES: &[Route] = &[
+    (Row::Page(16), 0b110, None),
+    (Row::Fetch(16), 0b110, None),
+    (Row::PageIs(16), 0b111, None),
+    (Row::Sync(16, None), 0b110, None),
+    (Row::Page(17), 0b110, None),
+    (Row::Fetch(17), 0b110, None),
+    (Row::PageIs(17), 0b110, None),
+    (Row::Sync(17, None), 0b110, None),
+];
+
+/// after a new backup,
+pub const PAGES_MOVED: &[Route] = &[
+    (Row::Page(16), 0b110, None),
+    (Row::Fetch(16), 0b110, None),
+    (Row::PageIs(16), 0b110, None),
+    (Row::Sync(16, None), 0b111, None),
+];
+
+/// and where one server is left.
+pub const PAGES_OF_ONE: &[Route] = &[
+    (Row::Page(16), 0b010, None),
+    (Row::Fetch(16), 0b010, None),
+    (Row::PageIs(16), 0b010, None),
+    (Row::Sync(16, None), 0b011, None),
+];
+
+/// A lost cluster gets nothing but its return.
+pub const RETURN: &[Route] = &[(Row::Stop, 0b110, None), (Row::Return(0), 0b111, None)];
