@@ -149,7 +149,11 @@ fn record(alloc: Global, pid: u32, has_state: bool) -> Result<BackRec, NoMemory>
     let saved = saved(alloc, Pid(pid))?;
     Ok(BackRec {
         pid: Pid(pid),
-        state: has_state.then(|| small(pid, 80)),
+        state: if has_state {
+            Some(small(pid, 80))
+        } else {
+            None
+        },
         saved,
         next: 7,
         counts: Counts {

@@ -157,18 +157,10 @@ fn stood(places: &Placement) -> Stood {
     (lives, serials, covered)
 }
 
+// ---- what a log leads to
+
 // How many clusters there are, the first that serves pages, and the home of a process that there is not.
 type Numbers = (u8, Option<ClusterNo>, Option<ClusterNo>);
-
-fn numbers(places: &Placement) -> Numbers {
-    (
-        places.clusters(),
-        places.first_server(),
-        places.home(Pid(64)),
-    )
-}
-
-// ---- what a log leads to
 
 // Whether just these processes are placed, and in a copy, and the rest that is said.
 type Shown = ([bool; 2], Stood, Numbers);
@@ -176,7 +168,12 @@ type Shown = ([bool; 2], Stood, Numbers);
 fn shown(places: &Placement, wanted: &[Placed]) -> Result<Shown, NoMemory> {
     let copy = places.copy()?;
     let placed = [are_placed(places, wanted), are_placed(&copy, wanted)];
-    Ok((placed, stood(places), numbers(places)))
+    let numbers = (
+        places.clusters(),
+        places.first_server(),
+        places.home(Pid(64)),
+    );
+    Ok((placed, stood(places), numbers))
 }
 
 // What is wanted of a placement: who is placed, how the clusters stand, the first server, and where entries go.

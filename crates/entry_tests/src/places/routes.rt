@@ -22,20 +22,16 @@ fn is_routable(places: &Placement, what: &What) -> bool
     }
 }
 
-fn route(places: &Placement, post: &Post) -> Option<Dests> {
-    if is_routable(places, &post.what) {
-        Some(places.route(post))
-    } else {
-        None
-    }
-}
-
 fn routed(alloc: Global, places: &Placement, row: &Row) -> Result<Option<Dests>, NoMemory> {
     let post = Post {
         by: By::Bus,
         what: made(alloc, row)?,
     };
-    Ok(route(places, &post))
+    if is_routable(places, &post.what) {
+        Ok(Some(places.route(&post)))
+    } else {
+        Ok(None)
+    }
 }
 
 /// An entry, the clusters to which it goes, and the terminal.

@@ -5,14 +5,6 @@ use std::test::Fail;
 use t32_base::streams::NoMemory;
 use test_asserts::same;
 
-fn is_line(alloc: Global, finding: Finding, line: &[u8]) -> Result<bool, NoMemory> {
-    Ok(finding.line(alloc)?.as_slice() == line)
-}
-
-fn words_begin(alloc: Global, finding: Finding, part: &[u8]) -> Result<bool, NoMemory> {
-    Ok(finding.words(alloc)?.as_slice().starts_with(part))
-}
-
 // Whether the line of a finding is this, and its words begin so.
 fn written(
     alloc: Global,
@@ -20,10 +12,9 @@ fn written(
     line: &[u8],
     part: &[u8],
 ) -> Result<(bool, bool), NoMemory> {
-    Ok((
-        is_line(alloc, finding, line)?,
-        words_begin(alloc, finding, part)?,
-    ))
+    let is_line = finding.line(alloc)?.as_slice() == line;
+    let words = finding.words(alloc)?;
+    Ok((is_line, words.as_slice().starts_with(part)))
 }
 
 // The line of a finding, and how its words begin.

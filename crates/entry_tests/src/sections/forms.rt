@@ -25,15 +25,10 @@ fn put_lines(alloc: Global, text: &mut Text, log: &[Told]) -> Result<(), NoMemor
     Ok(())
 }
 
-// The log of a section printed again.
-fn printed(alloc: Global, log: &[Told]) -> Result<Text, NoMemory> {
+// Whether a section ends with this log, printed again.
+fn is_end(alloc: Global, section: &[u8], log: &[Told]) -> Result<bool, NoMemory> {
     let mut text = head(alloc, log.len())?;
     put_lines(alloc, &mut text, log)?;
-    Ok(text)
-}
-
-fn is_end(alloc: Global, section: &[u8], log: &[Told]) -> Result<bool, NoMemory> {
-    let text = printed(alloc, log)?;
     Ok(section.ends_with(text.as_slice()))
 }
 
