@@ -1,3 +1,4 @@
+pub mod Owing
 pub mod Telling
 pub mod Unmoved
 pub mod AfterSent

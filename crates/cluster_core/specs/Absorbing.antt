@@ -5,7 +5,7 @@ use Rattle.t32_base.specs.declared.process.Pid.{Pid}
 use Rattle.t32_base.specs.declared.process.ClusterNo.{ClusterNo}
 use Rattle.t32_base.specs.declared.letter.BackRec.{BackRec}
 use Rattle.bus_msg.specs.declared.entry.What.{What}
-use Rattle.bus_msg.specs.declared.entry.What.TheVariants.{Mail, Birth, PageIs}
+use Rattle.bus_msg.specs.declared.entry.What.TheVariants.{Mail, Birth, Exit, PageIs, Crash, Return, Rebackup}
 use Rattle.bus_msg.specs.declared.entry.Dests.{Dests}
 use Rattle.bus_msg.specs.declared.entry.Entry.{Entry}
 use Rattle.bus_msg.specs.PlacedAfter.{what}
@@ -41,3 +41,12 @@ CanCome w here = ⊤
 abbrev pub CanBeBorn : What → List (Pid × Held) → Type 0
 CanBeBorn (Birth parent at child end) here = CanBear parent child here
 CanBeBorn w here = ⊤
+
+-- an entry after which other processes here may be to get a new backup
+abbrev pub changes_owing : What → Bool
+changes_owing (Birth parent at child end) = true
+changes_owing (Exit pid at end) = true
+changes_owing (Crash k cause) = true
+changes_owing (Return k) = true
+changes_owing (Rebackup to fresh recs) = true
+changes_owing w = false

@@ -26,7 +26,7 @@ use Rattle.birth_notice.specs.Family.{first_unsynced}
 use Rattle.sync_point.specs.Batch.{batch, synced}
 use Rattle.quanta.specs.declared.limits.Limits.{Limits}
 use Rattle.quanta.specs.Limited.{is_due}
-use Rattle.cluster_core.specs.View.{ClusterView, held_at, limits_of, next_count, counted_once, failed_at, with_server, duty_by}
+use Rattle.cluster_core.specs.View.{ClusterView, held_at, limits_of, next_count, counted_once, failed_at, with_server, duty_of}
 use Rattle.residents.specs.Held.{Held, Runs, Rolls, Waits, held_of}
 use Rattle.cluster_core.specs.declared.hurt.Hurt.{Hurt}
 use Rattle.cluster_core.specs.declared.hurt.Hurt.TheVariants.{Disk, NoMemory}
@@ -35,6 +35,9 @@ use Rattle.residents.specs.ChildrenFirst.{child_before}
 use Rattle.residents.specs.Quantum.{ComesToFork, EndsChildless, Moves, Sends, post_told}
 use Rattle.cluster_core.specs.Queue.{left_queued}
 use Rattle.cluster_core.specs.Serving.{FailsNext}
+use Rattle.residents.specs.Residents.{are_settled}
+use Rattle.bus_msg.specs.NewBackup.{next_backup_at}
+use Rattle.backup_mode.specs.Renewal.{cleared, renewal}
 use Rattle.residents.specs.Changed.{with_changed}
 use Rattle.residents.specs.ForkingAgain.{RollsAgain}
 use Rattle.cluster_core.specs.Recovered.{left_by, moved_by, with_all_waiting}
@@ -120,18 +123,9 @@ absorbed c e = record (with_entry c e) { queue = left_queued c.places (what e) c
 
 -- ---- working
 
--- a process here runs, has neither a step nor a take, and is not due
-abbrev pub is_at_rest : Limits → Held → Bool
-is_at_rest limits (Runs p) = is_idle (state_of p) && not (is_due limits p)
-is_at_rest limits (Rolls p counts births) = false
-is_at_rest limits (Waits waiting) = false
-
-abbrev pub are_at_rest : Limits → List (Pid × Held) → Bool
-are_at_rest limits here = list_all (λ (e : Pid × Held). is_at_rest limits e.1) here
-
--- nothing here can move
+-- nothing here can move: none can have a turn, or waits for a page
 abbrev pub is_resting : ClusterView → Bool
-is_resting c = are_at_rest (limits_of c.system) c.here
+is_resting c = are_settled (duty_of c) c.here
 
 -- each process here with its steps
 abbrev pub rests_of : ClusterView → List (Pid × ℕ)
@@ -169,7 +163,7 @@ pub record QueuesOne (old new : ClusterView) : Type 0 where
 
 -- it is due; or it is the child that is to synchronise in the place of a process that is due or is to end
 abbrev pub IsNextToSync : ClusterView → Pid → Process → Type 0
-IsNextToSync c p process = (is_due (limits_of c.system) process ≡ true) ⊎ ((parent : Pid) × (child_before (duty_by (limits_of c.system)) c.family c.here parent ≡ Some p))
+IsNextToSync c p process = (is_due (limits_of c.system) process ≡ true) ⊎ ((parent : Pid) × (child_before (duty_of c) c.family c.here parent ≡ Some p))
 
 -- one process whose turn it is to synchronise has done so, after its children, and the posts of its batch are those to be sent
 pub record QueuesBatch (old new : ClusterView) : Type 0 where
@@ -179,6 +173,16 @@ pub record QueuesBatch (old new : ClusterView) : Type 0 where
   pub next : IsNextToSync old pid process
   pub childless : first_unsynced old.family pid ≡ None
   pub rest : new ≡ record old { here = with_changed pid (Runs (synced process)) old.here; queue = batch process old.number; steps = next_count old.steps }
+
+-- one process that is to get a new backup sends what brings it that, after its children: its changed pages and then the backup are those to be sent
+pub record QueuesFresh (old new : ClusterView) : Type 0 where
+  pub pid : Pid
+  pub process : Process
+  pub to : ClusterNo
+  pub there : held_at old pid ≡ Some (Runs process)
+  pub owed : next_backup_at old.places pid ≡ Some to
+  pub childless : first_unsynced old.family pid ≡ None
+  pub rest : new ≡ record old { here = with_changed pid (Runs (cleared process)) old.here; queue = renewal process to old.number; steps = next_count old.steps }
 
 -- one process made up to 63 steps, of which none sent anything that was not withheld, and the birth of its next child is the one post to be sent
 pub record QueuesBirth (old new : ClusterView) : Type 0 where
@@ -234,7 +238,7 @@ WorkIs old Queued new =
     QueuesStanding old new
     ⊎ ((old.owed ≡ []) × QueuesAnswer old new)
     ⊎ ((old.owed ≡ []) × (owes_answer old.places old.number old.server ≡ false) × QueuesFetch old new)
-    ⊎ (OwesNothing old × (is_resting old ≡ false) × (QueuesOne old new ⊎ QueuesBatch old new ⊎ QueuesBirth old new))
+    ⊎ (OwesNothing old × (is_resting old ≡ false) × (QueuesOne old new ⊎ QueuesBatch old new ⊎ QueuesBirth old new ⊎ QueuesFresh old new))
 WorkIs old IsWaiting new = OwesNothing old × (is_resting old ≡ false) × WaitsForPages old × OwesNoAnswer old × (new ≡ counted_once old)
 WorkIs old Rests new = OwesNothing old × (is_resting old ≡ true) × OwesNoAnswer old × (new ≡ counted_once old)
 

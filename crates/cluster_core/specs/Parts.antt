@@ -8,12 +8,14 @@ use Rattle.sys_text.specs.declared.system.System.{System}
 use Rattle.sys_text.specs.Valid.{is_system}
 use Rattle.proc_state.specs.declared.process.Process.{Process}
 use Rattle.bus_msg.specs.declared.entry.Post.{Post}
+use Rattle.bus_msg.specs.Places.{Places}
 use Rattle.cert_sched.specs.Losses.{is_from}
 use Rattle.page_waits.specs.Waiting.{WaitingState, is_whole}
 use Rattle.residents.specs.Duty.{DutyView}
+use Rattle.residents.specs.Owing.{duty_in}
 use Rattle.residents.specs.Held.{Held, Runs, Rolls, Waits}
 use Rattle.cluster_core.specs.Sent.{is_sent}
-use Rattle.cluster_core.specs.View.{duty_by, limits_of}
+use Rattle.cluster_core.specs.View.{limits_of}
 
 -- a process that stands under its own pid, to which no more letters came than the cluster took entries in
 pub record IsOwn (cursor : ℕ) (pid : Pid) (p : Process) : Type 0 where
@@ -37,11 +39,11 @@ abbrev pub AllOwn : ℕ → List (Pid × Held) → Type 0
 AllOwn cursor [] = ⊤
 AllOwn cursor (e ∷ here) = IsHeldOwn cursor e.0 e.1 × AllOwn cursor here
 
--- the system is valid and has the cluster, whose processes synchronise by its limits, and of which none is to get a new backup yet; its processes are its own, and its posts are its own and of kinds that clusters send
-pub record IsSound (system : System) (number : ClusterNo) (cursor : ℕ) (duty : DutyView) (here : List (Pid × Held)) (queue : List Post) : Type 0 where
+-- the system is valid and has the cluster, whose processes synchronise by its limits, and are to get the new backups that they get by where they are placed; its processes are its own, and its posts are its own and of kinds that clusters send
+pub record IsSound (system : System) (number : ClusterNo) (cursor : ℕ) (places : Places) (duty : DutyView) (here : List (Pid × Held)) (queue : List Post) : Type 0 where
   pub valid : is_system system ≡ true
   pub has : number.0 < system.clusters
-  pub duty_are : duty ≡ duty_by (limits_of system)
+  pub duty_are : duty ≡ duty_in (limits_of system) places here
   pub residents : AllOwn cursor here
   pub own : list_all (λ (post : Post). is_from number post.by) queue ≡ true
   pub built : list_all (λ (post : Post). is_sent post.what) queue ≡ true

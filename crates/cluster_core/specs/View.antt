@@ -15,6 +15,7 @@ use Rattle.bus_msg.specs.Places.{Places}
 use Rattle.quanta.specs.declared.limits.Limits.{Limits}
 use Rattle.page_server.specs.Account.{Account, PagerState, account, no_pages}
 use Rattle.residents.specs.Duty.{DutyView}
+use Rattle.residents.specs.Owing.{duty_in}
 use Rattle.residents.specs.Held.{Held, Runs, Rolls, Waits, held_of, with_renewed}
 
 -- its system and number, the length of the log that it has taken in, and the placement then; the processes at home here; the records of
@@ -41,13 +42,13 @@ pub record ClusterView : Type 0 where
 abbrev pub held_at : ClusterView → Pid → Option Held
 held_at c p = held_of c.here p
 
--- what processes owe by these limits alone: none is to get a new backup
-abbrev pub duty_by : Limits → DutyView
-duty_by limits = record { limits = limits; owing = [] }
-
 -- after so many letters and steps the processes of a system are due to synchronise
 abbrev pub limits_of : System → Limits
 limits_of system = record { reads = system.syncreads; steps = system.syncsteps }
+
+-- by these limits the processes here synchronise, and these are to get a new backup
+abbrev pub duty_of : ClusterView → DutyView
+duty_of c = duty_in (limits_of c.system) c.places c.here
 
 -- no pages where it has no account of the process
 abbrev pub account_at : ClusterView → Pid → Account

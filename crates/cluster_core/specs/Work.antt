@@ -14,7 +14,7 @@ use Rattle.page_accounts.specs.Answering.{earliest}
 use Rattle.page_accounts.specs.Keeps.{SamePages}
 use Rattle.residents.specs.declared.quantum.Sending.{Sending}
 use Rattle.residents.specs.declared.quantum.Forking.{Forking}
-use Rattle.residents.specs.declared.quantum.Quantum.TheVariants.{Moved as QuantumMoved, Sent, Synced, Stuck, Forks}
+use Rattle.residents.specs.declared.quantum.Quantum.TheVariants.{Moved as QuantumMoved, Sent, Synced, Renewed, Stuck, Forks}
 use Rattle.cluster_core.specs.declared.worked.Worked.{Worked}
 use Rattle.cluster_core.specs.declared.worked.Worked.TheVariants.{Moved, Queued, Waits as IsWaiting, Rests}
 use Rattle.residents.specs.Quantum.{post_told}
@@ -98,13 +98,14 @@ pub record NoPages (k : ClusterNo) (places : Places) (old : ResidentsView) (serv
   pub none : any_lacks old.here ≡ false
   pub kept : served ≡ server
 
--- a turn of one that is here, and what it sent or synchronises by, or the birth of its child, is queued; where none can have a turn, whether a process waits for its pages
+-- a turn of one that is here, and what it sent or synchronises by, what brings it a new backup, or the birth of its child, is queued; where none can have a turn, whether a process waits for its pages
 abbrev pub RunsNext : ClusterNo → Places → List (Pid × Pid) → ResidentsView → Worked → ResidentsView → List Post → Type 0
 RunsNext k places family old Moved new queue = TurnIs k family old (Ok QuantumMoved) new × (queue ≡ [])
 RunsNext k places family old Queued new queue =
     ((sending : Sending) × TurnIs k family old (Ok (Sent sending)) new × (queue ≡ post_told k sending.pid sending.at sending.emission ∷ []))
     ⊎ ((posts : List Post) × TurnIs k family old (Ok (Synced posts)) new × (queue ≡ posts))
     ⊎ ((forking : Forking) × TurnIs k family old (Ok (Forks forking)) new × (queue ≡ birth_told k places forking ∷ []))
+    ⊎ ((posts : List Post) × TurnIs k family old (Ok (Renewed posts)) new × (queue ≡ posts))
 RunsNext k places family old IsWaiting new queue = TurnIs k family old (Ok Stuck) new × (any_waits old.here ≡ true) × (queue ≡ [])
 RunsNext k places family old Rests new queue = TurnIs k family old (Ok Stuck) new × (any_waits old.here ≡ false) × (queue ≡ [])
 

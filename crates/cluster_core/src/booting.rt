@@ -11,8 +11,9 @@ ghost use Rattle.cert_sched.specs.Schedule.{placement};
 ghost use Rattle.log_laws.specs.records.Kept.{KeepsRecords};
 ghost use Rattle.cluster_core.specs.Booting.{AreBooted, AreFirstRecords, RunFrom, belongs_to};
 ghost use Rattle.cluster_core.specs.Serving.{BeginsToServe, IsAheadThere, IsFailing};
-ghost use Rattle.cluster_core.specs.View.{failing_in, duty_by, limits_of};
+ghost use Rattle.cluster_core.specs.View.{failing_in, limits_of};
 ghost use Rattle.page_accounts.specs.Booting.{IsAhead};
+ghost use Rattle.residents.specs.Owing.{duty_in};
 
 use crate::serving::serve_roots;
 use backup_queue::record::Record;
@@ -61,7 +62,7 @@ pub fn parts_at_boot<D: PageDisk + Drop>(
     ensures told { IfOk result (λ parts. failing_in parts.server ≡ option_map (λ d. (D.counts d).failing) disk) }
     ensures ahead { IfOk result (λ parts. parts.failed ≡ None → IfSome disk (λ d. IsAhead (D.counts d)) → IsAheadThere parts.server) }
     ensures fails { IfOk result (λ parts. IfSome parts.failed (IsFailing parts.server)) }
-    ensures duty { IfOk result (λ parts. parts.here.duty ≡ duty_by (limits_of system.now)) }
+    ensures duty { IfOk result (λ parts. parts.here.duty ≡ duty_in (limits_of system.now) places.now parts.here.here) }
 {
     let starts = starts_of(alloc, system)?;
     let (server, failed) = serve_roots(alloc, disk, &starts)?;
@@ -74,7 +75,8 @@ pub fn parts_at_boot<D: PageDisk + Drop>(
         });
     }
     let records = first_records(alloc, number, places, &starts)?;
-    let here = residents_of(alloc, number, limits_of(system), starts)?;
+    let mut here = residents_of(alloc, number, limits_of(system), starts)?;
+    here.place(alloc, places)?;
     Ok(Parts {
         here,
         records,
@@ -120,7 +122,7 @@ fn residents_of(
     starts: BTreeMap<u32, Start>,
 ) -> Result<Residents, NoMemory>
     ensures here { IfOk result (λ r. RunFrom (starts_in starts.entry.entries) number r.here) }
-    ensures duty { IfOk result (λ r. r.duty ≡ duty_by limits) }
+    ensures duty { IfOk result (λ r. r.duty ≡ record { limits = limits; owing = [] }) }
 {
     let mut here = Residents::none(alloc, limits);
     for (pid, start) in starts {

@@ -11,15 +11,13 @@ ghost use Rattle.cluster_core.specs.Follows.{FollowsBuilt};
 ghost use Rattle.cluster_core.specs.Returned.{returned};
 ghost use Rattle.cluster_core.specs.Calls.{Absorbs, absorbed, FollowsSome, GoesOn, HurtBy, HurtIs, is_resting, IsFirst, KeepsPlace, ReadyFor, RestsIn, rests_of, StopsBy, WorkIs};
 
-use crate::absorb::{note, tell};
+use crate::taking_in::take_entry;
 use crate::booting::{limits_of, parts_at_boot};
 use crate::falling::drop_fallen;
-use crate::families::join;
 use crate::hurt::Hurt;
 use crate::known::Known;
 use crate::owed::Owed;
 use crate::serving::serve;
-use crate::taking_over::take_over;
 use crate::work::work_on;
 use crate::worked::Worked;
 use backup_records::records::Records;
@@ -85,7 +83,7 @@ impl<D: PageDisk> Model for Cluster<D> {
       failed = c.failed;
     } };
 
-    ghost invariant = { λ c. IsSound (arc_value c.system) c.number c.cursor (c.here).duty (c.here).here (c.queue).items };
+    ghost invariant = { λ c. IsSound (arc_value c.system) c.number c.cursor c.places (c.here).duty (c.here).here (c.queue).items };
 }
 
 // A process whose new backup heads these posts, after it has run, counts from where it stands. Takes no memory.
@@ -321,22 +319,22 @@ impl<D: PageDisk + Drop> Cluster<D> {
         ensures hurts { IfErr result (λ hurt. StopsBy entry.now self.old hurt self.new) }
     {
         serve(&mut self.server, &self.places, entry)?;
-        note(self.number, &mut self.records, entry)?;
-        join(&mut self.family, entry)?;
-        self.owed.wait(self.number, &self.places, entry)?;
-        tell(self.alloc, self.number, &mut self.here, entry)?;
         drop_fallen(&self.places, entry, &mut self.queue);
-        self.cursor += 1;
-        take_over(
+        let taken = take_entry(
             self.alloc,
             self.number,
-            &self.places,
+            &mut self.places,
             &mut self.records,
+            &mut self.family,
+            &mut self.owed,
             &mut self.here,
             entry,
-        )?;
-        self.places.absorb(entry)?;
-        self.owed.settle(&self.places, entry);
+        );
+        if let Err(NoMemory) = taken {
+            self.here = Residents::none(self.alloc, self.here.limits());
+            return Err(Hurt::NoMemory);
+        }
+        self.cursor += 1;
         self.count_step();
         Ok(())
     }

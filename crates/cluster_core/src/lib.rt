@@ -15,6 +15,7 @@ pub mod returned;
 mod serving;
 pub mod standing;
 pub mod steps_left;
+mod taking_in;
 mod taking_over;
 mod work;
 pub mod worked;

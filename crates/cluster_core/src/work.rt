@@ -45,7 +45,6 @@ pub fn work_on<D: PageDisk>(
     requires can { CanAnswer server.old }
     requires pids { next_pid number places.now < 2 ^ 32 }
     requires forks { CanForkAgain here.old.here }
-    requires unowed { here.old.duty.owing ≡ [] }
     ensures ok { IfOk result (λ worked. WorksOn number places.now family.now owed.now here.old server.old worked here.new server.new queue.new.items) }
     ensures here { OnErr result (here.new.here ≡ here.old.here) }
     ensures duty { here.new.duty ≡ here.old.duty }
@@ -75,7 +74,6 @@ fn work_unowed<D: PageDisk>(
     requires can { CanAnswer server.old }
     requires pids { next_pid number places.now < 2 ^ 32 }
     requires forks { CanForkAgain here.old.here }
-    requires unowed { here.old.duty.owing ≡ [] }
     ensures ok { IfOk result (λ worked. WorksUnowed number places.now family.now here.old server.old worked here.new server.new queue.new.items) }
     ensures here { OnErr result (here.new.here ≡ here.old.here) }
     ensures duty { here.new.duty ≡ here.old.duty }
@@ -115,7 +113,6 @@ fn run_next(
     requires room { deque_len queue.old < deque_capacity queue.old }
     requires pids { next_pid number places.now < 2 ^ 32 }
     requires forks { CanForkAgain here.old.here }
-    requires unowed { here.old.duty.owing ≡ [] }
     ensures ok { IfOk result (λ worked. RunsNext number places.now family.now here.old worked here.new queue.new.items) }
     ensures here { OnErr result (here.new.here ≡ here.old.here) }
     ensures duty { here.new.duty ≡ here.old.duty }
@@ -127,11 +124,10 @@ fn run_next(
             queue.push_back_reserved(post_of(number, sending));
             Ok(Worked::Queued)
         }
-        Quantum::Synced(posts) => {
+        Quantum::Synced(posts) | Quantum::Renewed(posts) => {
             *queue = VecDeque::from_vec(posts.into_vec());
             Ok(Worked::Queued)
         }
-        Quantum::Renewed(_) => unreachable!(),
         Quantum::Stuck => stuck(alloc, here),
         Quantum::Forks(forking) => {
             queue.push_back_reserved(birth_of(number, places, forking));

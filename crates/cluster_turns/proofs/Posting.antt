@@ -102,7 +102,8 @@ unfailed_by Queued c new (inr (inl (backed, answer))) = ap (λ (v : ClusterView)
 unfailed_by Queued c new (inr (inr (inl (backed, owes, fetch)))) = ap (λ (v : ClusterView). v.failed) fetch.rest
 unfailed_by Queued c new (inr (inr (inr (owes, rests, inl sent)))) = ap (λ (v : ClusterView). v.failed) sent.rest
 unfailed_by Queued c new (inr (inr (inr (owes, rests, inr (inl synced))))) = ap (λ (v : ClusterView). v.failed) synced.rest
-unfailed_by Queued c new (inr (inr (inr (owes, rests, inr (inr bears))))) = ap (λ (v : ClusterView). v.failed) bears.rest
+unfailed_by Queued c new (inr (inr (inr (owes, rests, inr (inr (inl bears)))))) = ap (λ (v : ClusterView). v.failed) bears.rest
+unfailed_by Queued c new (inr (inr (inr (owes, rests, inr (inr (inr fresh)))))) = ap (λ (v : ClusterView). v.failed) fresh.rest
 unfailed_by Waits c new is = ap (λ (v : ClusterView). v.failed) is.4
 unfailed_by Rests c new is = ap (λ (v : ClusterView). v.failed) is.3
 
@@ -116,7 +117,8 @@ failing_by Queued c new (inr (inl (backed, answer))) =
 failing_by Queued c new (inr (inr (inl (backed, owes, fetch)))) = ap (λ (v : ClusterView). failing_in v.server) fetch.rest
 failing_by Queued c new (inr (inr (inr (owes, rests, inl sent)))) = ap (λ (v : ClusterView). failing_in v.server) sent.rest
 failing_by Queued c new (inr (inr (inr (owes, rests, inr (inl synced))))) = ap (λ (v : ClusterView). failing_in v.server) synced.rest
-failing_by Queued c new (inr (inr (inr (owes, rests, inr (inr bears))))) = ap (λ (v : ClusterView). failing_in v.server) bears.rest
+failing_by Queued c new (inr (inr (inr (owes, rests, inr (inr (inl bears)))))) = ap (λ (v : ClusterView). failing_in v.server) bears.rest
+failing_by Queued c new (inr (inr (inr (owes, rests, inr (inr (inr fresh)))))) = ap (λ (v : ClusterView). failing_in v.server) fresh.rest
 failing_by Waits c new is = ap (λ (v : ClusterView). failing_in v.server) is.4
 failing_by Rests c new is = ap (λ (v : ClusterView). failing_in v.server) is.3
 
@@ -132,7 +134,8 @@ queued_head c new (inr (inl (backed, answer))) = ap (λ (v : ClusterView). is_so
 queued_head c new (inr (inr (inl (backed, owes, fetch)))) = ap (λ (v : ClusterView). is_some (head_of v.queue)) fetch.rest
 queued_head c new (inr (inr (inr (owes, rests, inl sent)))) = ap (λ (v : ClusterView). is_some (head_of v.queue)) sent.rest
 queued_head c new (inr (inr (inr (owes, rests, inr (inl synced))))) = ap (λ (v : ClusterView). is_some (head_of v.queue)) synced.rest ∙ batch_head _ _
-queued_head c new (inr (inr (inr (owes, rests, inr (inr bears))))) = ap (λ (v : ClusterView). is_some (head_of v.queue)) bears.rest
+queued_head c new (inr (inr (inr (owes, rests, inr (inr (inl bears)))))) = ap (λ (v : ClusterView). is_some (head_of v.queue)) bears.rest
+queued_head c new (inr (inr (inr (owes, rests, inr (inr (inr fresh)))))) = ap (λ (v : ClusterView). is_some (head_of v.queue)) fresh.rest ∙ batch_head _ _
 
 pub worked_shown : (Shows : Type 0) (from : ℕ) (b : BusView) (c new : ClusterView) (w : Worked) → IsShown Shows from b c → IsUnnamed b c → GoesOn c new → KeepsPlace c new → WorkIs c w new → IsShown Shows from b new
 worked_shown Shows from b c new w shown unnamed goes keeps is = record {

@@ -24,7 +24,7 @@ use Rattle.residents.specs.Quantum.{RunsQuantum, RunsTo}
 use Rattle.residents.specs.Residents.{AsksOf, AsksPage, lacks_none_at}
 use Rattle.residents.specs.Changed.{with_changed}
 use Rattle.residents.specs.Slots.{in_slot, stands_in, IsKept, IsSlot}
-use Rattle.residents.specs.Held.{Held, Runs, Rolls, Waits, asked_held, can_act, page_lacked}
+use Rattle.residents.specs.Held.{Held, Runs, Rolls, Waits, asked_held, page_lacked}
 use Rattle.residents.specs.Asking.{AsksNext, any_lacks, is_lowest_lacking}
 use Rattle.residents.proofs.Slots.{at_key_is, one_key, passes_there, process_there, written}
 use Rattle.residents.proofs.Kept.{first_some, written_back}

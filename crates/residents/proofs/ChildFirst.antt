@@ -17,7 +17,7 @@ use Rattle.sync_point.specs.Batch.{cut_of, synced}
 use Rattle.sync_point.specs.Due.{is_due_by}
 use Rattle.sync_point.proofs.Cuts.{cut_keeps, cut_untaken, synced_takes_none}
 use Rattle.quanta.specs.declared.limits.Limits.{Limits}
-use Rattle.residents.specs.Duty.{DutyView, is_able, is_owed}
+use Rattle.residents.specs.Duty.{DutyView, is_owed}
 use Rattle.quanta.specs.Limited.{is_due}
 use Rattle.residents.specs.ChildrenFirst.{child_before, comes_after, comes_after_at, comes_after_children, is_hindered}
 use Rattle.residents.specs.Quantum.{SyncsNow}

@@ -12,6 +12,7 @@ pub mod KeepsForking
 pub mod Kept
 pub mod KeptForks
 pub mod Owed
+pub mod OwingLaws
 pub mod Placing
 pub mod Quanta
 pub mod Renewing

@@ -2,7 +2,7 @@
 use Rattle.std.proofs.Common.{◌≡◌, ℕ, refl, sym, ◌∙◌, ap, arith, cond, Bool, ◌||◌, ◌&&◌, not, ltb, eqb-true, List, [], ◌∷◌, Option, Some, None, is_none, is_some, true, false, true≢false, Ok, Err, inl}
 use Rattle.std.specs.Prelude.{Result, IfOk, OnErr, find, option_map}
 use Rattle.std.specs.Option.{option_map_or}
-use Rattle.std.specs.List.{list_all, list_any, AllByRecursion}
+use Rattle.std.specs.List.{list_all, list_any}
 use Rattle.std.specs.Map.{lookup}
 use Rattle.std.proofs.lemmas.Bool.{and_from, and_parts, or_right}
 use Rattle.std.proofs.lemmas.Bool.Decides.{nat_tests}
@@ -15,7 +15,6 @@ use Rattle.bus_msg.specs.Places.{same_pid}
 use Rattle.birth_notice.specs.Family.{first_unsynced}
 use Rattle.plain_kernel.specs.Maps.{at_key, pid_of}
 use Rattle.proc_state.specs.declared.process.Process.{Process}
-use Rattle.quanta.specs.declared.limits.Limits.{Limits}
 use Rattle.sync_point.specs.Batch.{synced}
 use Rattle.residents.specs.declared.quantum.Quantum.{Quantum}
 use Rattle.residents.specs.declared.quantum.Quantum.TheVariants.{Moved, Sent, Synced, Renewed, Stuck, Forks}

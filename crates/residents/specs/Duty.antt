@@ -1,13 +1,11 @@
 -- What the processes of a cluster owe beside their steps: a synchronisation where they are due, and the new backup that some are to get.
-use Rattle.std.specs.Prelude.{ℕ, ◌≡◌, Bool, ◌&&◌, ◌||◌, if◌then◌else◌, List, Option, Some, None, is_some}
+use Rattle.std.specs.Prelude.{ℕ, Bool, ◌&&◌, ◌||◌, if◌then◌else◌, List, Option, None, is_some}
 use Rattle.std.specs.Map.{lookup}
 use Rattle.t32_base.specs.declared.process.Pid.{Pid}
 use Rattle.t32_base.specs.declared.process.ClusterNo.{ClusterNo}
-use Rattle.bus_msg.specs.Places.{Places}
-use Rattle.bus_msg.specs.NewBackup.{next_backup_at}
 use Rattle.plain_kernel.specs.Maps.{at_key}
 use Rattle.quanta.specs.declared.limits.Limits.{Limits}
-use Rattle.residents.specs.Held.{Held, can_act, held_of, is_running, runs_at}
+use Rattle.residents.specs.Held.{Held, can_act, is_running, runs_at}
 
 -- the limits by which they synchronise, and the pids of those that are to get a new backup once they run, each with its cluster
 pub record DutyView : Type 0 where
@@ -29,9 +27,3 @@ owed_at duty here p = if runs_at here p then backup_owed duty p else None
 -- a process that is here can have a turn by itself: it is to get a new backup, or can move
 abbrev pub is_able : DutyView → Pid × Held → Bool
 is_able duty e = is_owed duty e || can_act duty.limits e.1
-
--- ---- who is to get one
-
--- each of these processes is to get what it gets by where it is placed
-abbrev pub AreOwing : Places → List (Pid × Held) → List (ℕ × ClusterNo) → Type 0
-AreOwing places here owing = (p : Pid) (h : Held) → held_of here p ≡ Some h → lookup (at_key p.0) owing ≡ next_backup_at places p

@@ -6,6 +6,7 @@ pub mod ChildrenFirst
 pub mod Duty
 pub mod ForkingAgain
 pub mod Held
+pub mod Owing
 pub mod Quantum
 pub mod Records
 pub mod Resident

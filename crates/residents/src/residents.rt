@@ -12,7 +12,8 @@ ghost use Rattle.residents.specs.Arriving.{with_letter, with_page_come};
 ghost use Rattle.residents.specs.Bearing.{CanBear, CanForkAt, ForksAt, with_born};
 ghost use Rattle.residents.specs.ForkingAgain.{child_again, rolls_at, waits_for_fork_at, with_begun, BearsAgain, CanBeginWith, CanForkAgain, CanForkAgainAt, CanForkAgainNow, ForksAgain, RollsPartAt, RollsQuantum, RollsStepsAt, StandsThere};
 ghost use Rattle.residents.specs.ChildrenFirst.{child_before, comes_after, comes_after_at, is_free, is_hindered};
-ghost use Rattle.residents.specs.Duty.{AreOwing, is_able, is_owed, owed_at};
+ghost use Rattle.residents.specs.Duty.{is_able, is_owed, owed_at};
+ghost use Rattle.residents.specs.Owing.{duty_in, owing_in};
 ghost use Rattle.residents.specs.Records.{record_at};
 ghost use Rattle.residents.specs.Residents.{AsksOf, GivenTurnIs, HasRoom, NextAble, RenewsAt, RunsAt, RunsOnAt, SyncsAt, TurnIs, are_rising, are_settled, is_settled, is_stuck_at, lacks_none_at, next_ready, none_has_turn, pids_in};
 ghost use Rattle.residents.specs.Changed.{with_more};
@@ -99,8 +100,7 @@ impl Residents {
     pub fn place(&mut self, alloc: Global, places: &Placement) -> Result<(), NoMemory>
         ensures here { self.new.here ≡ self.old.here }
         ensures last { self.new.last ≡ self.old.last }
-        ensures owing { OnOk result (AreOwing places.now self.old.here self.new.duty.owing) }
-        ensures limits { self.new.duty.limits ≡ self.old.duty.limits }
+        ensures duty { OnOk result (self.new.duty ≡ duty_in self.old.duty.limits places.now self.old.here) }
         ensures err { OnErr result (self.new.duty ≡ self.old.duty) }
     {
         let owing = self.owing(alloc, places)?;
@@ -109,7 +109,7 @@ impl Residents {
 
     // Those processes here that are to get a new backup by where they are placed, each with its cluster.
     fn owing(&self, alloc: Global, places: &Placement) -> Result<BTreeMap<u32, ClusterNo>, NoMemory>
-        ensures { IfOk result (λ owing. AreOwing places.now self.now.here owing.entries) }
+        ensures { IfOk result (λ owing. owing.entries ≡ owing_in places.now (pids_in self.now.here)) }
     {
         let mut owing = BTreeMap::new(alloc);
         for pid in self.keys.keys() {

@@ -1,5 +1,5 @@
 -- Where no process here can have a turn, none can move: no child hinders any.
-use Rattle.std.proofs.Common.{◌≡◌, refl, sym, ◌∙◌, ap, subst, length, List, [], ◌∷◌, Bool, cond, not, ◌&&◌, eqb-true, Option, Some, None, true, false, true≢false}
+use Rattle.std.proofs.Common.{◌≡◌, refl, sym, ◌∙◌, ap, subst, length, List, [], ◌∷◌, Bool, cond, not, ◌&&◌, ◌||◌, eqb-true, is_some, Option, Some, None, true, false, true≢false}
 use Rattle.std.specs.Prelude.{find, option_map}
 use Rattle.std.specs.List.{list_all, list_any}
 use Rattle.std.specs.Option.{option_map_or}
@@ -12,15 +12,15 @@ use Rattle.bus_msg.specs.declared.placed.Placed.{Placed}
 use Rattle.bus_msg.specs.Places.{same_pid}
 use Rattle.cert_sched.specs.Legal.{IsLegalBy, Stands}
 use Rattle.cert_sched.specs.Schedule.{placement}
-use Rattle.quanta.specs.declared.limits.Limits.{Limits}
 use Rattle.log_laws.proofs.records.Standing.{built_stands}
 use Rattle.log_laws.specs.births.Unsynced.{unsynced_births}
 use Rattle.log_laws.proofs.births.Filters.{passes_any}
 use Rattle.log_laws.proofs.births.FirstChild.{within_has}
 use Rattle.log_laws.proofs.births.UnsyncedChild.{lives_with_parent}
-use Rattle.cluster_core.specs.View.{ClusterView, held_at, limits_of, duty_by}
-use Rattle.residents.specs.Held.{Held, Runs, Rolls, Waits, can_act, held_of, is_running, runs_at}
-use Rattle.residents.specs.ChildrenFirst.{child_before, comes_after_children, has_turn, is_hindered}
+use Rattle.cluster_core.specs.View.{ClusterView, held_at, duty_of}
+use Rattle.residents.specs.Held.{Held, Runs, Rolls, Waits, held_of, is_running, runs_at}
+use Rattle.residents.specs.ChildrenFirst.{child_before, comes_after, has_turn, is_hindered}
+use Rattle.residents.specs.Duty.{backup_owed, is_able}
 use Rattle.cluster_core.specs.Follows.{FollowsBuilt}
 use Rattle.residents.specs.Residents.{are_stuck, none_has_turn, pids_in}
 use Rattle.cluster_core.specs.Calls.{FollowsSome}
@@ -45,10 +45,7 @@ all_found t (e ∷ here) p h all there = by_test (same_pid e.0 p) refl there (al
         (λ i. t (pid_same p e.0 (sym (eqb-true (e.0).0 p.0 is)) i, sym same i)) ∙ parts.0
     by_test false is at more = more at
 
-module _ (c : ClusterView) (valid : is_system c.system ≡ true) (some : FollowsSome c) (none : none_has_turn (duty_by (limits_of c.system)) c.family c.here ≡ true) where
-  abbrev limits : Limits
-  limits = limits_of c.system
-
+module _ (c : ClusterView) (valid : is_system c.system ≡ true) (some : FollowsSome c) (none : none_has_turn (duty_of c) c.family c.here ≡ true) where
   abbrev log : List Entry
   log = some.log
 
@@ -65,11 +62,19 @@ module _ (c : ClusterView) (valid : is_system c.system ≡ true) (some : Follows
       among : list_any (bears_by p x) (unsynced_births c.system some.log) ≡ true
       among = subst (λ bs. list_any (bears_by p x) bs ≡ true) f.family born
 
+      rolls_first : (o : Bool) → ((o && false) || false) ≡ false
+      rolls_first true = refl
+      rolls_first false = refl
+
+      rolls_able : (o : Bool) → not (((o && false) || true) && not false) ≡ false
+      rolls_able true = refl
+      rolls_able false = refl
+
       by_child : (process : Process) (h : Held) → held_at c p ≡ Some (Runs process) → held_at c x ≡ Some h → runs_at c.here x ≡ true
       by_child process (Runs q) at there = ap (λ o. option_map_or is_running o false) there
       by_child process (Rolls q counts births) at there =
-          let free : is_hindered (duty_by limits) c.family c.here x ≡ false = ap (λ o. option_map_or (λ (q : Pid). not (runs_at c.here q)) o false) (none_before (duty_by limits) c.family c.here x (Rolls q counts births) there refl) in
-          absurd (true≢false (sym (all_found (λ (e : Pid × Held). not (has_turn (duty_by limits) c.family c.here e)) c.here x (Rolls q counts births) none there) ∙ ap (λ b. not (true && not b)) free))
+          let free : is_hindered (duty_of c) c.family c.here x ≡ false = ap (λ o. option_map_or (λ (q : Pid). not (runs_at c.here q)) o false) (none_before (duty_of c) c.family c.here x (Rolls q counts births) there (rolls_first (is_some (backup_owed (duty_of c) x)))) in
+          absurd (true≢false (sym (all_found (λ (e : Pid × Held). not (has_turn (duty_of c) c.family c.here e)) c.here x (Rolls q counts births) none there) ∙ ap (λ b. not (is_able (duty_of c) (x, Rolls q counts births) && not b)) free ∙ rolls_able (is_some (backup_owed (duty_of c) x))))
       by_child process (Waits w) at there = absurd (true≢false (f.forks p x (Runs process) (Waits w) at there born))
 
       by_held : (h : Held) → held_at c p ≡ Some h → is_running h ≡ true → runs_at c.here x ≡ true
@@ -85,33 +90,38 @@ module _ (c : ClusterView) (valid : is_system c.system ≡ true) (some : Follows
       by_parent (Some h) at runs = by_held h at runs
 
   -- so is the one that is to come first
-  first_runs : (p child : Pid) → child_before (duty_by limits) c.family c.here p ≡ Some child → runs_at c.here child ≡ true
+  first_runs : (p child : Pid) → child_before (duty_of c) c.family c.here p ≡ Some child → runs_at c.here child ≡ true
   first_runs p child is =
-      let b = before_is (duty_by limits) c.family c.here p child is in
+      let b = before_is (duty_of c) c.family c.here p child is in
       within_has c.family (λ q. runs_at c.here q ≡ true) (λ q. runs_at c.here q ≡ true) (λ birth m runs. child_runs birth.0 birth.1 (passes_any (bears_by birth.0 birth.1) c.family birth m (and_from (same_pid birth.0 birth.0) (same_pid birth.1 birth.1) (same_itself birth.0) (same_itself birth.1))) runs)
       (λ q runs. runs) (length c.family) p child b.first (ap (λ o. option_map_or is_running o false) b.there ∙ runs b.held b.comes)
     where
-      runs : (h : Held) → comes_after_children limits h ≡ true → is_running h ≡ true
-      runs (Runs process) comes = refl
-      runs _ comes = absurd (true≢false (sym comes))
+      by_owed : (o : Bool) → ((o && false) || false) ≡ true → false ≡ true
+      by_owed true comes = comes
+      by_owed false comes = comes
 
-  unhindered : (p : Pid) → is_hindered (duty_by limits) c.family c.here p ≡ false
-  unhindered p = by_child (child_before (duty_by limits) c.family c.here p) refl
+      runs : (h : Held) → comes_after (duty_of c) (p, h) ≡ true → is_running h ≡ true
+      runs (Runs process) comes = refl
+      runs (Rolls process counts births) comes = by_owed (is_some (backup_owed (duty_of c) p)) comes
+      runs (Waits waiting) comes = by_owed (is_some (backup_owed (duty_of c) p)) comes
+
+  unhindered : (p : Pid) → is_hindered (duty_of c) c.family c.here p ≡ false
+  unhindered p = by_child (child_before (duty_of c) c.family c.here p) refl
     where
-      by_child : (o : Option Pid) → child_before (duty_by limits) c.family c.here p ≡ o → option_map_or (λ (child : Pid). not (runs_at c.here child)) o false ≡ false
+      by_child : (o : Option Pid) → child_before (duty_of c) c.family c.here p ≡ o → option_map_or (λ (child : Pid). not (runs_at c.here child)) o false ≡ false
       by_child None is = refl
       by_child (Some child) is = ap not (first_runs p child is)
 
-  stuck_of : (here : List (Pid × Held)) → list_all (λ (e : Pid × Held). not (has_turn (duty_by limits) c.family c.here e)) here ≡ true → are_stuck (duty_by limits) here ≡ true
+  stuck_of : (here : List (Pid × Held)) → list_all (λ (e : Pid × Held). not (has_turn (duty_of c) c.family c.here e)) here ≡ true → are_stuck (duty_of c) here ≡ true
   stuck_of [] all = refl
   stuck_of (e ∷ here) all =
-      let parts = and_parts (not (has_turn (duty_by limits) c.family c.here e)) (list_all (λ (e : Pid × Held). not (has_turn (duty_by limits) c.family c.here e)) here) all in
-      and_from (not (can_act limits e.1)) (are_stuck (duty_by limits) here) (one (can_act limits e.1) (is_hindered (duty_by limits) c.family c.here e.0) (unhindered e.0) parts.0) (stuck_of here parts.1)
+      let parts = and_parts (not (has_turn (duty_of c) c.family c.here e)) (list_all (λ (e : Pid × Held). not (has_turn (duty_of c) c.family c.here e)) here) all in
+      and_from (not (is_able (duty_of c) e)) (are_stuck (duty_of c) here) (one (is_able (duty_of c) e) (is_hindered (duty_of c) c.family c.here e.0) (unhindered e.0) parts.0) (stuck_of here parts.1)
     where
       one : (b h : Bool) → h ≡ false → not (b && not h) ≡ true → not b ≡ true
       one true true free is = absurd (true≢false free)
       one true false free is = is
       one false h free is = refl
 
-  pub none_moves : are_stuck (duty_by limits) c.here ≡ true
+  pub none_moves : are_stuck (duty_of c) c.here ≡ true
   none_moves = stuck_of c.here none

@@ -18,12 +18,17 @@ use Rattle.sync_point.specs.Batch.{synced}
 use Rattle.sync_point.proofs.Cuts.{cut_keeps}
 use Rattle.sync_point.specs.Due.{is_due_by}
 use Rattle.quanta.specs.declared.limits.Limits.{Limits}
-use Rattle.residents.specs.Held.{Held, Runs, Rolls, Waits, arrived, arrived_held, held_of, next_number, asked_held, going_on, page_held, renewed_held, rolling_held, is_waiting, with_renewed}
+use Rattle.residents.specs.Duty.{DutyView, backup_owed, is_able, is_owed}
+use Rattle.residents.specs.ChildrenFirst.{comes_after, comes_after_children}
+use Rattle.residents.proofs.ChildFirst.{comes_acts}
+use Rattle.std.proofs.lemmas.Bool.{or_right}
+use Rattle.cert_sched.specs.Rests.{is_idle}
+use Rattle.residents.specs.Held.{Held, Runs, Rolls, Waits, can_act, arrived, arrived_held, held_of, next_number, asked_held, going_on, page_held, renewed_held, rolling_held, is_waiting, with_renewed}
 use Rattle.residents.specs.Changed.{with_changed}
 use Rattle.residents.specs.Residents.{are_stuck, is_stuck, HasRoom, are_settled, is_settled}
-use Rattle.cluster_core.specs.View.{duty_by, renewed_by, renewed_by_head}
+use Rattle.cluster_core.specs.View.{renewed_by, renewed_by_head}
 use Rattle.cluster_core.specs.Parts.{IsHeldOwn, IsOwn, WaitsOwn, AllOwn}
-use Rattle.cluster_core.specs.Calls.{are_at_rest, here_after, is_at_rest}
+use Rattle.cluster_core.specs.Calls.{here_after}
 use Rattle.residents.specs.Arriving.{with_page_come}
 use Rattle.residents.specs.declared.quantum.Sending.{Sending}
 use Rattle.residents.specs.declared.quantum.Forking.{Forking}
@@ -67,28 +72,31 @@ has_room cursor here own room p h there = by_held h (own_at cursor here p h own 
 
 -- ---- none of them can move
 
--- who cannot move and does not wait for a page is at rest, since who can take a signal is due
-one_rest : (limits : Limits) (p : Pid) (h : Held) → is_at_rest limits h ≡ is_settled (duty_by limits) (p, h)
-one_rest limits p (Runs s) = alike (has_step (next_step (state_of s))) (can_take (state_of s)) (is_due_by s limits.reads limits.steps)
+-- one that can have no turn and waits for no page runs, and is idle
+pub settled_idle : (duty : DutyView) (p : Pid) (process : Process) → is_settled duty (p, Runs process) ≡ true → is_idle (state_of process) ≡ true
+settled_idle duty p s = by_parts (is_some (backup_owed duty p) && true) (has_step (next_step (state_of s))) (is_due_by s (duty.limits).reads (duty.limits).steps) (can_take (state_of s))
   where
-    alike : (a t b : Bool) → (not (a || t) && not (b || t)) ≡ (not (a || (b || t)) && true)
-    alike true t b = refl
-    alike false true true = refl
-    alike false true false = refl
-    alike false false true = refl
-    alike false false false = refl
-one_rest limits p _ = refl
+    by_parts : (o a b t : Bool) → (not (o || (a || (b || t))) && true) ≡ true → (not (a || t)) ≡ true
+    by_parts true a b t is = absurd (true≢false (sym is))
+    by_parts false true b t is = absurd (true≢false (sym is))
+    by_parts false false true t is = absurd (true≢false (sym is))
+    by_parts false false false true is = absurd (true≢false (sym is))
+    by_parts false false false false is = refl
 
-pub settled_rest : (limits : Limits) (here : List (Pid × Held)) → are_at_rest limits here ≡ are_settled (duty_by limits) here
-settled_rest limits [] = refl
-settled_rest limits (e ∷ here) = λ i. one_rest limits e.0 e.1 i && settled_rest limits here i
+-- one that rolls forward can act
+pub rolls_unsettled : (duty : DutyView) (p : Pid) (process : Process) (counts : Counts) (births : List Pid) → is_settled duty (p, Rolls process counts births) ≡ true → ⊥
+rolls_unsettled duty p process counts births = by_owed (is_some (backup_owed duty p))
+  where
+    by_owed : (o : Bool) → (not ((o && false) || true) && true) ≡ true → ⊥
+    by_owed true is = true≢false (sym is)
+    by_owed false is = true≢false (sym is)
 
--- where none waits, who cannot move is at rest
-none_waits : (limits : Limits) (here : List (Pid × Held)) → any_waits here ≡ false → are_settled (duty_by limits) here ≡ are_stuck (duty_by limits) here
-none_waits limits [] none = refl
-none_waits limits (e ∷ here) none =
+-- where none waits, those that can have no turn are settled
+pub none_waits : (duty : DutyView) (here : List (Pid × Held)) → any_waits here ≡ false → are_settled duty here ≡ are_stuck duty here
+none_waits duty [] none = refl
+none_waits duty (e ∷ here) none =
     let parts = or_parts (is_waiting e.1) (any_waits here) none in
-    λ i. by_stuck (is_stuck (duty_by limits) e) (is_waiting e.1) parts.0 i && none_waits limits here parts.1 i
+    λ i. by_stuck (is_stuck duty e) (is_waiting e.1) parts.0 i && none_waits duty here parts.1 i
   where
     and_true : (a : Bool) → (a && true) ≡ a
     and_true true = refl
@@ -97,21 +105,47 @@ none_waits limits (e ∷ here) none =
     by_stuck : (a b : Bool) → b ≡ false → (a && not b) ≡ a
     by_stuck a b is = ap (λ b. a && not b) is ∙ and_true a
 
-pub stuck_rest : (limits : Limits) (here : List (Pid × Held)) → any_waits here ≡ false → are_at_rest limits here ≡ are_stuck (duty_by limits) here
-stuck_rest limits here none = settled_rest limits here ∙ none_waits limits here none
-
--- where one waits, not all rest
-pub waiting_rests_not : (limits : Limits) (here : List (Pid × Held)) → any_waits here ≡ true → are_at_rest limits here ≡ false
-waiting_rests_not limits [] waits = absurd (true≢false (sym waits))
-waiting_rests_not limits (e ∷ here) waits = by_held e.1 waits (waiting_rests_not limits here)
+-- where one waits, not all are settled
+pub waiting_unsettled : (duty : DutyView) (here : List (Pid × Held)) → any_waits here ≡ true → are_settled duty here ≡ false
+waiting_unsettled duty [] waits = absurd (true≢false (sym waits))
+waiting_unsettled duty (e ∷ here) waits = by_wait (is_waiting e.1) (is_stuck duty e) waits (waiting_unsettled duty here)
   where
-    none_of : (a : Bool) → (a && false) ≡ false
-    none_of true = refl
-    none_of false = refl
+    by_wait : (w a : Bool) → (w || any_waits here) ≡ true → (any_waits here ≡ true → are_settled duty here ≡ false) → ((a && not w) && are_settled duty here) ≡ false
+    by_wait true true is more = refl
+    by_wait true false is more = refl
+    by_wait false true is more = more is
+    by_wait false false is more = refl
 
-    by_held : (h : Held) → (is_waiting h || any_waits here) ≡ true → (any_waits here ≡ true → are_at_rest limits here ≡ false) → (is_at_rest limits h && are_at_rest limits here) ≡ false
-    by_held (Runs s) waits more = ap (λ b. is_at_rest limits (Runs s) && b) (more waits) ∙ none_of (is_at_rest limits (Runs s))
-    by_held _ waits more = refl
+-- where one can have a turn by itself, not all are settled
+pub some_moves : (duty : DutyView) (here : List (Pid × Held)) (p : Pid) (h : Held) → held_of here p ≡ Some h → is_able duty (p, h) ≡ true → are_settled duty here ≡ false
+some_moves duty [] p h there able = cc
+some_moves duty (e ∷ here) p h there able = by_test (same_pid e.0 p) refl there (some_moves duty here p h)
+  where
+    none : (a b : Bool) → b ≡ false → (a && b) ≡ false
+    none true b g = g
+    none false b g = refl
+
+    first : (a w b : Bool) → a ≡ true → ((not a && w) && b) ≡ false
+    first true w b g = refl
+    first false w b g = absurd (true≢false (sym g))
+
+    by_test : (b : Bool) → same_pid e.0 p ≡ b → option_map (λ (e : Pid × Held). e.1) (cond b (Some e) (find (λ (e : Pid × Held). same_pid e.0 p) here)) ≡ Some h
+        → (held_of here p ≡ Some h → is_able duty (p, h) ≡ true → are_settled duty here ≡ false) → are_settled duty (e ∷ here) ≡ false
+    by_test true is at more =
+        let same : e.1 ≡ h = cc in
+        first (is_able duty e) (not (is_waiting e.1)) (are_settled duty here) (sym (λ i. is_able duty (pid_same p e.0 (sym (eqb-true (e.0).0 p.0 is)) i, sym same i)) ∙ able)
+    by_test false is at more = none (is_settled duty e) (are_settled duty here) (more at able)
+
+-- who can act, or comes after its children, can have a turn by itself
+pub acts_able : (duty : DutyView) (p : Pid) (h : Held) → can_act duty.limits h ≡ true → is_able duty (p, h) ≡ true
+acts_able duty p h acts = or_right (is_owed duty (p, h)) (can_act duty.limits h) acts
+
+pub comes_able : (duty : DutyView) (p : Pid) (h : Held) → comes_after duty (p, h) ≡ true → is_able duty (p, h) ≡ true
+comes_able duty p h = by_owed (is_owed duty (p, h))
+  where
+    by_owed : (o : Bool) → (o || comes_after_children duty.limits h) ≡ true → (o || can_act duty.limits h) ≡ true
+    by_owed true comes = refl
+    by_owed false comes = comes_acts duty.limits h comes
 
 -- ---- a turn
 

@@ -30,8 +30,8 @@ use Rattle.replay_laws.specs.forks.ForkWaits.{HasStatedOne, WaitsSo}
 use Rattle.replay_laws.proofs.forks.EitherWait.{for_pages, stated_record}
 use Rattle.replay_laws.proofs.forks.StatedAbove.{stated_above}
 use Rattle.cluster_core.specs.declared.worked.Worked.TheVariants.{Waits as IsWaiting, Rests}
-use Rattle.quanta.specs.declared.limits.Limits.{Limits}
-use Rattle.cluster_core.specs.View.{ClusterView, counted_once, held_at, limits_of, duty_by}
+use Rattle.residents.specs.Duty.{DutyView, is_owed}
+use Rattle.cluster_core.specs.View.{ClusterView, counted_once, held_at, limits_of, duty_of}
 use Rattle.residents.specs.Held.{Held, Runs, Rolls, Waits, can_act, held_of, is_waiting, page_lacked}
 use Rattle.residents.specs.Residents.{are_stuck, pids_in}
 use Rattle.cluster_core.specs.Parts.{AllOwn, IsHeldOwn}
@@ -49,7 +49,7 @@ use Rattle.cluster_core.proofs.losses.FirstServer.{FirstServes, first_serves}
 use Rattle.cluster_core.proofs.here.Here.{is_among}
 use Rattle.residents.proofs.Changing.{same_itself}
 use Rattle.cluster_core.proofs.working.Lightening.{pids_apart}
-use Rattle.cluster_core.proofs.here.Owning.{own_at, stuck_rest, waiting_rests_not}
+use Rattle.cluster_core.proofs.here.Owning.{own_at, none_waits, waiting_unsettled}
 use Rattle.cluster_core.proofs.working.Working.{home_of_it}
 
 -- ---- one of those that are here
@@ -96,13 +96,14 @@ none_passes test (e ∷ here) p h none there = by_pid (same_pid e.0 p) there (no
     by_pid false at more = more at
 
 -- where none can move none acts
-none_acts : (limits : Limits) (here : List (Pid × Held)) → are_stuck (duty_by limits) here ≡ true → list_any (λ (e : Pid × Held). can_act limits e.1) here ≡ false
-none_acts limits [] stuck = refl
-none_acts limits (e ∷ here) stuck = by_test (can_act limits e.1) stuck (none_acts limits here)
+none_acts : (duty : DutyView) (here : List (Pid × Held)) → are_stuck duty here ≡ true → list_any (λ (e : Pid × Held). can_act duty.limits e.1) here ≡ false
+none_acts duty [] stuck = refl
+none_acts duty (e ∷ here) stuck = by_tests (is_owed duty e) (can_act duty.limits e.1) stuck (none_acts duty here)
   where
-    by_test : (b : Bool) → (not b && are_stuck (duty_by limits) here) ≡ true → (are_stuck (duty_by limits) here ≡ true → list_any (λ (e : Pid × Held). can_act limits e.1) here ≡ false) → (b || list_any (λ (e : Pid × Held). can_act limits e.1) here) ≡ false
-    by_test true stuck more = absurd (true≢false (sym stuck))
-    by_test false stuck more = more stuck
+    by_tests : (o b : Bool) → (not (o || b) && are_stuck duty here) ≡ true → (are_stuck duty here ≡ true → list_any (λ (e : Pid × Held). can_act duty.limits e.1) here ≡ false) → (b || list_any (λ (e : Pid × Held). can_act duty.limits e.1) here) ≡ false
+    by_tests true b stuck more = absurd (true≢false (sym stuck))
+    by_tests false true stuck more = absurd (true≢false (sym stuck))
+    by_tests false false stuck more = more stuck
 
 -- ---- a process waits for its pages, or a child for its parent's fork
 
@@ -126,7 +127,7 @@ waits_there here p is = by_found (held_of here p) refl is
     by_found (Some (Waits w)) there is = record { waiting = w; there = there }
     by_found (Some _) there is = absurd (true≢false (sym is))
 
-module _ (c : ClusterView) (valid : is_system c.system ≡ true) (empty : c.queue ≡ []) (own : AllOwn c.cursor c.here) (stuck : are_stuck (duty_by (limits_of c.system)) c.here ≡ true) (lacks : any_lacks c.here ≡ false) (log : List Entry)
+module _ (c : ClusterView) (valid : is_system c.system ≡ true) (empty : c.queue ≡ []) (own : AllOwn c.cursor c.here) (stuck : are_stuck (duty_of c) c.here ≡ true) (lacks : any_lacks c.here ≡ false) (log : List Entry)
     (go : IsOpen MayStand c.system log) (f : FollowsBuilt c.system log c) where
   legal : IsLegalBy Stands c.system log
   legal = built_stands c.system log go.0
@@ -162,7 +163,7 @@ module _ (c : ClusterView) (valid : is_system c.system ≡ true) (empty : c.queu
 
       by_held : (q : Held) → held_of c.here parent ≡ Some q → has_to_bear child q ≡ true → option_map_or is_waiting (held_of c.here parent) false ≡ true
       by_held (Runs s) at bears = absurd (true≢false (sym bears))
-      by_held (Rolls s counts births) at bears = absurd (true≢false (none_passes (can_act (limits_of c.system)) c.here parent (Rolls s counts births) (none_acts (limits_of c.system) c.here stuck) at))
+      by_held (Rolls s counts births) at bears = absurd (true≢false (none_passes (can_act (limits_of c.system)) c.here parent (Rolls s counts births) (none_acts (duty_of c) c.here stuck) at))
       by_held (Waits w) at bears = ap (λ o. option_map_or is_waiting o false) at
 
   -- so some process waits for its pages
@@ -179,7 +180,7 @@ module _ (c : ClusterView) (valid : is_system c.system ≡ true) (empty : c.queu
       by_wait (inr waits) = above (stated_above c.system log (waits_at c.here) valid legal parent_waits p (ap is_some (home p (Waits w) there).found) waits.stateless (ap (λ o. option_map_or is_waiting o false) there))
 
 -- where none can move and one waits, a fetch waits in the log
-pub waited : (c : ClusterView) → is_system c.system ≡ true → c.queue ≡ [] → AllOwn c.cursor c.here → are_stuck (duty_by (limits_of c.system)) c.here ≡ true → any_waits c.here ≡ true → any_lacks c.here ≡ false → WaitsForPages c
+pub waited : (c : ClusterView) → is_system c.system ≡ true → c.queue ≡ [] → AllOwn c.cursor c.here → are_stuck (duty_of c) c.here ≡ true → any_waits c.here ≡ true → any_lacks c.here ≡ false → WaitsForPages c
 waited c valid empty own stuck waits lacks log go f = by_held one.held one.there one.passes
   where
     one : Found is_waiting c.here
@@ -216,8 +217,8 @@ unowed c none log go f first = by_server c.server ((f.accounts).there serves.unl
 
 -- ---- what a work says then
 
-pub rested_work : (c : ClusterView) → AllOwn c.cursor c.here → OwesNothing c → are_stuck (duty_by (limits_of c.system)) c.here ≡ true → any_waits c.here ≡ false → WorkIs c Rests (counted_once c)
-rested_work c own nothing stuck none = (nothing, stuck_rest (limits_of c.system) c.here none ∙ stuck, unowed c nothing.unowed, refl)
+pub rested_work : (c : ClusterView) → AllOwn c.cursor c.here → OwesNothing c → are_stuck (duty_of c) c.here ≡ true → any_waits c.here ≡ false → WorkIs c Rests (counted_once c)
+rested_work c own nothing stuck none = (nothing, none_waits (duty_of c) c.here none ∙ stuck, unowed c nothing.unowed, refl)
 
-pub waited_work : (c : ClusterView) → is_system c.system ≡ true → c.queue ≡ [] → AllOwn c.cursor c.here → OwesNothing c → are_stuck (duty_by (limits_of c.system)) c.here ≡ true → any_waits c.here ≡ true → WorkIs c IsWaiting (counted_once c)
-waited_work c valid empty own nothing stuck waits = (nothing, waiting_rests_not (limits_of c.system) c.here waits, waited c valid empty own stuck waits nothing.none, unowed c nothing.unowed, refl)
+pub waited_work : (c : ClusterView) → is_system c.system ≡ true → c.queue ≡ [] → AllOwn c.cursor c.here → OwesNothing c → are_stuck (duty_of c) c.here ≡ true → any_waits c.here ≡ true → WorkIs c IsWaiting (counted_once c)
+waited_work c valid empty own nothing stuck waits = (nothing, waiting_unsettled (duty_of c) c.here waits, waited c valid empty own stuck waits nothing.none, unowed c nothing.unowed, refl)

@@ -13,6 +13,8 @@ use Rattle.rv_mem.specs.Memory.{page_at}
 use Rattle.proc_state.specs.declared.process.Process.{Process}
 use Rattle.proc_state.specs.State.{ProcState, state_of}
 use Rattle.bus_msg.specs.declared.entry.Entry.{Entry}
+use Rattle.bus_msg.specs.declared.entry.What.{What}
+use Rattle.bus_msg.specs.declared.entry.What.TheVariants.{Rebackup}
 use Rattle.bus_msg.specs.declared.entry.Post.{Post}
 use Rattle.bus_msg.specs.Places.{Places, same_pid}
 use Rattle.bus_msg.specs.PlacedAfter.{placed_after, what}
@@ -52,7 +54,7 @@ use Rattle.cluster_core.specs.Queue.{Nothing}
 use Rattle.cluster_core.specs.Renewing.{Renews, renewing_left}
 use Rattle.cluster_core.specs.Serving.{Serves}
 use Rattle.cluster_core.specs.Standing.{has_begun}
-use Rattle.cluster_core.specs.View.{ClusterView, after_sent, head_of, held_at, limits_of, with_server}
+use Rattle.cluster_core.specs.View.{ClusterView, after_sent, renewed_by, renewed_by_head, head_of, held_at, limits_of, with_server}
 use Rattle.cluster_core.proofs.absorbing.ByKind.{IsRenewal}
 use Rattle.cluster_core.proofs.absorbing.Counted.{lost_before}
 use Rattle.cluster_core.proofs.absorbing.Following.{counted_own}
@@ -84,6 +86,18 @@ pids_renewed p (e ∷ here) = by_test (same_pid e.0 p) (pids_renewed p here)
     by_test : (b : Bool) → pids_in (with_renewed p here) ≡ pids_in here → ((cond b (e.0, renewed_held e.1) e).0).0 ∷ pids_in (with_renewed p here) ≡ (e.0).0 ∷ pids_in here
     by_test true more = ap (λ ns. (e.0).0 ∷ ns) more
     by_test false more = ap (λ ns. (e.0).0 ∷ ns) more
+
+-- so is it of the head of a queue that was sent
+pub pids_by_head : (queue : List Post) (here : List (Pid × Held)) → pids_in (renewed_by_head queue here) ≡ pids_in here
+pids_by_head [] here = refl
+pids_by_head (head ∷ rest) here = by_what head.what
+  where
+    by_what : (w : What) → pids_in (renewed_by w here) ≡ pids_in here
+    by_what (Rebackup to true (r ∷ rs)) = pids_renewed r.pid here
+    by_what (Rebackup to true []) = refl
+    by_what (Rebackup to false recs) = refl
+    by_what _ = refl
+
 
 -- what is found then: at its pid it as it counts then, and at any other what was there
 renewed_found : (p : Pid) (here : List (Pid × Held)) (q : Pid) → held_of (with_renewed p here) q ≡ option_map (λ h. cond (same_pid p q) (renewed_held h) h) (held_of here q)

@@ -9,6 +9,7 @@ use Rattle.sys_text.specs.declared.system.System.{System}
 use Rattle.sys_text.specs.Valid.{is_system}
 use Rattle.proc_state.specs.declared.process.Process.{Process}
 use Rattle.proc_state.specs.State.{can_take, state_of}
+use Rattle.backup_mode.specs.Renewal.{cleared}
 use Rattle.sync_point.specs.Batch.{after_take, synced}
 use Rattle.sync_point.proofs.Cuts.{cut_keeps}
 use Rattle.sys_calls.proofs.TakeLaws.{taken_strikes}
@@ -31,7 +32,7 @@ use Rattle.residents.specs.ForkingAgain.{RollsAgain}
 use Rattle.cluster_core.specs.View.{ClusterView, has_moved, held_load, limits_of, load, process_load}
 use Rattle.residents.specs.Held.{Held, Runs, asked_held, held_of}
 use Rattle.cluster_core.specs.Follows.{FollowsBuilt}
-use Rattle.cluster_core.specs.Calls.{FollowsSome, QueuesBatch, QueuesBirth, QueuesFetch, QueuesOne, WorkIs}
+use Rattle.cluster_core.specs.Calls.{FollowsSome, QueuesBatch, QueuesBirth, QueuesFresh, QueuesFetch, QueuesOne, WorkIs}
 use Rattle.residents.specs.Quantum.{Moves}
 use Rattle.residents.specs.Residents.{pids_in}
 use Rattle.residents.specs.Changed.{with_changed}
@@ -150,6 +151,12 @@ batch_lightens old new valid f one =
     let fewer : sum_held (with_changed one.pid (Runs (synced one.process)) old.here) + 0 ≤ sum_held old.here = one_lighter one.pid (Runs one.process) (Runs (synced one.process)) 0 old.here (held_apart old valid f) one.there less in
     omega (arith, fewer, ap load one.rest)
 
+-- one whose new backup is queued has as much left
+fresh_lightens : (old new : ClusterView) → is_system old.system ≡ true → FollowsSome old → QueuesFresh old new → load new ≤ load old
+fresh_lightens old new valid f one =
+    let fewer : sum_held (with_changed one.pid (Runs (cleared one.process)) old.here) + 0 ≤ sum_held old.here = one_lighter one.pid (Runs one.process) (Runs (cleared one.process)) 0 old.here (held_apart old valid f) one.there (omega arith) in
+    omega (arith, fewer, ap load one.rest)
+
 -- a page that is asked for is no step
 asked_load : (h : Held) → held_load (asked_held h) ≡ held_load h
 asked_load (Runs p) = refl
@@ -169,7 +176,8 @@ queued_lightens old new valid f (inr (inl answer)) = omega (arith, ap load (answ
 queued_lightens old new valid f (inr (inr (inl asked))) = asked_lightens old new valid f asked.2
 queued_lightens old new valid f (inr (inr (inr acted))) = by_kind acted.2
   where
-    by_kind : QueuesOne old new ⊎ QueuesBatch old new ⊎ QueuesBirth old new → load new ≤ load old
+    by_kind : QueuesOne old new ⊎ QueuesBatch old new ⊎ QueuesBirth old new ⊎ QueuesFresh old new → load new ≤ load old
     by_kind (inl sent) = omega (arith, sent_lightens old valid f new sent)
     by_kind (inr (inl batch)) = batch_lightens old new valid f batch
-    by_kind (inr (inr birth)) = birth_lightens old valid f new birth
+    by_kind (inr (inr (inl birth))) = birth_lightens old valid f new birth
+    by_kind (inr (inr (inr fresh))) = fresh_lightens old new valid f fresh

@@ -14,19 +14,17 @@ use Rattle.cert_sched.specs.Schedule.{done_after}
 use Rattle.cert_sched.specs.Steps.{silent_upto}
 use Rattle.cert_sched.specs.Rests.{is_idle, is_idle_at}
 use Rattle.proc_state.specs.declared.process.Process.{Process}
-use Rattle.quanta.specs.declared.limits.Limits.{Limits}
-use Rattle.quanta.specs.Limited.{is_due}
-use Rattle.cluster_core.specs.View.{ClusterView, limits_of, duty_by}
-use Rattle.residents.specs.Held.{Held, Runs, held_of, steps_of_held}
+use Rattle.residents.specs.Duty.{DutyView}
+use Rattle.cluster_core.specs.View.{ClusterView, duty_of}
+use Rattle.residents.specs.Held.{Held, Runs, Rolls, Waits, held_of, steps_of_held}
 use Rattle.bus_msg.specs.Places.{same_pid}
 use Rattle.cert_sched.proofs.RisingLaws.{NoTwo}
 use Rattle.cluster_core.proofs.here.Here.{is_among}
 use Rattle.residents.proofs.Changing.{same_itself}
-use Rattle.residents.specs.Residents.{are_rising, pids_in, are_settled}
-use Rattle.cluster_core.specs.Parts.{AllOwn}
-use Rattle.cluster_core.specs.Calls.{RestsIn, are_at_rest, is_at_rest, is_resting, rests_of}
+use Rattle.residents.specs.Residents.{are_rising, pids_in, are_settled, is_settled, is_stuck}
+use Rattle.cluster_core.specs.Calls.{RestsIn, is_resting, rests_of}
 use Rattle.residents.specs.Told.{rests_in}
-use Rattle.cluster_core.proofs.here.Owning.{settled_rest}
+use Rattle.cluster_core.proofs.here.Owning.{rolls_unsettled, settled_idle}
 use Rattle.cluster_core.proofs.working.Working.{ahead, held_before}
 
 -- ---- a process at rest
@@ -64,20 +62,21 @@ apart (n ∷ ns) h = let parts = and_parts (list_all (λ m. ltb n m) ns) (are_ri
 
 -- ---- what is told
 
--- what is at rest runs, and is so in each log in which it is found after silent steps
-rest_idle : (system : System) (limits : Limits) (log : List Entry) (p : Pid) (h : Held) → ((s : Process) → h ≡ Runs s → silent_upto system log p (s.small).steps ≡ Some (state_of s)) → is_at_rest limits h ≡ true → is_idle_at system log (p, steps_of_held h) ≡ true
-rest_idle system limits log p (Runs s) there rest = idle_at system log p (state_of s) (there s refl) (and_parts (is_idle (state_of s)) (not (is_due limits s)) rest).0
-rest_idle system limits log p _ there rest = absurd (true≢false (sym rest))
+-- what is settled runs, and is idle in each log in which it is found after silent steps
+rest_idle : (system : System) (duty : DutyView) (log : List Entry) (p : Pid) (h : Held) → ((s : Process) → h ≡ Runs s → silent_upto system log p (s.small).steps ≡ Some (state_of s)) → is_settled duty (p, h) ≡ true → is_idle_at system log (p, steps_of_held h) ≡ true
+rest_idle system duty log p (Runs s) there rest = idle_at system log p (state_of s) (there s refl) (settled_idle duty p s rest)
+rest_idle system duty log p (Rolls s counts births) there rest = absurd (rolls_unsettled duty p s counts births rest)
+rest_idle system duty log p (Waits waiting) there rest = absurd (true≢false (sym (and_parts (is_stuck duty (p, Waits waiting)) false rest).1))
 
--- each that is at rest here is so in each log that the cluster follows
-each_idle : (c : ClusterView) (log : List Entry) (here : List (Pid × Held)) → ((p : Pid) (s : Process) → held_of here p ≡ Some (Runs s) → silent_upto c.system log p (s.small).steps ≡ Some (state_of s)) → NoTwo (pids_in here)
-    → are_at_rest (limits_of c.system) here ≡ true → list_all (is_idle_at c.system log) (rests_in here) ≡ true
-each_idle c log [] there two rest = refl
-each_idle c log (e ∷ here) there two rest =
-    let parts = and_parts (is_at_rest (limits_of c.system) e.1) (are_at_rest (limits_of c.system) here) rest in
+-- each that is settled here is so in each log that the cluster follows
+each_idle : (c : ClusterView) (duty : DutyView) (log : List Entry) (here : List (Pid × Held)) → ((p : Pid) (s : Process) → held_of here p ≡ Some (Runs s) → silent_upto c.system log p (s.small).steps ≡ Some (state_of s)) → NoTwo (pids_in here)
+    → are_settled duty here ≡ true → list_all (is_idle_at c.system log) (rests_in here) ≡ true
+each_idle c duty log [] there two rest = refl
+each_idle c duty log (e ∷ here) there two rest =
+    let parts = and_parts (is_settled duty e) (are_settled duty here) rest in
     let first : held_of (e ∷ here) e.0 ≡ Some e.1 = ap (λ b. option_map (λ (e : Pid × Held). e.1) (cond b (Some e) (find (λ (q : Pid × Held). same_pid q.0 e.0) here))) (same_itself e.0) in
-    and_from (is_idle_at c.system log (e.0, steps_of_held e.1)) _ (rest_idle c.system (limits_of c.system) log e.0 e.1 (λ s is. there e.0 s (first ∙ ap Some is)) parts.0)
-    (each_idle c log here (λ p s at. there p s (beside p s at (same_pid e.0 p) refl)) two.1 parts.1)
+    and_from (is_idle_at c.system log (e.0, steps_of_held e.1)) _ (rest_idle c.system duty log e.0 e.1 (λ s is. there e.0 s (first ∙ ap Some is)) parts.0)
+    (each_idle c duty log here (λ p s at. there p s (beside p s at (same_pid e.0 p) refl)) two.1 parts.1)
   where
     beside : (p : Pid) (s : Process) → held_of here p ≡ Some (Runs s) → (b : Bool) → same_pid e.0 p ≡ b → held_of (e ∷ here) p ≡ Some (Runs s)
     beside p s at true is = absurd (true≢false (sym (ap (λ n. list_any (λ m. eqb m n) (pids_in here)) (eqb-true (e.0).0 p.0 is) ∙ is_among here p (Runs s) at) ∙ two.0))
@@ -87,7 +86,7 @@ each_idle c log (e ∷ here) there two rest =
 pub rests_told : (c : ClusterView) → are_rising (pids_in c.here) ≡ true → is_resting c ≡ true → RestsIn c (rests_in c.here)
 rests_told c ordered at_rest empty log now f = record {
   named = same_pids c.here ∙ sym (rises (pids_in c.here) ordered) ∙ (f.processes).each_once;
-  idle = each_idle c log c.here (λ p s there. held_before c log p s empty f there) (apart (pids_in c.here) ordered) at_rest;
+  idle = each_idle c (duty_of c) log c.here (λ p s there. held_before c log p s empty f there) (apart (pids_in c.here) ordered) at_rest;
 }
   where
     same_pids : (here : List (Pid × Held)) → map (λ (r : Pid × ℕ). (r.0).0) (rests_in here) ≡ pids_in here
@@ -95,17 +94,11 @@ rests_told c ordered at_rest empty log now f = record {
     same_pids (e ∷ here) = ap (λ ns. (e.0).0 ∷ ns) (same_pids here)
 
 -- what a call answers that tells them
-pub told_rests : {E : Type 0} (c : ClusterView) (result : Result (Option (List (Pid × ℕ))) E) → AllOwn c.cursor c.here → are_rising (pids_in c.here) ≡ true
-    → IfOk result (λ rests. rests ≡ cond (are_settled (duty_by (limits_of c.system)) c.here) (Some (rests_in c.here)) None) → IfOk result (λ rests. IfSome rests (RestsIn c))
-told_rests c (Err e) own ordered told = tt
-told_rests c (Ok o) own ordered told = by_test (are_settled (duty_by (limits_of c.system)) c.here) refl told
+pub told_rests : {E : Type 0} (c : ClusterView) (result : Result (Option (List (Pid × ℕ))) E) → are_rising (pids_in c.here) ≡ true
+    → IfOk result (λ rests. rests ≡ cond (is_resting c) (Some (rests_of c)) None) → IfOk result (λ rests. IfSome rests (RestsIn c))
+told_rests c (Err e) ordered told = tt
+told_rests c (Ok o) ordered told = by_test (is_resting c) refl told
   where
-    by_test : (b : Bool) → are_settled (duty_by (limits_of c.system)) c.here ≡ b → o ≡ cond b (Some (rests_in c.here)) None → IfSome o (RestsIn c)
-    by_test true settled is = let P : Option (List (Pid × ℕ)) → Type 0 = λ o. IfSome o (RestsIn c) in subst P (sym is) (rests_told c ordered (settled_rest (limits_of c.system) c.here ∙ settled))
+    by_test : (b : Bool) → is_resting c ≡ b → o ≡ cond b (Some (rests_of c)) None → IfSome o (RestsIn c)
+    by_test true settled is = let P : Option (List (Pid × ℕ)) → Type 0 = λ o. IfSome o (RestsIn c) in subst P (sym is) (rests_told c ordered settled)
     by_test false settled is = let P : Option (List (Pid × ℕ)) → Type 0 = λ o. IfSome o (RestsIn c) in subst P (sym is) tt
-
--- it answers so of the cluster
-pub answered_rests : {E : Type 0} (c : ClusterView) (result : Result (Option (List (Pid × ℕ))) E) → AllOwn c.cursor c.here
-    → IfOk result (λ rests. rests ≡ cond (are_settled (duty_by (limits_of c.system)) c.here) (Some (rests_in c.here)) None) → IfOk result (λ rests. rests ≡ cond (is_resting c) (Some (rests_of c)) None)
-answered_rests c (Err e) own told = tt
-answered_rests c (Ok o) own told = told ∙ ap (λ b. cond b (Some (rests_in c.here)) None) (sym (settled_rest (limits_of c.system) c.here))

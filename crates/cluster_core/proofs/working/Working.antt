@@ -45,7 +45,7 @@ use Rattle.cluster_core.specs.Queue.{IsQueueLegal, Nothing, One, is_lone, move_o
 use Rattle.cluster_core.specs.Holds.{CarriesMarks, HoldsLimits, HoldsPages, IsHeldAs, MarkedIfThere, is_fetch_queued, process_in, unended_process}
 use Rattle.cluster_core.specs.Standing.{HoldsBackups, has_begun}
 use Rattle.cluster_core.specs.Follows.{FollowsBuilt, IsOpen, QueuedIn}
-use Rattle.cluster_core.specs.Calls.{GoesOn, OwesNothing, WorkIs, is_at_rest, are_at_rest, is_resting}
+use Rattle.cluster_core.specs.Calls.{GoesOn, OwesNothing, WorkIs, is_resting}
 use Rattle.residents.specs.declared.quantum.Sending.{Sending}
 use Rattle.residents.specs.Quantum.{EndsChildless, Moves, RollsTo, RunsTo, Sends, told_of, post_told}
 use Rattle.cluster_core.proofs.births.ChildrenKept.{synced_where_none}
@@ -232,35 +232,6 @@ goes_on_tried c log now f = follows_tried c log f
 
 abbrev pub moved_view : ClusterView → List (Pid × Held) → ClusterView
 moved_view c here = record c { here = here; steps = next_count c.steps }
-
--- where one can move, not all rest
-pub some_moves : (limits : Limits) (here : List (Pid × Held)) (p : Pid) (h : Held) → held_of here p ≡ Some h → can_act limits h ≡ true → are_at_rest limits here ≡ false
-some_moves limits [] p h there can = cc
-some_moves limits (e ∷ here) p h there can = by_test (same_pid e.0 p) there (some_moves limits here p h)
-  where
-    none : (a b : Bool) → b ≡ false → (a && b) ≡ false
-    none true b g = g
-    none false b g = refl
-
-    first : (a b : Bool) → a ≡ false → (a && b) ≡ false
-    first true b g = absurd (true≢false g)
-    first false b g = refl
-
-    busy : (a b c : Bool) → (a || c) ≡ true → (not (a || b) && not c) ≡ false
-    busy true b c can = refl
-    busy false true c can = refl
-    busy false false c can = ap not can
-
-    moves : (h : Held) → can_act limits h ≡ true → is_at_rest limits h ≡ false
-    moves (Runs s) can = busy (has_step (next_step (state_of s))) (can_take (state_of s)) (is_due limits s) can
-    moves _ can = refl
-
-    by_test : (b : Bool) → option_map (λ (e : Pid × Held). e.1) (cond b (Some e) (find (λ (e : Pid × Held). same_pid e.0 p) here)) ≡ Some h
-        → (held_of here p ≡ Some h → can_act limits h ≡ true → are_at_rest limits here ≡ false) → are_at_rest limits (e ∷ here) ≡ false
-    by_test true is more =
-        let same : h ≡ e.1 = cc in
-        first (is_at_rest limits e.1) (are_at_rest limits here) (ap (is_at_rest limits) (sym same) ∙ moves h can)
-    by_test false is more = none (is_at_rest limits e.1) (are_at_rest limits here) (more is can)
 
 pub moved_work : (c : ClusterView) (p : Pid) (made : ℕ) (mid : List (Pid × Held)) (was now : Held) → OwesNothing c → is_resting c ≡ false → RollsAgain p made c.here mid → held_of mid p ≡ Some was → Moves (limits_of c.system) 64 made was now → WorkIs c Moved (moved_view c (with_changed p now mid))
 moved_work c p made mid was now nothing busy again there moves = (nothing, busy, record { pid = p; made = made; mid = mid; again = again; was = was; now = now; there = there; moves = moves; rest = refl })

@@ -9,7 +9,8 @@ use Rattle.cluster_core.specs.Sent.{is_sent}
 use Rattle.cert_sched.specs.Losses.{is_from}
 use Rattle.cert_sched.specs.Schedule.{places_at_boot}
 use Rattle.log_laws.specs.records.Kept.{KeepsRecords}
-use Rattle.cluster_core.specs.View.{ClusterView, limits_of, duty_by}
+use Rattle.cluster_core.specs.View.{ClusterView, limits_of}
+use Rattle.residents.specs.Owing.{duty_in}
 use Rattle.residents.specs.Held.{Held}
 use Rattle.cluster_core.specs.Booting.{AreBooted}
 use Rattle.cluster_core.specs.Follows.{FollowsBuilt}
@@ -45,7 +46,7 @@ invariant_of-result g c =
     record {
       valid = rw shared c.requires.valid;
       has = rw shared c.requires.has;
-      duty_are = c.in_ok-parts.ensures.duty ∙ ap (λ (s : System). duty_by (limits_of s)) (c.deref-2.ensures ∙ sym shared);
+      duty_are = c.in_ok-parts.ensures.duty ∙ ap (λ (s : System). duty_in (limits_of s) c.in_ok-places.places here) (c.deref-2.ensures ∙ sym shared);
       residents = by_failed c.in_ok-parts.parts.failed refl;
       own = ap (list_all (λ (post : Post). is_from c.args.number post.by)) c.new.ensures.items;
       built = ap (list_all (λ (post : Post). is_sent post.what)) c.new.ensures.items;

@@ -3,10 +3,13 @@ use Rattle.std.specs.List.{list_all}
 use Rattle.bus_msg.specs.declared.entry.Post.{Post}
 use Rattle.sys_text.specs.Valid.{is_system}
 use Rattle.cert_sched.specs.Losses.{is_from}
-use Rattle.cluster_core.specs.View.{ClusterView, duty_by, limits_of}
+use Rattle.cluster_core.specs.View.{ClusterView, duty_of, limits_of}
 use Rattle.cluster_core.specs.Calls.{GoesOn, WorkIs}
 use Rattle.residents.specs.ForkingAgain.{CanForkAgain}
 use Rattle.cluster_core.specs.Parts.{AllOwn}
+use Rattle.std.specs.Arc.{arc_value}
+use Rattle.residents.specs.Owing.{owing_in}
+use Rattle.residents.specs.Residents.{pids_in}
 use Rattle.cluster_core.proofs.forks.CanFork.{can_fork_again}
 use Rattle.cluster_core.specs.Serving.{CanAnswer}
 use Rattle.cluster_core.specs.Work.{WorksOn, next_pid}
@@ -53,7 +56,7 @@ returns-clause-follows g c =
     let has = subst (λ (v : ClusterView). (v.number).0 < (v.system).clusters) c.self.view_is c.self.invariant.has in
     let valid = subst (λ (v : ClusterView). is_system v.system ≡ true) c.self.view_is c.self.invariant.valid in
     let on = subst (λ (v : ClusterView). WorksOn v.number v.places v.family v.owed c.self.inside.here v.server c.in_ok-worked.worked c.work_on.new.here c.work_on.new.server c.work_on.new.queue.items) c.self.view_is c.in_ok-worked.ensures.ok in
-    let duty = c.self.invariant.duty_are ∙ ap (λ (v : ClusterView). duty_by (limits_of v.system)) c.self.view_is in
+    let duty = c.self.invariant.duty_are ∙ ap duty_of c.self.view_is in
     let done = works old c.requires.follows c.requires.empty own valid has c.self.inside.here c.work_on.new.here c.work_on.new.server c.in_ok-worked.worked c.work_on.new.queue.items duty (ap (λ (v : ClusterView). v.here) c.self.view_is) on in
     let whole : c.count_step.new.self ≡ worked_view old c.work_on.new.here.here c.work_on.new.server c.work_on.new.queue.items =
     c.count_step.ensures ∙ ap (λ (v : ClusterView). worked_view v c.work_on.new.here.here c.work_on.new.server c.work_on.new.queue.items) c.self.view_is in
@@ -66,7 +69,7 @@ returns-clause-work g c =
     let has = subst (λ (v : ClusterView). (v.number).0 < (v.system).clusters) c.self.view_is c.self.invariant.has in
     let valid = subst (λ (v : ClusterView). is_system v.system ≡ true) c.self.view_is c.self.invariant.valid in
     let on = subst (λ (v : ClusterView). WorksOn v.number v.places v.family v.owed c.self.inside.here v.server c.in_ok-worked.worked c.work_on.new.here c.work_on.new.server c.work_on.new.queue.items) c.self.view_is c.in_ok-worked.ensures.ok in
-    let duty = c.self.invariant.duty_are ∙ ap (λ (v : ClusterView). duty_by (limits_of v.system)) c.self.view_is in
+    let duty = c.self.invariant.duty_are ∙ ap duty_of c.self.view_is in
     let done = works old c.requires.follows c.requires.empty own valid has c.self.inside.here c.work_on.new.here c.work_on.new.server c.in_ok-worked.worked c.work_on.new.queue.items duty (ap (λ (v : ClusterView). v.here) c.self.view_is) on in
     let whole : c.count_step.new.self ≡ worked_view old c.work_on.new.here.here c.work_on.new.server c.work_on.new.queue.items =
     c.count_step.ensures ∙ ap (λ (v : ClusterView). worked_view v c.work_on.new.here.here c.work_on.new.server c.work_on.new.queue.items) c.self.view_is in
@@ -79,12 +82,12 @@ invariant_of-self-2 g c =
     let has = subst (λ (v : ClusterView). (v.number).0 < (v.system).clusters) c.self.view_is c.self.invariant.has in
     let valid = subst (λ (v : ClusterView). is_system v.system ≡ true) c.self.view_is c.self.invariant.valid in
     let on = subst (λ (v : ClusterView). WorksOn v.number v.places v.family v.owed c.self.inside.here v.server c.in_ok-worked.worked c.work_on.new.here c.work_on.new.server c.work_on.new.queue.items) c.self.view_is c.in_ok-worked.ensures.ok in
-    let duty = c.self.invariant.duty_are ∙ ap (λ (v : ClusterView). duty_by (limits_of v.system)) c.self.view_is in
+    let duty = c.self.invariant.duty_are ∙ ap duty_of c.self.view_is in
     let done = works old c.requires.follows c.requires.empty own valid has c.self.inside.here c.work_on.new.here c.work_on.new.server c.in_ok-worked.worked c.work_on.new.queue.items duty (ap (λ (v : ClusterView). v.here) c.self.view_is) on in
     record {
       valid = c.self.invariant.valid;
       has = c.self.invariant.has;
-      duty_are = c.work_on.ensures.duty ∙ c.self.invariant.duty_are;
+      duty_are = c.work_on.ensures.duty ∙ c.self.invariant.duty_are ∙ ap (λ pids. record { limits = limits_of (arc_value c.self.inside.system); owing = owing_in c.self.inside.places pids }) (ap (λ (v : ClusterView). pids_in v.here) c.self.view_is ∙ sym done.pids);
       residents = subst (λ (v : ClusterView). AllOwn v.cursor c.work_on.new.here.here) (sym c.self.view_is) done.residents;
       own = subst (λ (v : ClusterView). list_all (λ (post : Post). is_from v.number post.by) c.work_on.new.queue.items ≡ true) (sym c.self.view_is) done.own;
       built = done.built;

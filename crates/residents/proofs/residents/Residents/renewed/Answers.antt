@@ -1,7 +1,6 @@
 use Rattle.std.proofs.Common.{◌∙◌, ap, sym, is_some}
 use Rattle.slab.specs.Slab.{with_value}
 use Rattle.slab.proofs.SlabLemmas.{Updates-with_value}
-use Rattle.plain_kernel.specs.Maps.{pid_of}
 use Rattle.residents.specs.Held.{Held, page_lacked}
 use Rattle.residents.specs.Residents.{ResidentsView}
 use Rattle.residents.specs.Duty.{is_able}
