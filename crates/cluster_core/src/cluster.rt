@@ -11,13 +11,13 @@ ghost use Rattle.cluster_core.specs.Follows.{FollowsBuilt};
 ghost use Rattle.cluster_core.specs.Returned.{returned};
 ghost use Rattle.cluster_core.specs.Calls.{Absorbs, absorbed, FollowsSome, GoesOn, HurtBy, HurtIs, is_resting, IsFirst, KeepsPlace, ReadyFor, RestsIn, rests_of, StopsBy, WorkIs};
 
-use crate::taking_in::take_entry;
 use crate::booting::{limits_of, parts_at_boot};
 use crate::falling::drop_fallen;
 use crate::hurt::Hurt;
 use crate::known::Known;
 use crate::owed::Owed;
 use crate::serving::serve;
+use crate::taking_in::take_entry;
 use crate::work::work_on;
 use crate::worked::Worked;
 use backup_records::records::Records;

@@ -98,7 +98,6 @@ pids_by_head (head ∷ rest) here = by_what head.what
     by_what (Rebackup to false recs) = refl
     by_what _ = refl
 
-
 -- what is found then: at its pid it as it counts then, and at any other what was there
 renewed_found : (p : Pid) (here : List (Pid × Held)) (q : Pid) → held_of (with_renewed p here) q ≡ option_map (λ h. cond (same_pid p q) (renewed_held h) h) (held_of here q)
 renewed_found p [] q = refl

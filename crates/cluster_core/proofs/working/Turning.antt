@@ -21,7 +21,7 @@ use Rattle.residents.specs.declared.quantum.Quantum.TheVariants.{Moved as Quantu
 use Rattle.cluster_core.specs.declared.worked.Worked.{Worked}
 use Rattle.cluster_core.specs.declared.worked.Worked.TheVariants.{Moved, Queued, Waits, Rests}
 use Rattle.cluster_core.specs.View.{ClusterView, counted_once, held_at, limits_of, next_count, duty_of}
-use Rattle.residents.specs.Held.{Held, Runs, asked_held, can_act, held_of}
+use Rattle.residents.specs.Held.{Held, Runs, asked_held, held_of}
 use Rattle.plain_kernel.specs.Maps.{pid_of}
 use Rattle.residents.specs.Residents.{ChosenTurn, HasTurn, ResidentsView, SyncsChild, TakesTurn, none_has_turn, pids_in, Renews}
 use Rattle.residents.specs.Changed.{with_changed}

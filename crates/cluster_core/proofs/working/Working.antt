@@ -1,6 +1,6 @@
 -- A cluster that works goes on to follow each log that it followed.
-use Rattle.std.proofs.Common.{◌≡◌, ℕ, zero, suc, ◌+◌, ◌-◌, ◌≤◌, ◌<◌, refl, sym, ◌∙◌, ap, subst, arith, List, [], ◌∷◌, Bool, true, false, cond, not, ◌&&◌, ◌||◌, eqb-true, eq-eqb, add-zero, Option, Some, None, is_none, is_some, inl, inr, true≢false}
-use Rattle.std.specs.Prelude.{option_map, option_and_then, find}
+use Rattle.std.proofs.Common.{◌≡◌, ℕ, zero, suc, ◌+◌, ◌-◌, ◌≤◌, ◌<◌, refl, sym, ◌∙◌, ap, subst, arith, List, [], ◌∷◌, Bool, true, false, cond, ◌&&◌, eqb-true, eq-eqb, add-zero, Option, Some, None, is_none, is_some, inl, inr, true≢false}
+use Rattle.std.specs.Prelude.{option_map, option_and_then}
 use Rattle.std.specs.Option.{option_map_or}
 use Rattle.t32_base.specs.declared.process.Pid.{Pid}
 use Rattle.t32_base.specs.declared.process.ClusterNo.{ClusterNo}
@@ -11,7 +11,7 @@ use Rattle.proc_state.specs.State.{ProcState, state_of, can_take}
 use Rattle.sys_calls.specs.declared.steps.Emission.{Emission}
 use Rattle.sys_calls.specs.declared.steps.Emission.TheVariants.{Mail as Sent, Exit as Ended}
 use Rattle.sys_calls.specs.Calls.{Emits}
-use Rattle.sys_calls.specs.Next.{next_step, has_step, is_end, silently, silent_of, emission_of, last_emission}
+use Rattle.sys_calls.specs.Next.{next_step, is_end, silently, silent_of, emission_of, last_emission}
 use Rattle.sys_calls.proofs.Counting.{silently_counts, emits_counts, letter_is_own}
 use Rattle.bus_msg.specs.declared.entry.What.TheVariants.{Mail, Exit}
 use Rattle.bus_msg.specs.declared.entry.By.TheVariants.{Cluster}
@@ -32,10 +32,8 @@ use Rattle.cert_sched.specs.Losses.{least_steps, capped, is_from, is_page_is_ent
 use Rattle.cert_sched.specs.Appended.{entry_of}
 use Rattle.cert_sched.proofs.StepLaws.{Tells, sent_applies}
 use Rattle.cluster_core.specs.declared.worked.Worked.TheVariants.{Moved, Queued}
-use Rattle.quanta.specs.declared.limits.Limits.{Limits}
-use Rattle.quanta.specs.Limited.{is_due}
 use Rattle.cluster_core.specs.View.{ClusterView, held_at, limits_of, next_count, counted_once, tried_once}
-use Rattle.residents.specs.Held.{Held, Runs, Rolls, Waits, IsHeldWithin, can_act, held_of}
+use Rattle.residents.specs.Held.{Held, Runs, Rolls, Waits, IsHeldWithin, held_of}
 use Rattle.residents.specs.Residents.{pids_in}
 use Rattle.residents.specs.Changed.{with_changed}
 use Rattle.residents.specs.ForkingAgain.{RollsAgain}

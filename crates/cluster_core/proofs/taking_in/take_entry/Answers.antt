@@ -1,9 +1,7 @@
-use Rattle.std.proofs.Common.{◌≡◌, sym, subst, ◌∙◌, ap, false}
-use Rattle.bus_msg.specs.PlacedAfter.{what, placed_after}
+use Rattle.std.proofs.Common.{sym, subst, ◌∙◌}
+use Rattle.bus_msg.specs.PlacedAfter.{what}
 use Rattle.residents.specs.Owing.{duty_in}
 use Rattle.backup_records.specs.Records.{records_after}
-use Rattle.cluster_core.specs.Absorbing.{changes_owing}
-use Rattle.cluster_core.specs.Calls.{here_after}
 use Rattle.cluster_core.specs.Recovered.{CanWait, moved_by, with_all_waiting}
 use Rattle.cluster_core.proofs.absorbing.Owing.{owing_stays}
 use Rattle.cluster_core.proofs.taking_in.take_entry.Goals as goal

@@ -9,21 +9,20 @@ use Rattle.sys_text.specs.Valid.{is_system}
 use Rattle.sys_text.proofs.Bounds.{system_bounds}
 use Rattle.channel_table.specs.Changes.{CanBeAbsorbed}
 use Rattle.backup_records.specs.Records.{CanNote, are_rising, records_after}
-use Rattle.cluster_core.proofs.absorbing.Served.{failing_after}
-use Rattle.cluster_core.specs.View.{failing_in, ClusterView, limits_of, next_count, with_server}
+use Rattle.cluster_core.specs.View.{ClusterView, limits_of, next_count, with_server}
 use Rattle.cluster_core.specs.Serving.{Serves}
 use Rattle.cluster_core.specs.Parts.{AllOwn}
 use Rattle.cluster_core.specs.Recovered.{CanWait, left_by, moved_by, with_all_waiting}
 use Rattle.cluster_core.specs.Calls.{Absorbs, absorbed, here_after}
 use Rattle.cluster_core.specs.Families.{CanJoin, family_after}
-use Rattle.cluster_core.specs.Owed.{owed_after, settled}
+use Rattle.cluster_core.specs.Owed.{owed_after}
 use Rattle.cluster_core.specs.Queue.{left_queued}
 use Rattle.cluster_core.specs.Absorbing.{CanBeBorn, CanCome, ComesHere, IsNotedHere}
 use Rattle.cluster_core.proofs.absorbing.Arriving.{comes_here}
 use Rattle.cluster_core.proofs.absorbing.Fallen.{left_all}
 use Rattle.cluster_core.proofs.absorbing.Noting.{can_note_next, noted_next}
 use Rattle.cluster_core.proofs.here.Owning.{has_room}
-use Rattle.cluster_core.proofs.absorbing.Absorbed.{absorbs, may_come, may_wait, own_either, ready_absorbable, ready_joins, ready_own}
+use Rattle.cluster_core.proofs.absorbing.Absorbed.{absorbs, may_come, may_wait, ready_absorbable, ready_joins, ready_own}
 use Rattle.cluster_core.proofs.losses.OwningWaits.{owns_waiting}
 use Rattle.cluster_core.proofs.births.Bearable.{may_be_born}
 use Rattle.residents.specs.Duty.{DutyView}
