@@ -89,6 +89,98 @@ static RETURNED: [(&[u8], &str, u8, &[&str]); 7] = [
     ),
 ];
 
+// The same program in a system of three clusters, where its mode says when it gets a new backup.
+const HALF: &str =
+    "clusters 3\npager 1 2\nsyncreads 32\nsyncsteps 4096\nasm two 1\nli a7, 2\nli a0, 0\nla a1, m\nli a2, 2\necall\naddi a1, a1, 2\nli a0, 0\necall\nli a7, 1\nli a0, 0\necall\nm: .ascii \"a\\nb\\n\"\nend\nroot 0 1 half two 1000 0 0\n";
+
+const FULL: &str =
+    "clusters 3\npager 1 2\nsyncreads 32\nsyncsteps 4096\nasm two 1\nli a7, 2\nli a0, 0\nla a1, m\nli a2, 2\necall\naddi a1, a1, 2\nli a0, 0\necall\nli a7, 1\nli a0, 0\necall\nm: .ascii \"a\\nb\\n\"\nend\nroot 0 1 full two 1000 0 0\n";
+
+// A halfback gets its new backup after its next step where the cluster that it lost has come back, and a fullback where its
+// backup was lost and another cluster lives: behind that the loss of its home is covered, and before it is not.
+static RENEWED: [(&[u8], &str, u8, &[&str]); 8] = [
+    (
+        b"sim crash:0@bus:1 return:0@bus:4",
+        HALF,
+        0,
+        &[
+            TWO_SAID,
+            "crash 0 at 1\nreturn 0 at 4\nbus 9 syncs 0 withheld 1\n",
+            TWO_ITEMS,
+        ],
+    ),
+    (
+        b"run crash:0@bus:1 return:0@bus:4",
+        HALF,
+        0,
+        &[
+            TWO_SAID,
+            "crash 0 at 1\nreturn 0 at 4\nbus 9 syncs 0 withheld 1\n",
+            TWO_ITEMS,
+        ],
+    ),
+    (
+        b"sim crash:0@bus:1 return:0@bus:4 crash:1@bus:6",
+        HALF,
+        7,
+        &[
+            "tty 0 4\na\nb\n\npid 16 running\n",
+            "crash 0 at 1\nreturn 0 at 4\ncrash 1 at 6\nlost 1 at 6\nbus 7 syncs 0 withheld 1\n",
+            "schedule 2\nrun 16 6\nrun 16 3\n",
+        ],
+    ),
+    (
+        b"sim crash:0@bus:1 return:0@bus:4 crash:1@bus:7",
+        HALF,
+        0,
+        &[
+            TWO_SAID,
+            "crash 0 at 1\nreturn 0 at 4\ncrash 1 at 7\nbus 12 syncs 0 withheld 1\n",
+            TWO_ITEMS,
+        ],
+    ),
+    (
+        b"sim crash:1@bus:1 return:1@bus:2 crash:0@bus:4",
+        HALF,
+        0,
+        &[
+            TWO_SAID,
+            "crash 1 at 1\nreturn 1 at 2\ncrash 0 at 4\nbus 10 syncs 0 withheld 0\n",
+            TWO_ITEMS,
+        ],
+    ),
+    (
+        b"sim crash:1@bus:1 crash:0@bus:3",
+        HALF,
+        7,
+        &[
+            "tty 0 4\na\nb\n\npid 16 running\n",
+            "crash 1 at 1\ncrash 0 at 3\nlost 0 at 3\nbus 4 syncs 0 withheld 0\n",
+            "schedule 2\nrun 16 6\nrun 16 3\n",
+        ],
+    ),
+    (
+        b"sim crash:1@bus:1 crash:0@bus:2",
+        FULL,
+        7,
+        &[
+            "tty 0 2\na\n\npid 16 running\n",
+            "crash 1 at 1\ncrash 0 at 2\nlost 0 at 2\nbus 3 syncs 0 withheld 0\n",
+            "schedule 1\nrun 16 6\n",
+        ],
+    ),
+    (
+        b"sim crash:1@bus:1 crash:0@bus:3",
+        FULL,
+        0,
+        &[
+            TWO_SAID,
+            "crash 1 at 1\ncrash 0 at 3\nbus 9 syncs 0 withheld 0\n",
+            TWO_ITEMS,
+        ],
+    ),
+];
+
 fn assert_returned<R: AllocGlobal + Threads + Wait + Sync>(
     rt: &R,
     line: &[u8],
@@ -102,7 +194,7 @@ fn assert_returned<R: AllocGlobal + Threads + Wait + Sync>(
 
 #[test]
 fn a_lost_cluster_comes_back(rt: HostRuntime) -> Result<(), Fail> {
-    for row in RETURNED.iter() {
+    for row in RETURNED.iter().chain(RENEWED.iter()) {
         assert_returned(&rt, row.0, row.1, row.2, row.3)?;
     }
     Ok(())
