@@ -1,0 +1,124 @@
+//! What is kept of each process of a log that has not ended.
+ghost use Rattle.std.specs.Prelude.{◌≡◌, [], true, false, None, IfOk, OnOk, List, option_map};
+ghost use Rattle.std.specs.BTreeMap.{is_at};
+ghost use Rattle.std.specs.Map.{keys_of};
+ghost use Rattle.t32_base.specs.declared.process.Pid.{Pid as APid};
+ghost use Rattle.sys_text.specs.Valid.{is_system};
+ghost use Rattle.bus_msg.specs.PlacedAfter.{what};
+ghost use Rattle.log_cuts.specs.Ahead.{IsAhead};
+ghost use Rattle.audited_process.specs.Concerns.{goes_on};
+ghost use Rattle.audited_log.specs.Processes.{AreKept};
+ghost use Rattle.audited_log.specs.Walk.{AllCanBeTaken, AllGoOn, CanBeTaken, GoesOn, TakesAll};
+
+use audited_process::audited::Audited;
+use bus_msg::entry::{Entry, What};
+use channel_table::placement::Placement;
+use plain_kernel::booting::processes_of;
+use proc_state::process::Process;
+use std::alloc::Global;
+use std::collections::BTreeMap;
+use sys_text::system::System;
+use t32_base::process::Pid;
+use t32_base::streams::NoMemory;
+
+/// By the numbers of the processes.
+pub type Processes = BTreeMap<u32, Audited>;
+
+/// Those of the log with no entry.
+pub fn start(alloc: Global, system: &System) -> Result<Processes, NoMemory>
+    requires valid { is_system system.now ≡ true }
+    ensures { IfOk result (λ processes. AreKept system.now [] processes.entries) }
+{
+    let mut roots = processes_of(alloc, system)?;
+    let mut processes = BTreeMap::new(alloc);
+    while let Some((pid, process)) = roots.pop_first() {
+        processes.insert(pid, Audited::root(alloc, process)?)?;
+    }
+    Ok(processes)
+}
+
+/// Takes in an entry that led each process to where it stands, with the child that it bears, where the placement is the one before it:
+/// each goes on, one that ends goes, and the child comes. After want of memory nothing is said.
+pub fn take(
+    alloc: Global,
+    before: &Placement,
+    entry: &Entry,
+    child: Option<Process>,
+    processes: &mut Processes,
+) -> Result<(), NoMemory>
+    requires { AllCanBeTaken entry.now processes.old.entries }
+    ensures { OnOk result (TakesAll before.now entry.now child processes.old.entries processes.new.entries) }
+{
+    go_on_all(alloc, before, entry, processes)?;
+    match &entry.post.what {
+        What::Exit { pid, .. } => {
+            processes.remove(&pid.0);
+        }
+        What::Birth { child: pid, .. } => {
+            if let Some(born) = child {
+                processes.insert(pid.0, Audited::child(alloc, born)?)?;
+            }
+        }
+        _ => {}
+    }
+    Ok(())
+}
+
+// Each process goes on.
+fn go_on_all(
+    alloc: Global,
+    before: &Placement,
+    entry: &Entry,
+    processes: &mut Processes,
+) -> Result<(), NoMemory>
+    requires { AllCanBeTaken entry.now processes.old.entries }
+    ensures { OnOk result (AllGoOn before.now entry.now processes.old.entries processes.new.entries) }
+{
+    let pids = numbers_of(alloc, processes)?;
+    for pid in pids.as_slice() {
+        if let Some(audited) = processes.get_mut(pid) {
+            go_on(alloc, Pid(*pid), before, entry, audited)?;
+        }
+    }
+    Ok(())
+}
+
+// The numbers of the processes, rising.
+fn numbers_of(alloc: Global, processes: &Processes) -> Result<Vec<u32>, NoMemory>
+    ensures { IfOk result (λ numbers. numbers.items ≡ keys_of processes.now.entries) }
+{
+    let mut numbers = Vec::new(alloc);
+    for pid in processes.keys() {
+        numbers.push(*pid)?;
+    }
+    Ok(numbers)
+}
+
+// A process goes on, if it does.
+fn go_on(
+    alloc: Global,
+    pid: Pid,
+    before: &Placement,
+    entry: &Entry,
+    audited: &mut Audited,
+) -> Result<(), NoMemory>
+    requires { goes_on pid (what entry.now) ≡ true → CanBeTaken entry.now pid audited.old }
+    ensures { OnOk result (GoesOn before.now entry.now pid audited.old audited.new) }
+{
+    if goes_on(pid, &entry.post.what) {
+        audited.take(alloc, pid, before, entry)
+    } else {
+        Ok(())
+    }
+}
+
+// Whether neither the process nor the run ends by an entry.
+fn goes_on(pid: Pid, what: &What) -> bool
+    ensures { result ≡ goes_on pid what.now }
+{
+    match what {
+        What::Exit { pid: own, .. } => own.0 != pid.0,
+        What::Done { .. } => false,
+        _ => true,
+    }
+}
