@@ -1,0 +1,5 @@
+pub mod Telling
+pub mod Leading
+pub mod OneLaws
+pub mod Maps
+pub mod Going

@@ -1,5 +1,5 @@
 -- What is answered to a line of one process.
-use Rattle.std.specs.Prelude.{ℕ, ◌≡◌, true, List, Option, option_map}
+use Rattle.std.specs.Prelude.{ℕ, ◌≡◌, true, List, Option, Some, None, option_map}
 use Rattle.t32_base.specs.declared.process.Pid.{Pid}
 use Rattle.sys_text.specs.declared.system.System.{System}
 use Rattle.sys_text.specs.Valid.{is_system}
@@ -9,6 +9,7 @@ use Rattle.cert_sched.specs.Built.{MayStand}
 use Rattle.entry_lines.specs.declared.told.ToldBy.{ToldBy}
 use Rattle.entry_lines.specs.declared.told.ToldWhat.{ToldWhat}
 use Rattle.log_audit.specs.Decides.{Decides}
+use Rattle.log_births.specs.declared.births.Born.{Born}
 use Rattle.audited_process.specs.declared.audited.Audited.{Audited}
 use Rattle.audited_log.specs.declared.answer.Answer.{Answer}
 use Rattle.audited_log.specs.declared.common.Common.{Common}
@@ -32,6 +33,11 @@ pub record IsLedOne (system : System) (log : List Entry) (p : Pid) (a : Audited)
 -- so it is of each legal log of which that was kept
 abbrev pub LeadsOne : Common → Pid → Audited → Audited → Answer → Type 0
 LeadsOne c p old new answer = (system : System) (log : List Entry) → is_system system ≡ true → IsLegalBy MayStand system log → KeepsOne c p old system log → IsLedOne system log p new answer
+
+-- the answer is the birth with its child, which has this number
+abbrev pub IsOfBirth : ℕ → Option Born → Option Answer → Type 0
+IsOfBirth told None answer = answer ≡ None
+IsOfBirth told (Some born) answer = (answer ≡ Some (record { entry = born.entry; child = Some born.child })) × ((((born.child).small).pid).0 ≡ told)
 
 -- what was kept of all processes together is so still
 abbrev pub StaysCommon : Common → Common → Type 0

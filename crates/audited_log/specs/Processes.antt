@@ -1,12 +1,11 @@
 -- What is kept of each process of a log that has not ended.
 use Rattle.std.specs.Prelude.{ℕ, ◌≡◌, true, false, List, [], ◌∷◌, ◌++◌, Option, Some, None, is_some, option_map}
-use Rattle.std.specs.BTreeMap.{is_at}
 use Rattle.std.specs.Map.{lookup}
-use Rattle.std.specs.Ordering.{nat_cmp}
 use Rattle.t32_base.specs.declared.process.Pid.{Pid}
 use Rattle.sys_text.specs.declared.system.System.{System}
 use Rattle.proc_state.specs.declared.process.Process.{Process}
 use Rattle.proc_state.specs.State.{state_of}
+use Rattle.plain_kernel.specs.Maps.{at_key}
 use Rattle.bus_msg.specs.declared.entry.Entry.{Entry}
 use Rattle.bus_msg.specs.Places.{unended_at}
 use Rattle.bus_msg.specs.PlacedAfter.{what}
@@ -20,7 +19,7 @@ use Rattle.audited_process.specs.Concerns.{changes, goes_on}
 
 -- what is kept of a process, by the numbers of the processes
 abbrev pub kept_at : List (ℕ × Audited) → Pid → Option Audited
-kept_at processes p = lookup (is_at (nat_cmp p.0)) processes
+kept_at processes p = lookup (at_key p.0) processes
 
 -- the process of that
 abbrev pub process_in : Option Audited → Option Process

@@ -1,5 +1,7 @@
 //! An entry that may stand next.
 ghost use Rattle.std.specs.Prelude.{◌≡◌};
+ghost use Rattle.std.specs.Option.{IfSome};
+ghost use Rattle.audited_log.specs.Answers.{IsChildless, entry_of};
 
 use bus_msg::entry::Entry;
 use proc_state::process::Process;
@@ -11,11 +13,13 @@ pub struct Answer {
     pub child: Option<Process>,
 }
 
-impl Answer {
-    /// Of an entry that bears no child.
-    pub fn childless(entry: Entry) -> Answer
-        ensures { result ≡ record { entry = entry; child = None } }
-    {
-        Answer { entry, child: None }
+/// Of an entry that bears no child, if there is one.
+pub(crate) fn childless(entry: Option<Entry>) -> Option<Answer>
+    ensures entry { entry_of result ≡ entry }
+    ensures child { IfSome result IsChildless }
+{
+    match entry {
+        Some(entry) => Some(Answer { entry, child: None }),
+        None => None,
     }
 }

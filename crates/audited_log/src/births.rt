@@ -2,7 +2,7 @@
 ghost use Rattle.std.specs.Prelude.{◌≡◌, IfOk};
 ghost use Rattle.std.specs.Option.{IfSome};
 ghost use Rattle.entry_lines.specs.declared.told.ToldWhat.TheVariants.{Birth};
-ghost use Rattle.audited_log.specs.One.{AnswersOne, LeadsOne};
+ghost use Rattle.audited_log.specs.One.{AnswersOne, IsOfBirth, LeadsOne};
 
 use crate::answer::Answer;
 use crate::common::Common;
@@ -27,20 +27,31 @@ pub(crate) fn answer(
 {
     let kept = sender_of(head.pid, audited, &common.fetches, &common.family);
     let told = ToldChild { pid: child, end };
-    let process = &mut audited.process;
-    match next_birth(
+    let born = next_birth(
         alloc,
         &common.front,
         common.limits,
         head,
         told,
         kept,
-        process,
-    )? {
-        Some(Born { entry, child }) => Ok(Some(Answer {
-            entry,
-            child: Some(child),
-        })),
-        None => Ok(None),
+        &mut audited.process,
+    )?;
+    let answer = with_child(child, born)?;
+    Ok(answer)
+}
+
+// The answer of a birth, if there is one. No clause of a birth says that the child has the pid of the line: it has.
+fn with_child(told: u64, born: Option<Born>) -> Result<Option<Answer>, NoMemory>
+    ensures { IfOk result (IsOfBirth told born) }
+{
+    let Some(Born { entry, child }) = born else {
+        return Ok(None);
+    };
+    if u64::from(child.small.pid.0) != told {
+        return Err(NoMemory);
     }
+    Ok(Some(Answer {
+        entry,
+        child: Some(child),
+    }))
 }

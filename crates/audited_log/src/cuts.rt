@@ -6,7 +6,7 @@ ghost use Rattle.entry_lines.specs.declared.told.ToldWhat.TheVariants.{Sync};
 ghost use Rattle.log_cuts.specs.Ahead.{IsAhead};
 ghost use Rattle.audited_log.specs.One.{AnswersOne, LeadsOne, StaysCommon};
 
-use crate::answer::Answer;
+use crate::answer::{Answer, childless};
 use crate::common::Common;
 use audited_process::answering::sender_of;
 use audited_process::audited::Audited;
@@ -43,8 +43,7 @@ pub(crate) fn answer(
         &mut audited.process,
         &mut audited.ahead,
     ) {
-        Ok(Some(entry)) => Ok(Some(Answer::childless(entry))),
-        Ok(None) => Ok(None),
+        Ok(entry) => Ok(childless(entry)),
         Err(_) => Err(NoMemory),
     }
 }

@@ -8,7 +8,7 @@ ghost use Rattle.plain_kernel.specs.Maps.{at_key};
 ghost use Rattle.audited_log.specs.Answers.{AnswersSaid, IsReady, Leads};
 ghost use Rattle.audited_log.specs.Processes.{kept_at, process_in};
 
-use crate::answer::Answer;
+use crate::answer::{Answer, childless};
 use crate::processes::Processes;
 use crate::state::AuditedLog;
 use entry_lines::ToldBy;
@@ -30,10 +30,8 @@ pub(crate) fn answer(
     ensures leads { IfOk result (λ answer. IfSome answer (Leads state.old state.new)) }
 {
     let mut processes = taken_out(alloc, &mut state.processes)?;
-    match next_done(alloc, &state.common.front, place, by, &mut processes)? {
-        Some(entry) => Ok(Some(Answer::childless(entry))),
-        None => Ok(None),
-    }
+    let entry = next_done(alloc, &state.common.front, place, by, &mut processes)?;
+    Ok(childless(entry))
 }
 
 // The processes themselves.

@@ -4,7 +4,7 @@ ghost use Rattle.std.specs.Option.{IfSome};
 ghost use Rattle.entry_lines.specs.declared.told.ToldWhat.TheVariants.{Exit};
 ghost use Rattle.audited_log.specs.One.{AnswersOne, LeadsOne};
 
-use crate::answer::Answer;
+use crate::answer::{Answer, childless};
 use crate::common::Common;
 use audited_process::answering::sender_of;
 use audited_process::audited::Audited;
@@ -26,17 +26,14 @@ pub(crate) fn answer(
     ensures leads { IfOk result (λ answer. IfSome answer (LeadsOne common.now head.pid audited.old audited.new)) }
 {
     let kept = sender_of(head.pid, audited, &common.fetches, &common.family);
-    let process = &mut audited.process;
-    match next_exit(
+    let entry = next_exit(
         alloc,
         &common.front,
         common.limits,
         head,
         told,
         kept,
-        process,
-    )? {
-        Some(entry) => Ok(Some(Answer::childless(entry))),
-        None => Ok(None),
-    }
+        &mut audited.process,
+    )?;
+    Ok(childless(entry))
 }

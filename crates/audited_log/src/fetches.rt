@@ -5,7 +5,7 @@ ghost use Rattle.entry_lines.specs.declared.told.ToldWhat.TheVariants.{Fetch, Pa
 ghost use Rattle.audited_log.specs.Answers.{AnswersCommon, HasPages, IsChildless};
 ghost use Rattle.audited_log.specs.One.{AnswersOne, LeadsOne, StaysCommon};
 
-use crate::answer::Answer;
+use crate::answer::{Answer, childless};
 use crate::common::Common;
 use audited_process::answering::asked_of;
 use audited_process::audited::Audited;
@@ -29,8 +29,7 @@ pub(crate) fn fetch(
     ensures leads { IfSome result (LeadsOne common.now pid audited.now audited.now) }
 {
     let asked = asked_of(pid, audited, &common.fetches, index);
-    let entry = next_fetch(&common.front, place, by, pid, index, asked)?;
-    Some(Answer::childless(entry))
+    childless(next_fetch(&common.front, place, by, pid, index, asked))
 }
 
 /// The answer to a line by which page `index` of the process `pid` comes. The disk of the page server fails at no call, so that it
@@ -50,8 +49,7 @@ pub(crate) fn page_is(
 {
     let pager = &mut common.pager;
     match next_page(alloc, &common.front, pager, place, by, pid, index) {
-        Ok(Some(entry)) => Ok(Some(Answer::childless(entry))),
-        Ok(None) => Ok(None),
+        Ok(entry) => Ok(childless(entry)),
         Err(_) => Err(NoMemory),
     }
 }

@@ -4,7 +4,7 @@ ghost use Rattle.std.specs.Option.{IfSome};
 ghost use Rattle.entry_lines.specs.declared.told.ToldWhat.TheVariants.{Crash, Return, Stop};
 ghost use Rattle.audited_log.specs.Answers.{AnswersCommon, IsChildless};
 
-use crate::answer::Answer;
+use crate::answer::{Answer, childless};
 use crate::common::Common;
 use bus_msg::entry::Cause;
 use entry_lines::ToldBy;
@@ -16,8 +16,7 @@ pub(crate) fn loss(place: u64, by: ToldBy, k: u64, cause: Cause, common: &Common
     ensures decides { AnswersCommon common.now place by (Crash k cause) result }
     ensures child { IfSome result IsChildless }
 {
-    let entry = next_loss(&common.front, place, by, k, cause)?;
-    Some(Answer::childless(entry))
+    childless(next_loss(&common.front, place, by, k, cause))
 }
 
 /// The answer to a line that tells of the return of cluster `k`. Takes no memory.
@@ -25,8 +24,7 @@ pub(crate) fn comes_back(place: u64, by: ToldBy, k: u64, common: &Common) -> Opt
     ensures decides { AnswersCommon common.now place by (Return k) result }
     ensures child { IfSome result IsChildless }
 {
-    let entry = next_return(&common.front, place, by, k)?;
-    Some(Answer::childless(entry))
+    childless(next_return(&common.front, place, by, k))
 }
 
 /// The answer to a line that tells of a stop. Takes no memory.
@@ -34,6 +32,5 @@ pub(crate) fn stop(place: u64, by: ToldBy, common: &Common) -> Option<Answer>
     ensures decides { AnswersCommon common.now place by Stop result }
     ensures child { IfSome result IsChildless }
 {
-    let entry = next_stop(&common.front, place, by)?;
-    Some(Answer::childless(entry))
+    childless(next_stop(&common.front, place, by))
 }

@@ -6,7 +6,7 @@ ghost use Rattle.entry_lines.specs.declared.told.ToldWhat.TheVariants.{Page};
 ghost use Rattle.log_cuts.specs.Ahead.{IsAhead};
 ghost use Rattle.audited_log.specs.One.{AnswersOne, LeadsOne};
 
-use crate::answer::Answer;
+use crate::answer::{Answer, childless};
 use crate::common::Common;
 use audited_process::answering::sender_of;
 use audited_process::audited::Audited;
@@ -30,7 +30,7 @@ pub(crate) fn answer(
     let kept = sender_of(head.pid, audited, &common.fetches, &common.family);
     let (process, ahead) = (&audited.process, &mut audited.ahead);
     let sent = &audited.since_moved.sent;
-    match next_page(
+    let entry = next_page(
         alloc,
         &common.front,
         head,
@@ -39,8 +39,6 @@ pub(crate) fn answer(
         sent,
         process,
         ahead,
-    )? {
-        Some(entry) => Ok(Some(Answer::childless(entry))),
-        None => Ok(None),
-    }
+    )?;
+    Ok(childless(entry))
 }

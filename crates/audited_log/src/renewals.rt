@@ -7,7 +7,7 @@ ghost use Rattle.log_cuts.specs.Ahead.{IsAhead};
 ghost use Rattle.audited_log.specs.Named.{behind_first, first_number};
 ghost use Rattle.audited_log.specs.One.{AnswersOne, LeadsOne, StaysCommon};
 
-use crate::answer::Answer;
+use crate::answer::{Answer, childless};
 use crate::common::Common;
 use audited_process::answering::sender_of;
 use audited_process::audited::Audited;
@@ -48,8 +48,7 @@ pub(crate) fn fresh(
         &mut audited.process,
         &mut audited.ahead,
     ) {
-        Ok(Some(entry)) => Ok(Some(Answer::childless(entry))),
-        Ok(None) => Ok(None),
+        Ok(entry) => Ok(childless(entry)),
         Err(_) => Err(NoMemory),
     }
 }
@@ -69,7 +68,7 @@ pub(crate) fn standing(
     let only = audited.since_moved.only;
     let others = behind_first(pids);
     let (front, family) = (&common.front, &common.family);
-    match next_standing(
+    let entry = next_standing(
         alloc,
         front,
         head,
@@ -77,10 +76,8 @@ pub(crate) fn standing(
         only,
         family,
         common.records.records(),
-    )? {
-        Some(entry) => Ok(Some(Answer::childless(entry))),
-        None => Ok(None),
-    }
+    )?;
+    Ok(childless(entry))
 }
 
 // The numbers behind the first.

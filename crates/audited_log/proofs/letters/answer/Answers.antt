@@ -1,0 +1,38 @@
+use Rattle.std.proofs.Common.{◌≡◌, refl, Option, Some, subst, sym}
+use Rattle.std.specs.Option.{IfSome}
+use Rattle.proc_state.specs.State.{state_of}
+use Rattle.bus_msg.specs.declared.entry.Entry.{Entry}
+use Rattle.cert_sched.specs.Built.{MayStand}
+use Rattle.entry_lines.specs.declared.told.Told.{Told}
+use Rattle.entry_lines.specs.declared.told.ToldWhat.TheVariants.{Mail}
+use Rattle.log_audit.specs.Decides.{Decides}
+use Rattle.log_processes.specs.Sending.{KeepsSender, Leads}
+use Rattle.audited_process.specs.declared.audited.Audited.{Audited}
+use Rattle.audited_log.specs.One.{KeepsOne}
+use Rattle.audited_log.proofs.OneLaws.{decides_more, leads_one, letter_led, sender}
+use Rattle.audited_log.proofs.letters.answer.Goals as goal
+
+abbrev told : goal.After-childless → Told
+told c = record { place = c.args.head.place; by = c.args.head.by; what = Mail (c.args.head.pid).0 c.args.head.at c.args.told.now }
+
+decides : (c : goal.After-childless) → Decides MayStand (KeepsOne c.args.common.now c.args.head.pid c.args.audited.now) (told c) c.in_ok-entry.entry
+decides c =
+    let common = c.args.common.now in
+    let p = c.args.head.pid in
+    let a = c.args.audited.now in
+    let kept = c.sender_of-kept.result in
+    decides_more (KeepsSender common.front common.limits p (state_of a.process) kept) (KeepsOne common p a) (told c) (sender common p a kept c.sender_of-kept.ensures) c.in_ok-entry.entry c.in_ok-entry.ensures.decides
+
+pub returns-clause-decides : goal.returns-clause-decides
+returns-clause-decides c = subst (λ (o : Option Entry). Decides MayStand (KeepsOne c.args.common.now c.args.head.pid c.args.audited.now) (told c) o) (sym c.childless.ensures.entry) (decides c)
+
+pub returns-clause-leads : goal.returns-clause-leads
+returns-clause-leads c =
+    let common = c.args.common.now in
+    let p = c.args.head.pid in
+    let a = c.args.audited.now in
+    let kept = c.sender_of-kept.result in
+    let n = c.next_letter.new.process in
+    leads_one common p a (record a { process = n }) (told c) refl c.childless.result c.in_ok-entry.entry c.childless.ensures.entry c.childless.ensures.child (decides c)
+    (λ e is. letter_led common p a kept c.sender_of-kept.ensures c.args.head.place c.args.head.at c.args.head.by c.args.told.now n e
+    (subst (λ (o : Option Entry). IfSome o (λ (e : Entry). Leads common.front common.limits p kept (state_of a.process) e (state_of n))) is c.in_ok-entry.ensures.leads))
