@@ -3,3 +3,6 @@ pub mod Leading
 pub mod OneLaws
 pub mod Maps
 pub mod Going
+pub mod AllGo
+pub mod Doers
+pub mod Answering

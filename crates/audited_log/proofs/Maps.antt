@@ -1,5 +1,5 @@
 -- What is kept at a number of a map, where one is written, comes or goes.
-use Rattle.std.proofs.Common.{◌≡◌, ℕ, ◌<◌, refl, sym, ◌∙◌, ap, subst, arith, List, [], ◌∷◌, ◌++◌, length, map, take, Bool, true, false, cond, eqb, Option, Some, None, slice_get, true≢false, keys_of}
+use Rattle.std.proofs.Common.{◌≡◌, ℕ, ◌<◌, refl, sym, ◌∙◌, ap, subst, arith, List, [], ◌∷◌, ◌++◌, length, map, take, Bool, true, false, cond, eqb, Option, Some, None, slice_get, true≢false}
 use Rattle.std.specs.Map.{lookup, set_value}
 use Rattle.std.specs.Ordering.{nat_cmp, is_eq}
 use Rattle.std.specs.declared.cmp.Ordering.TheVariants.{Less, Equal, Greater}
@@ -31,3 +31,6 @@ here p processes old new there = written_there (at_key p.0) processes old new th
 
 pub elsewhere : (p q : Pid) (processes : List (ℕ × Audited)) (new : Audited) → at_key p.0 q.0 ≡ false → kept_at (set_value (at_key p.0) processes new) q ≡ kept_at processes q
 elsewhere p q processes new other = written_other p.0 q.0 processes new other
+
+pub other_number : (n m : ℕ) → at_key n m ≡ false → eqb n m ≡ false
+other_number n m is = grind (arith, nat_tests)

@@ -64,12 +64,14 @@ impl Common {
         ensures { OnOk result (KeepsCommon self.old self.new entry.now) }
     {
         self.fetches.take(self.front.places(), entry)?;
-        if note(&mut self.pager, self.front.places(), entry).is_err() {
-            return Err(NoMemory);
+        match note(&mut self.pager, self.front.places(), entry) {
+            Ok(()) => {}
+            Err(_) => return Err(NoMemory),
         }
         follow(&mut self.family, entry)?;
         self.records.take(entry)?;
-        self.front.take(entry)
+        self.front.take(entry)?;
+        Ok(())
     }
 }
 

@@ -54,7 +54,8 @@ fn of_process(
     let Some(audited) = state.processes.get_mut(&pid.0) else {
         return Ok(None);
     };
-    of_kept(alloc, told, pid, &mut state.common, audited)
+    let answer = of_kept(alloc, told, pid, &mut state.common, audited)?;
+    Ok(answer)
 }
 
 // The answer to a line of a process that is kept.
@@ -111,7 +112,11 @@ fn of_kept(
             };
             renewals::standing(alloc, head, pids.as_slice(), common, audited)
         }
-        _ => unreachable!(),
+        ToldWhat::PageIs { .. }
+        | ToldWhat::Crash { .. }
+        | ToldWhat::Return { .. }
+        | ToldWhat::Done
+        | ToldWhat::Stop => unreachable!(),
     }
 }
 
@@ -135,7 +140,13 @@ fn of_no_process(
         ToldWhat::Return { k } => Ok(losses::comes_back(place, by, *k, &state.common)),
         ToldWhat::Done => ends::answer(alloc, place, by, state),
         ToldWhat::Stop => Ok(losses::stop(place, by, &state.common)),
-        _ => Ok(None),
+        ToldWhat::Fresh { .. } | ToldWhat::Standing { .. } => Ok(None),
+        ToldWhat::Mail { .. }
+        | ToldWhat::Birth { .. }
+        | ToldWhat::Exit { .. }
+        | ToldWhat::Page { .. }
+        | ToldWhat::Sync { .. }
+        | ToldWhat::Fetch { .. } => unreachable!(),
     }
 }
 

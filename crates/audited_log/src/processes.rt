@@ -1,7 +1,8 @@
 //! What is kept of each process of a log that has not ended.
 ghost use Rattle.std.specs.Prelude.{◌≡◌, [], true, false, None, IfOk, OnOk, List, option_map};
-ghost use Rattle.std.specs.BTreeMap.{is_at};
+ghost use Rattle.std.specs.List.Sorted.{IsStrictlySortedBy};
 ghost use Rattle.std.specs.Map.{keys_of};
+ghost use Rattle.std.specs.Ordering.{nat_cmp};
 ghost use Rattle.t32_base.specs.declared.process.Pid.{Pid as APid};
 ghost use Rattle.sys_text.specs.Valid.{is_system};
 ghost use Rattle.bus_msg.specs.PlacedAfter.{what};
@@ -85,7 +86,8 @@ fn go_on_all(
 
 // The numbers of the processes, rising.
 fn numbers_of(alloc: Global, processes: &Processes) -> Result<Vec<u32>, NoMemory>
-    ensures { IfOk result (λ numbers. numbers.items ≡ keys_of processes.now.entries) }
+    ensures numbers { IfOk result (λ numbers. numbers.items ≡ keys_of processes.now.entries) }
+    ensures ordered { IfOk result (λ numbers. IsStrictlySortedBy nat_cmp numbers.items) }
 {
     let mut numbers = Vec::new(alloc);
     for pid in processes.keys() {
