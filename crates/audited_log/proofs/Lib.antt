@@ -6,3 +6,7 @@ pub mod Going
 pub mod AllGo
 pub mod Doers
 pub mod Answering
+pub mod TakenOut
+pub mod Starting
+pub mod Taking
+pub mod Ending

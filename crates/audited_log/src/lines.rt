@@ -134,11 +134,15 @@ fn of_no_process(
     let (place, by) = (told.place, told.by);
     match &told.what {
         ToldWhat::PageIs { pid, index } => {
-            fetches::page_is(alloc, place, by, *pid, *index, &mut state.common)
+            let answer = fetches::page_is(alloc, place, by, *pid, *index, &mut state.common)?;
+            Ok(answer)
         }
         ToldWhat::Crash { k, cause } => Ok(losses::loss(place, by, *k, *cause, &state.common)),
         ToldWhat::Return { k } => Ok(losses::comes_back(place, by, *k, &state.common)),
-        ToldWhat::Done => ends::answer(alloc, place, by, state),
+        ToldWhat::Done => {
+            let answer = ends::answer(alloc, place, by, state)?;
+            Ok(answer)
+        }
         ToldWhat::Stop => Ok(losses::stop(place, by, &state.common)),
         ToldWhat::Fresh { .. } | ToldWhat::Standing { .. } => Ok(None),
         ToldWhat::Mail { .. }

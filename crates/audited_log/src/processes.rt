@@ -33,7 +33,8 @@ pub fn start(alloc: Global, system: &System) -> Result<Processes, NoMemory>
     let mut roots = processes_of(alloc, system)?;
     let mut processes = BTreeMap::new(alloc);
     while let Some((pid, process)) = roots.pop_first() {
-        processes.insert(pid, Audited::root(alloc, process)?)?;
+        let root = Audited::root(alloc, process)?;
+        processes.insert(pid, root)?;
     }
     Ok(processes)
 }
