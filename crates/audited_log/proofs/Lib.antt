@@ -10,3 +10,4 @@ pub mod TakenOut
 pub mod Starting
 pub mod Taking
 pub mod Ending
+pub mod Walking

@@ -11,6 +11,7 @@ use crate::lines::answer_to;
 use crate::processes::{self, Processes};
 use bus_msg::entry::Entry;
 use entry_lines::Told;
+use log_records::records::entries_can_be_taken;
 use std::alloc::Global;
 use sys_text::system::System;
 use t32_base::streams::NoMemory;
@@ -64,6 +65,7 @@ impl AuditedLog {
         let Answer { entry, child } = answer;
         let before = self.common.front.places();
         processes::take(alloc, before, &entry, child, &mut self.processes)?;
+        entries_can_be_taken();
         self.common.take(&entry)?;
         Ok(entry)
     }

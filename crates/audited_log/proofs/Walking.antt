@@ -1,0 +1,30 @@
+-- From entry to entry what is kept is that of some legal log.
+use Rattle.std.proofs.Common.{◌≡◌, ap, subst, sym, List, [], ◌∷◌, ◌++◌, true, Some, Option}
+use Rattle.sys_text.specs.declared.system.System.{System}
+use Rattle.sys_text.specs.Valid.{is_system}
+use Rattle.bus_msg.specs.declared.entry.Entry.{Entry}
+use Rattle.cert_sched.specs.Legal.{IsLegalBy}
+use Rattle.cert_sched.specs.Built.{MayStand}
+use Rattle.cert_sched.proofs.LogLaws.{IsLegal-snoc}
+use Rattle.entry_lines.specs.declared.told.Told.{Told}
+use Rattle.audited_log.specs.declared.answer.Answer.{Answer}
+use Rattle.audited_log.specs.declared.state.AuditedLog.{AuditedLog}
+use Rattle.audited_log.specs.State.{IsOfSomeLog, IsStateOf, KeepsState}
+use Rattle.audited_log.specs.Answers.{AnswersTold, Leads, TakesAnswer}
+
+pub of_start : (system : System) (state : AuditedLog) → is_system system ≡ true → IsStateOf system [] state → IsOfSomeLog state
+unfolding IsLegalBy
+of_start system state valid is = record { system = system; log = []; valid = valid; legal = tt; is = is }
+
+module _ (old led new : AuditedLog) (told : Told) (a : Answer) (decides : AnswersTold old told (Some a.entry)) (leads : Leads old led a) (takes : TakesAnswer led new a) where
+  pub keeps : KeepsState old new a.entry
+  keeps system log valid legal is = takes system log valid legal (decides system log valid legal is).1 (leads system log valid legal is)
+
+  pub goes_on : IsOfSomeLog old → IsOfSomeLog new
+  goes_on some = record {
+    system = some.system;
+    log = some.log ++ a.entry ∷ [];
+    valid = some.valid;
+    legal = IsLegal-snoc MayStand some.system some.log a.entry some.legal (decides some.system some.log some.valid some.legal some.is).1;
+    is = keeps some.system some.log some.valid some.legal some.is;
+  }
