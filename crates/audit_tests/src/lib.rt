@@ -21,3 +21,5 @@ mod lines;
 mod renewed;
 #[cfg(test)]
 mod sent;
+#[cfg(test)]
+mod walked;

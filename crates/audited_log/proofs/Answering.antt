@@ -1,6 +1,6 @@
 -- Answers to lines, from what is kept of one process or of all of them together to what is kept of the log.
-use Rattle.std.proofs.Common.{◌≡◌, ℕ, ◌≤◌, ◌<◌, ◌^◌, refl, sym, ◌∙◌, ap, arith, subst, List, [], ◌∷◌, ◌++◌, Bool, true, false, not, ◌&&◌, eqb, Option, Some, None, is_some, Result, Ok, Err, BTreeMap, true≢false}
-use Rattle.std.specs.Prelude.{IfOk, option_map}
+use Rattle.std.proofs.Common.{◌≡◌, ℕ, ◌<◌, ◌^◌, refl, sym, ◌∙◌, ap, subst, List, Bool, true, false, not, eqb, Option, Some, None, Result, Ok, Err, BTreeMap, true≢false}
+use Rattle.std.specs.Prelude.{IfOk}
 use Rattle.std.specs.Option.{IfSome}
 use Rattle.std.specs.Map.{set_value}
 use Rattle.std.proofs.lemmas.Bool.{and_parts}
@@ -9,7 +9,6 @@ use Rattle.sys_text.specs.declared.system.System.{System}
 use Rattle.sys_text.specs.Valid.{is_system}
 use Rattle.plain_kernel.specs.Maps.{at_key}
 use Rattle.bus_msg.specs.declared.entry.Entry.{Entry}
-use Rattle.bus_msg.specs.Places.{unended_at}
 use Rattle.bus_msg.specs.PlacedAfter.{what}
 use Rattle.cert_sched.specs.Schedule.{placement}
 use Rattle.cert_sched.specs.Rules.{is_over}
@@ -19,7 +18,6 @@ use Rattle.entry_lines.specs.declared.told.Told.{Told}
 use Rattle.entry_lines.specs.declared.told.ToldWhat.{ToldWhat}
 use Rattle.entry_lines.specs.declared.told.ToldWhat.TheVariants.{Birth as ToldBirth}
 use Rattle.entry_lines.specs.Told.{told_of}
-use Rattle.line_laws.specs.Meant.{is_end}
 use Rattle.log_audit.specs.Decides.{Decides}
 use Rattle.log_audit.specs.Front.{FrontState, IsFrontOf, is_next}
 use Rattle.number_laws.proofs.LogPids.{unended_fits}
@@ -34,7 +32,7 @@ use Rattle.audited_log.specs.Named.{doer}
 use Rattle.audited_log.specs.Processes.{AreKept, BearsAs, IsKept, IsLed, kept_at}
 use Rattle.audited_log.specs.State.{IsStateOf}
 use Rattle.audited_log.specs.One.{KeepsOne, LeadsOne, StaysCommon}
-use Rattle.audited_log.specs.Answers.{AnswersTold, IsChildless, IsLedStateOf, Leads, entry_of}
+use Rattle.audited_log.specs.Answers.{AnswersTold, IsChildless, Leads, entry_of}
 use Rattle.audited_log.proofs.Telling.{is_birth_told, none_steps, only_doer, step_told, unborn}
 use Rattle.audited_log.proofs.Leading.{unled_as}
 use Rattle.audited_log.proofs.OneLaws.{decides_more}

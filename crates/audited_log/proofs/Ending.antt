@@ -1,5 +1,5 @@
 -- The end of the run: the processes that are kept are those that have not ended, and none is asked for behind it.
-use Rattle.std.proofs.Common.{◌≡◌, ℕ, refl, sym, ◌∙◌, ap, subst, List, Bool, true, false, cond, Option, Some, None, is_some, BTreeMap, true≢false}
+use Rattle.std.proofs.Common.{◌≡◌, ℕ, refl, sym, ◌∙◌, ap, subst, List, true, false, cond, Option, Some, None, is_some, BTreeMap, true≢false}
 use Rattle.std.specs.Prelude.{option_map}
 use Rattle.std.specs.Option.{IfSome}
 use Rattle.std.specs.Map.{lookup}

@@ -3,7 +3,6 @@ use Rattle.std.proofs.Common.{◌≡◌, refl, sym, ◌∙◌, ap, List, [], ◌
 use Rattle.std.proofs.lemmas.Bool.{or_parts}
 use Rattle.t32_base.specs.declared.process.Pid.{Pid}
 use Rattle.sys_text.specs.declared.system.System.{System}
-use Rattle.proc_state.specs.State.{ProcState, state_of}
 use Rattle.bus_msg.specs.declared.entry.What.{What}
 use Rattle.bus_msg.specs.declared.entry.What.TheVariants.{Mail}
 use Rattle.bus_msg.specs.declared.entry.Entry.{Entry}
@@ -13,9 +12,8 @@ use Rattle.cert_sched.specs.Deeds.{is_cut}
 use Rattle.cert_sched.specs.Steps.{after_items}
 use Rattle.log_processes.specs.Arrivals.{is_writer, stepped}
 use Rattle.audited_process.specs.declared.audited.Audited.{Audited}
-use Rattle.audited_process.specs.Concerns.{forks, goes_on, steps_by}
+use Rattle.audited_process.specs.Concerns.{forks, steps_by}
 use Rattle.audited_process.specs.Begun.{led}
-use Rattle.audited_process.specs.Audited.{IsAuditedOf, IsLedBy}
 use Rattle.audited_log.specs.Processes.{IsKept, IsKeptOf, IsLed, IsLedOf}
 
 writer_stays : (p : Pid) (w : What) → is_writer p w ≡ true → (forks p w || is_cut p w) ≡ false

@@ -1,5 +1,5 @@
 -- Where the entry of a line leads the process that is kept.
-use Rattle.std.proofs.Common.{◌≡◌, ℕ, refl, sym, ◌∙◌, ap, subst, List, [], ◌∷◌, ◌++◌, Bool, true, false, not, ◌||◌, eqb, Option, Some, None, true≢false}
+use Rattle.std.proofs.Common.{◌≡◌, ℕ, sym, ◌∙◌, ap, subst, List, [], ◌∷◌, ◌++◌, true, false, not, ◌||◌, Option, Some, None, true≢false}
 use Rattle.std.specs.Prelude.{option_map}
 use Rattle.std.specs.Option.{IfSome}
 use Rattle.t32_base.specs.declared.process.Pid.{Pid}
@@ -20,8 +20,7 @@ use Rattle.entry_lines.specs.declared.told.Told.{Told}
 use Rattle.entry_lines.specs.declared.told.ToldBy.{ToldBy}
 use Rattle.entry_lines.specs.declared.told.ToldEnd.{ToldEnd}
 use Rattle.entry_lines.specs.declared.told.ToldLetter.{ToldLetter}
-use Rattle.entry_lines.specs.declared.told.ToldWhat.{ToldWhat}
-use Rattle.entry_lines.specs.declared.told.ToldWhat.TheVariants.{Birth as ToldBirth, Mail as ToldMail, Sync as ToldSync, Fresh as ToldFresh, Exit as ToldExit, Page as ToldPage, Fetch as ToldFetch, Standing as ToldStanding}
+use Rattle.entry_lines.specs.declared.told.ToldWhat.TheVariants.{Birth as ToldBirth, Mail as ToldMail, Sync as ToldSync, Fresh as ToldFresh, Exit as ToldExit, Page as ToldPage}
 use Rattle.entry_lines.specs.Told.{told_of, told_what}
 use Rattle.page_server.specs.Account.{PagerState, SameAccounts}
 use Rattle.log_audit.specs.declared.fetches.Asked.{Asked}
@@ -38,14 +37,14 @@ use Rattle.log_renewals.specs.Fresh.{KeepsFresh, LeadsToRenewal}
 use Rattle.log_renewals.specs.Standing.{KeepsStanding}
 use Rattle.audited_process.specs.declared.audited.Audited.{Audited}
 use Rattle.audited_process.specs.Answering.{SaysAsked, SaysSender}
-use Rattle.audited_process.specs.Concerns.{changes, forks, goes_on, steps_by}
+use Rattle.audited_process.specs.Concerns.{forks, goes_on, steps_by}
 use Rattle.audited_process.specs.Leading.{is_going_told, is_letter_told, is_standing_told, is_step_told}
 use Rattle.log_processes.specs.Arrivals.{is_writer}
 use Rattle.audited_log.specs.declared.answer.Answer.{Answer}
 use Rattle.audited_log.specs.declared.common.Common.{Common}
 use Rattle.audited_log.specs.Named.{behind_first, first_number}
 use Rattle.audited_log.specs.Processes.{BearsAs, IsLedOf}
-use Rattle.audited_log.specs.One.{IsLedOne, IsOfBirth, KeepsOne, LeadsOne, StaysCommon}
+use Rattle.audited_log.specs.One.{IsOfBirth, KeepsOne, LeadsOne, StaysCommon}
 use Rattle.audited_log.specs.Answers.{IsChildless, entry_of}
 use Rattle.audited_log.proofs.Telling.{going_told, is_birth_told, itself, letter_told, standing_told, step_told, unborn, unchanged}
 use Rattle.audited_log.proofs.Leading.{sends_led, stands_led, unled, unled_of}

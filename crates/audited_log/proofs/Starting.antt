@@ -1,5 +1,5 @@
 -- The processes that are kept of the log with no entry are the roots.
-use Rattle.std.proofs.Common.{◌≡◌, ℕ, refl, sym, ◌∙◌, ap, arith, subst, List, [], ◌∷◌, map, Bool, true, false, cond, not, ◌&&◌, ◌||◌, eqb, Option, Some, None, is_some, true≢false}
+use Rattle.std.proofs.Common.{◌≡◌, ℕ, refl, sym, ◌∙◌, ap, arith, List, [], ◌∷◌, map, Bool, true, false, cond, not, ◌&&◌, ◌||◌, eqb, Option, Some, None, is_some, true≢false}
 use Rattle.std.specs.Prelude.{find, option_map}
 use Rattle.std.specs.FinMap as finmap
 use Rattle.std.specs.List.{list_any}

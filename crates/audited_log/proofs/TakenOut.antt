@@ -1,9 +1,6 @@
 -- The first of what is left of a map is taken out, one after another.
 use Rattle.std.proofs.Common.{◌≡◌, ℕ, ◌<◌, refl, sym, ◌∙◌, ap, arith, subst, List, [], ◌∷◌, length, Bool, true, false, cond, Option, Some, None, true≢false}
-use Rattle.std.specs.Prelude.{option_map}
 use Rattle.std.specs.Map.{lookup}
-use Rattle.t32_base.specs.declared.process.Pid.{Pid}
-use Rattle.proc_state.specs.declared.process.Process.{Process}
 use Rattle.plain_kernel.specs.Maps.{at_key}
 use Rattle.audited_log.proofs.Maps.{key_itself, key_same}
 

@@ -1,5 +1,5 @@
 -- What is kept of each process after an entry.
-use Rattle.std.proofs.Common.{◌≡◌, ℕ, refl, sym, ◌∙◌, ap, subst, List, [], ◌∷◌, ◌++◌, Bool, true, false, cond, not, ◌&&◌, Option, Some, None, is_some, true≢false}
+use Rattle.std.proofs.Common.{◌≡◌, ℕ, refl, sym, ◌∙◌, ap, subst, List, [], ◌∷◌, ◌++◌, Bool, true, false, cond, not, Option, Some, None, is_some, true≢false}
 use Rattle.std.specs.Map.{lookup}
 use Rattle.std.specs.Option.{option_map_or}
 use Rattle.std.proofs.lemmas.Option.{same_Some}
@@ -8,13 +8,12 @@ use Rattle.t32_base.specs.declared.process.End.{End}
 use Rattle.sys_text.specs.declared.system.System.{System}
 use Rattle.sys_text.specs.Valid.{is_system}
 use Rattle.proc_state.specs.declared.process.Process.{Process}
-use Rattle.proc_state.specs.State.{ProcState, state_of}
+use Rattle.proc_state.specs.State.{state_of}
 use Rattle.plain_kernel.specs.Maps.{at_key}
 use Rattle.bus_msg.specs.declared.entry.What.{What}
 use Rattle.bus_msg.specs.declared.entry.What.TheVariants.{Birth, Exit, Done}
 use Rattle.bus_msg.specs.declared.entry.Entry.{Entry}
-use Rattle.bus_msg.specs.declared.placed.Placed.{Placed}
-use Rattle.bus_msg.specs.Places.{Places, placed_at, same_pid, unended_at}
+use Rattle.bus_msg.specs.Places.{Places, same_pid, unended_at}
 use Rattle.bus_msg.specs.PlacedAfter.{placed_after, what}
 use Rattle.cert_sched.specs.Account.{is_exit_of}
 use Rattle.cert_sched.specs.Deeds.{is_birth_of}
@@ -30,16 +29,15 @@ use Rattle.cert_sched.proofs.BirthPlaces.{child_found}
 use Rattle.cert_sched.proofs.CameLaws.{same_of}
 use Rattle.cert_sched.proofs.LogLaws.{placement-snoc, told-snoc}
 use Rattle.cert_sched.proofs.StayingUnended.{before_unended}
-use Rattle.cert_sched.proofs.ThereLaws.{unended_not_born, unended_there}
+use Rattle.cert_sched.proofs.ThereLaws.{unended_not_born}
 use Rattle.line_laws.specs.Meant.{is_end}
 use Rattle.log_laws.proofs.records.Standing.{built_stands, itself}
 use Rattle.log_cuts.specs.Ahead.{IsAhead}
 use Rattle.audited_process.specs.declared.audited.Audited.{Audited}
 use Rattle.audited_process.specs.Audited.{BeginsAsChild}
 use Rattle.audited_process.specs.Concerns.{goes_on}
-use Rattle.audited_process.proofs.ByKind.{no_exit}
 use Rattle.audited_process.proofs.Waits.{still_unended}
-use Rattle.audited_log.specs.Processes.{AreKept, AreLed, BearsAs, IsKept, IsKeptOf, IsLed, kept_at}
+use Rattle.audited_log.specs.Processes.{AreKept, AreLed, BearsAs, IsKept, IsLed, kept_at}
 use Rattle.audited_log.specs.Walk.{AllGoOn, GoesOnIfThere, TakesAll}
 use Rattle.audited_log.proofs.Maps.{key_other, same_key}
 

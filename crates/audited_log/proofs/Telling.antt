@@ -1,14 +1,14 @@
 -- What the line of an entry tells of its kind.
-use Rattle.std.proofs.Common.{◌≡◌, ℕ, refl, sym, ◌∙◌, ap, List, [], ◌∷◌, Bool, true, false, ◌||◌, cond, eqb, eq-eqb, Option, Some, None, true≢false}
+use Rattle.std.proofs.Common.{◌≡◌, ℕ, refl, ◌∙◌, ap, [], ◌∷◌, Bool, true, false, ◌||◌, eqb, eq-eqb, Some, None, true≢false}
 use Rattle.std.proofs.lemmas.Bool.{or_parts}
 use Rattle.t32_base.specs.declared.process.Pid.{Pid}
 use Rattle.t32_base.proofs.Facts.{or_false}
 use Rattle.bus_msg.specs.declared.entry.What.{What}
-use Rattle.bus_msg.specs.declared.entry.What.TheVariants.{Mail, Birth, Exit, Rebackup, Done}
+use Rattle.bus_msg.specs.declared.entry.What.TheVariants.{Mail, Birth, Rebackup}
 use Rattle.bus_msg.specs.Places.{same_pid}
 use Rattle.cert_sched.specs.Deeds.{is_birth_of, is_cut}
 use Rattle.entry_lines.specs.declared.told.ToldWhat.{ToldWhat}
-use Rattle.entry_lines.specs.declared.told.ToldWhat.TheVariants.{Birth as ToldBirth, Mail as ToldMail, Sync as ToldSync, Fresh as ToldFresh, Exit as ToldExit, Page as ToldPage, Fetch as ToldFetch, Standing as ToldStanding, Done as ToldDone}
+use Rattle.entry_lines.specs.declared.told.ToldWhat.TheVariants.{Birth as ToldBirth, Mail as ToldMail, Sync as ToldSync, Fresh as ToldFresh, Done as ToldDone}
 use Rattle.entry_lines.specs.Told.{told_what}
 use Rattle.line_laws.specs.Meant.{is_end}
 use Rattle.log_processes.specs.Arrivals.{is_writer}

@@ -1,8 +1,7 @@
 -- From entry to entry what is kept is that of some legal log.
-use Rattle.std.proofs.Common.{◌≡◌, ap, subst, sym, List, [], ◌∷◌, ◌++◌, true, Some, Option}
+use Rattle.std.proofs.Common.{◌≡◌, [], ◌∷◌, ◌++◌, true, Some}
 use Rattle.sys_text.specs.declared.system.System.{System}
 use Rattle.sys_text.specs.Valid.{is_system}
-use Rattle.bus_msg.specs.declared.entry.Entry.{Entry}
 use Rattle.cert_sched.specs.Legal.{IsLegalBy}
 use Rattle.cert_sched.specs.Built.{MayStand}
 use Rattle.cert_sched.proofs.LogLaws.{IsLegal-snoc}

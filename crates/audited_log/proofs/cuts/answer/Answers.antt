@@ -1,4 +1,4 @@
-use Rattle.std.proofs.Common.{◌≡◌, refl, Option, subst, sym}
+use Rattle.std.proofs.Common.{refl, Option, subst, sym}
 use Rattle.std.specs.Option.{IfSome}
 use Rattle.proc_state.specs.State.{state_of}
 use Rattle.bus_msg.specs.declared.entry.Entry.{Entry}
@@ -8,7 +8,7 @@ use Rattle.entry_lines.specs.declared.told.ToldWhat.TheVariants.{Sync}
 use Rattle.log_audit.specs.Decides.{Decides}
 use Rattle.log_cuts.specs.Syncs.{KeepsCut, LeadsToCut}
 use Rattle.audited_log.specs.One.{KeepsOne}
-use Rattle.audited_log.proofs.OneLaws.{cut, decides_more, leads_one, stays, sync_led}
+use Rattle.audited_log.proofs.OneLaws.{cut, decides_more, leads_one, sync_led}
 use Rattle.audited_log.proofs.cuts.answer.Goals as goal
 
 abbrev told : goal.After-childless → Told

@@ -1,7 +1,5 @@
-use Rattle.std.proofs.Common.{◌≡◌, ℕ, refl, sym, ◌∙◌, ap, subst, List, [], Option, Some, None}
-use Rattle.std.specs.Map.{lookup}
+use Rattle.std.proofs.Common.{◌≡◌, ℕ, refl, sym, subst, Option}
 use Rattle.proc_state.specs.declared.process.Process.{Process}
-use Rattle.plain_kernel.specs.Maps.{at_key}
 use Rattle.audited_process.specs.declared.audited.Audited.{Audited}
 use Rattle.audited_log.specs.Processes.{process_in}
 use Rattle.audited_log.proofs.TakenOut.{AreMade, made_all, made_more, made_none, nothing_left}

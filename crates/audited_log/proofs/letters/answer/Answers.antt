@@ -1,4 +1,4 @@
-use Rattle.std.proofs.Common.{◌≡◌, refl, Option, Some, subst, sym}
+use Rattle.std.proofs.Common.{refl, Option, subst, sym}
 use Rattle.std.specs.Option.{IfSome}
 use Rattle.proc_state.specs.State.{state_of}
 use Rattle.bus_msg.specs.declared.entry.Entry.{Entry}
@@ -7,7 +7,6 @@ use Rattle.entry_lines.specs.declared.told.Told.{Told}
 use Rattle.entry_lines.specs.declared.told.ToldWhat.TheVariants.{Mail}
 use Rattle.log_audit.specs.Decides.{Decides}
 use Rattle.log_processes.specs.Sending.{KeepsSender, Leads}
-use Rattle.audited_process.specs.declared.audited.Audited.{Audited}
 use Rattle.audited_log.specs.One.{KeepsOne}
 use Rattle.audited_log.proofs.OneLaws.{decides_more, leads_one, letter_led, sender}
 use Rattle.audited_log.proofs.letters.answer.Goals as goal

@@ -1,5 +1,4 @@
-use Rattle.std.proofs.Common.{◌≡◌, sym, ◌∙◌, ap, subst, Option, None}
-use Rattle.std.specs.Option.{IfSome}
+use Rattle.std.proofs.Common.{◌≡◌, sym, subst}
 use Rattle.cert_sched.specs.Built.{MayStand}
 use Rattle.entry_lines.specs.declared.told.Told.{Told}
 use Rattle.entry_lines.specs.declared.told.ToldWhat.TheVariants.{PageIs}

@@ -1,4 +1,4 @@
-use Rattle.std.proofs.Common.{◌≡◌, ℕ, ◌≤◌, ◌<◌, ◌^◌, refl, sym, ◌∙◌, ap, arith, subst, Option, Some, None}
+use Rattle.std.proofs.Common.{◌≡◌, sym, ◌∙◌, ap, arith, subst, Some, None}
 use Rattle.t32_base.specs.declared.process.Pid.{Pid}
 use Rattle.audited_log.specs.Processes.{kept_at}
 use Rattle.audited_log.proofs.Answering.{absent_refused, one_answers, one_leads, state_one}

@@ -1,11 +1,8 @@
-use Rattle.std.proofs.Common.{◌≡◌, ℕ, ◌+◌, refl, sym, ◌∙◌, ap, arith, subst, List, length, take, get_or, slice_get, Option, Some, None, BTreeMap}
-use Rattle.std.specs.Option.{option_copied_mut}
+use Rattle.std.proofs.Common.{◌≡◌, ℕ, ◌+◌, sym, ◌∙◌, ap, arith, subst, List, length, take, get_or, slice_get, Some, BTreeMap}
 use Rattle.std.specs.List.Sorted.{IsStrictlySortedBy}
-use Rattle.std.specs.Map.{keys_of}
 use Rattle.std.specs.Ordering.{nat_cmp}
 use Rattle.std.proofs.Math.Seq.{take-length}
 use Rattle.std.proofs.lemmas.Option.{slice_get-get_or}
-use Rattle.t32_base.specs.declared.process.Pid.{Pid}
 use Rattle.audited_process.specs.declared.audited.Audited.{Audited}
 use Rattle.audited_log.specs.Processes.{kept_at}
 use Rattle.audited_log.proofs.AllGo.{GoneOn, all_gone, gone_more, gone_none, gone_none_yet, was}

@@ -1,4 +1,4 @@
-use Rattle.std.proofs.Common.{◌≡◌, ℕ, refl, sym, ◌∙◌, ap, subst, List, [], Option, Some, None}
+use Rattle.std.proofs.Common.{ℕ, sym, subst, Option}
 use Rattle.proc_state.specs.declared.process.Process.{Process}
 use Rattle.audited_process.specs.declared.audited.Audited.{Audited}
 use Rattle.audited_log.proofs.Starting.{IsStarted, started_are}

@@ -1,4 +1,4 @@
-use Rattle.std.proofs.Common.{◌≡◌, refl, sym, ◌∙◌, ap, Option, Some, None, true≢false}
+use Rattle.std.proofs.Common.{refl, sym, ◌∙◌, ap, true≢false}
 use Rattle.bus_msg.specs.PlacedAfter.{what}
 use Rattle.cert_sched.specs.Account.{is_exit_of}
 use Rattle.audited_log.proofs.Taking.{comes_same, comes_with, comes_without, no_birth_at, no_exit_at, takes_all}

@@ -1,4 +1,4 @@
-use Rattle.std.proofs.Common.{◌≡◌, refl, ap, ◌∙◌, List, ◌∷◌, ℕ, Option, Some, subst, sym}
+use Rattle.std.proofs.Common.{◌≡◌, refl, List, ◌∷◌, ℕ, Option, subst, sym}
 use Rattle.std.specs.Option.{IfSome}
 use Rattle.proc_state.specs.State.{state_of}
 use Rattle.bus_msg.specs.declared.entry.Entry.{Entry}
@@ -7,10 +7,10 @@ use Rattle.entry_lines.specs.declared.told.Told.{Told}
 use Rattle.entry_lines.specs.declared.told.ToldWhat.TheVariants.{Fresh}
 use Rattle.log_audit.specs.Decides.{Decides}
 use Rattle.log_renewals.specs.Fresh.{KeepsFresh, LeadsToRenewal}
-use Rattle.audited_log.specs.One.{KeepsOne, LeadsOne}
+use Rattle.audited_log.specs.One.{KeepsOne}
 use Rattle.audited_log.specs.Answers.{entry_of}
 use Rattle.audited_log.specs.Named.{behind_first}
-use Rattle.audited_log.proofs.OneLaws.{decides_more, first_named, fresh_led, leads_one, renewed, stays}
+use Rattle.audited_log.proofs.OneLaws.{decides_more, first_named, fresh_led, leads_one, renewed}
 use Rattle.audited_log.proofs.renewals.fresh.Goals as goal
 
 -- the line names the process first

@@ -1,4 +1,4 @@
-use Rattle.std.proofs.Common.{◌≡◌, refl, ap, ◌∙◌, List, ◌∷◌, ℕ, Option, Some, subst, sym}
+use Rattle.std.proofs.Common.{◌≡◌, refl, ap, ◌∙◌, List, ◌∷◌, ℕ, Option, subst, sym}
 use Rattle.bus_msg.specs.declared.entry.Entry.{Entry}
 use Rattle.t32_base.specs.declared.letter.BackRec.{BackRec}
 use Rattle.cert_sched.specs.Built.{MayStand}

@@ -1,4 +1,4 @@
-use Rattle.std.proofs.Common.{◌≡◌, sym, ◌∙◌, ◌++◌, ◌∷◌, []}
+use Rattle.std.proofs.Common.{sym, ◌∙◌, ◌++◌, ◌∷◌, []}
 use Rattle.cert_sched.specs.Built.{MayStand}
 use Rattle.cert_sched.proofs.LogLaws.{IsLegal-snoc}
 use Rattle.log_laws.proofs.records.Standing.{built_stands}

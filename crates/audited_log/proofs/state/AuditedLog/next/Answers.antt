@@ -1,4 +1,4 @@
-use Rattle.std.proofs.Common.{◌≡◌, sym, subst, Some, Option}
+use Rattle.std.proofs.Common.{sym, subst, Some, Option}
 use Rattle.std.specs.Option.{IfSome}
 use Rattle.bus_msg.specs.declared.entry.Entry.{Entry}
 use Rattle.audited_log.specs.declared.answer.Answer.{Answer}
