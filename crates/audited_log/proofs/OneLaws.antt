@@ -1,7 +1,8 @@
 -- Where the entry of a line leads the process that is kept.
-use Rattle.std.proofs.Common.{◌≡◌, ℕ, sym, ◌∙◌, ap, subst, List, [], ◌∷◌, ◌++◌, true, false, not, ◌||◌, Option, Some, None, true≢false}
+use Rattle.std.proofs.Common.{◌≡◌, ℕ, refl, sym, ◌∙◌, ap, subst, List, [], ◌∷◌, ◌++◌, true, false, not, ◌||◌, Option, Some, None, true≢false}
 use Rattle.std.specs.Prelude.{option_map}
 use Rattle.std.specs.Option.{IfSome}
+use Rattle.std.proofs.lemmas.Bool.{or_parts}
 use Rattle.t32_base.specs.declared.process.Pid.{Pid}
 use Rattle.sys_text.specs.declared.system.System.{System}
 use Rattle.sys_text.specs.Valid.{is_system}
@@ -23,31 +24,27 @@ use Rattle.entry_lines.specs.declared.told.ToldLetter.{ToldLetter}
 use Rattle.entry_lines.specs.declared.told.ToldWhat.TheVariants.{Birth as ToldBirth, Mail as ToldMail, Sync as ToldSync, Fresh as ToldFresh, Exit as ToldExit, Page as ToldPage}
 use Rattle.entry_lines.specs.Told.{told_of, told_what}
 use Rattle.page_server.specs.Account.{PagerState, SameAccounts}
-use Rattle.log_audit.specs.declared.fetches.Asked.{Asked}
 use Rattle.log_audit.specs.Decides.{Decides}
-use Rattle.log_audit.specs.Fetches.{KeepsAsked}
 use Rattle.log_processes.specs.declared.sender.Sender.{Sender}
-use Rattle.log_processes.specs.Sending.{KeepsSender, Leads}
+use Rattle.log_processes.specs.Sending.{KeepsSender}
 use Rattle.log_cuts.specs.Ahead.{IsAhead}
-use Rattle.log_cuts.specs.Pages.{KeepsPages}
-use Rattle.log_cuts.specs.Syncs.{KeepsCut, LeadsToCut}
 use Rattle.log_births.specs.declared.births.Born.{Born}
 use Rattle.log_births.specs.Births.{BearsChild}
-use Rattle.log_renewals.specs.Fresh.{KeepsFresh, LeadsToRenewal}
-use Rattle.log_renewals.specs.Standing.{KeepsStanding}
 use Rattle.audited_process.specs.declared.audited.Audited.{Audited}
-use Rattle.audited_process.specs.Answering.{SaysAsked, SaysSender}
-use Rattle.audited_process.specs.Concerns.{forks, goes_on, steps_by}
-use Rattle.audited_process.specs.Leading.{is_going_told, is_letter_told, is_standing_told, is_step_told}
-use Rattle.log_processes.specs.Arrivals.{is_writer}
+use Rattle.audited_process.specs.Answering.{SaysSender}
+use Rattle.audited_process.specs.Concerns.{gets_letter, goes_on, steps_by}
+use Rattle.audited_process.specs.Leading.{is_going_told, is_standing_told, is_step_told}
+use Rattle.audited_process.specs.Lines.{KeepsAudited, KeepsFetched, KeepsPaged, KeepsRecorded, LeadsTo}
+use Rattle.audited_process.proofs.ByKind.{standing_told}
+use Rattle.audited_process.proofs.LeadsOn.{leads_on}
 use Rattle.audited_log.specs.declared.answer.Answer.{Answer}
 use Rattle.audited_log.specs.declared.common.Common.{Common}
 use Rattle.audited_log.specs.Named.{behind_first, first_number}
 use Rattle.audited_log.specs.Processes.{BearsAs, IsLedOf}
 use Rattle.audited_log.specs.One.{IsOfBirth, KeepsOne, LeadsOne, StaysCommon}
 use Rattle.audited_log.specs.Answers.{IsChildless, entry_of}
-use Rattle.audited_log.proofs.Telling.{going_told, is_birth_told, itself, letter_told, standing_told, step_told, unborn, unchanged}
-use Rattle.audited_log.proofs.Leading.{sends_led, stands_led, unled, unled_of}
+use Rattle.audited_log.proofs.Telling.{going_told, is_birth_told, itself, step_told, unborn}
+use Rattle.audited_log.proofs.Leading.{unled_of}
 
 -- ---- answers
 
@@ -105,83 +102,40 @@ module _ (c : Common) (p : Pid) (a : Audited) where
     sender system log valid legal keeps =
         says system log c.front c.limits valid (keeps.common).front (keeps.common).limits (keeps.common).fetches (keeps.common).family (keeps.one).audited
 
-    -- ---- letters and exits
+    pub audited_kept : (system : System) (log : List Entry) → is_system system ≡ true → IsLegalBy MayStand system log → KeepsOne c p a system log → KeepsAudited c.front c.limits p a kept system log
+    audited_kept system log valid legal keeps = record { audited = (keeps.one).audited; sender = sender system log valid legal keeps }
 
-    pub letter_led : (place at : ℕ) (by : ToldBy) (letter : ToldLetter) (n : Process) (e : Entry) → Leads c.front c.limits p kept s e (state_of n)
-        → LedBy (record a { process = n }) (record { place = place; by = by; what = ToldMail p.0 at letter }) e
-    letter_led place at by letter n e lead = λ system log valid legal keeps line.
-        let writes : is_writer p (what e) ≡ true = letter_told p (what e) ∙ ap (λ (t : Told). is_letter_told p.0 t.what) line ∙ itself p.0 in
+    pub paged_kept : (system : System) (log : List Entry) → is_system system ≡ true → IsLegalBy MayStand system log → KeepsOne c p a system log → KeepsPaged c.front c.limits p a kept c.pager system log
+    paged_kept system log valid legal keeps = (audited_kept system log valid legal keeps, (keeps.common).accounts)
+
+    -- where it steps by the entry, its copy is of no use
+    pub steps_led : (Kept : System → List Entry → Type 0) → ((system : System) (log : List Entry) → is_system system ≡ true → IsLegalBy MayStand system log → KeepsOne c p a system log → Kept system log)
+        → (told : Told) (new : Audited) (e : Entry) → is_step_told p.0 told.what ≡ true → LeadsTo Kept p new e → LedBy new told e
+    steps_led Kept more told new e is lead = λ system log valid legal keeps line.
+        let steps : steps_by p (what e) ≡ true = step_told p (what e) ∙ ap (λ (t : Told). is_step_told p.0 t.what) line ∙ is in
         record {
           unended = (keeps.one).unended;
-          led = λ goes. record {
-            there = sends_led system log e p writes ∙ lead system log (sender system log valid legal keeps);
-            begun = ((keeps.one).audited).begun;
-            since_moved = ((keeps.one).audited).since_moved;
-          };
-          ahead = λ goes same. absurd (true≢false (sym writes ∙ (unchanged p (what e) same).unwritten));
+          led = λ goes. lead system log valid legal (more system log valid legal keeps);
+          ahead = λ goes same. absurd (true≢false (sym steps ∙ (or_parts (steps_by p (what e)) (gets_letter p (what e)) same).0));
         }
 
-    pub exit_led : (place at : ℕ) (by : ToldBy) (end : ToldEnd) (n : Process) (e : Entry) → LedBy (record a { process = n }) (record { place = place; by = by; what = ToldExit p.0 at end }) e
-    exit_led place at by end n e = λ system log valid legal keeps line.
+    -- a page leaves it where it is
+    pub page_led : (told : Told) (new : Audited) (e : Entry) → IsAhead (state_of new.process) new.ahead → LeadsTo (KeepsAudited c.front c.limits p a kept) p new e → LedBy new told e
+    page_led told new e ahead lead = λ system log valid legal keeps line. record {
+      unended = (keeps.one).unended;
+      led = λ goes. lead system log valid legal (audited_kept system log valid legal keeps);
+      ahead = λ goes same. ahead;
+    }
+
+    -- one that ends is led nowhere
+    pub exit_led : (place at : ℕ) (by : ToldBy) (end : ToldEnd) (new : Audited) (e : Entry) → LedBy new (record { place = place; by = by; what = ToldExit p.0 at end }) e
+    exit_led place at by end new e = λ system log valid legal keeps line.
         let ends : goes_on p (what e) ≡ false = going_told p (what e) ∙ ap (λ (t : Told). is_going_told p.0 t.what) line ∙ ap not (itself p.0) in
         record {
           unended = (keeps.one).unended;
           led = λ goes. absurd (true≢false (sym goes ∙ ends));
           ahead = λ goes same. absurd (true≢false (sym goes ∙ ends));
         }
-
-    -- ---- pages
-
-    pub paged : (system : System) (log : List Entry) → is_system system ≡ true → IsLegalBy MayStand system log → KeepsOne c p a system log → KeepsPages c.front p s kept (a.since_moved).sent system log
-    paged system log valid legal keeps =
-        let sends = sender system log valid legal keeps in
-        record { before = sends.before; there = ((keeps.one).audited).there; whole = sends.whole; pages = (((keeps.one).audited).since_moved).sent }
-
-    pub page_led : (place at index : ℕ) (by : ToldBy) (n : Option ProcState) (e : Entry) → IsAhead s n
-        → LedBy (record a { ahead = n }) (record { place = place; by = by; what = ToldPage p.0 at index }) e
-    page_led place at index by n e ahead = λ system log valid legal keeps line.
-        let none : steps_by p (what e) ≡ false = step_told p (what e) ∙ ap (λ (t : Told). is_step_told p.0 t.what) line in
-        record {
-          unended = (keeps.one).unended;
-          led = λ goes. record {
-            there = unled system log e p none ∙ ((keeps.one).audited).there;
-            begun = ((keeps.one).audited).begun;
-            since_moved = ((keeps.one).audited).since_moved;
-          };
-          ahead = λ goes same. ahead;
-        }
-
-    -- ---- where it stands as it does after the entry
-
-    stands_so : (told : Told) (n : Process) (m : Option ProcState) (e : Entry) → is_standing_told p.0 told.what ≡ true
-        → ((system : System) (log : List Entry) → is_system system ≡ true → IsLegalBy MayStand system log → KeepsOne c p a system log → process_after system (log ++ e ∷ []) p ≡ Some (state_of n))
-        → LedBy (record a { process = n; ahead = m }) told e
-    stands_so told n m e is there = λ system log valid legal keeps line.
-        let stands : (forks p (what e) || is_cut p (what e)) ≡ true = standing_told p (what e) ∙ ap (λ (t : Told). is_standing_told p.0 t.what) line ∙ is in
-        record {
-          unended = (keeps.one).unended;
-          led = λ goes. record {
-            there = stands_led system log e p stands ∙ there system log valid legal keeps;
-            begun = ((keeps.one).audited).begun;
-            since_moved = ((keeps.one).audited).since_moved;
-          };
-          ahead = λ goes same. absurd (true≢false (sym stands ∙ (unchanged p (what e) same).unstood));
-        }
-
-    pub cut : (system : System) (log : List Entry) → is_system system ≡ true → IsLegalBy MayStand system log → KeepsOne c p a system log → KeepsCut c.front c.limits p s kept (a.begun).start c.pager system log
-    cut system log valid legal keeps = record { sender = sender system log valid legal keeps; begun = (((keeps.one).audited).begun).start; accounts = (keeps.common).accounts }
-
-    pub sync_led : (place at : ℕ) (by : ToldBy) (took : Option ℕ) (n : Process) (m : Option ProcState) (e : Entry) → LeadsToCut c.front c.limits p kept (a.begun).start c.pager s e (state_of n)
-        → LedBy (record a { process = n; ahead = m }) (record { place = place; by = by; what = ToldSync p.0 at took }) e
-    sync_led place at by took n m e lead = stands_so (record { place = place; by = by; what = ToldSync p.0 at took }) n m e (itself p.0) (λ system log valid legal keeps. lead system log (cut system log valid legal keeps))
-
-    pub renewed : (system : System) (log : List Entry) → is_system system ≡ true → IsLegalBy MayStand system log → KeepsOne c p a system log → KeepsFresh c.front c.limits p s kept c.pager system log
-    renewed system log valid legal keeps = record { sender = sender system log valid legal keeps; accounts = (keeps.common).accounts }
-
-    pub fresh_led : (place at to : ℕ) (by : ToldBy) (others : List ℕ) (n : Process) (m : Option ProcState) (e : Entry) → LeadsToRenewal c.front c.limits p kept c.pager s e (state_of n)
-        → LedBy (record a { process = n; ahead = m }) (record { place = place; by = by; what = ToldFresh (p.0 ∷ others) at to }) e
-    fresh_led place at to by others n m e lead =
-        stands_so (record { place = place; by = by; what = ToldFresh (p.0 ∷ others) at to }) n m e (itself p.0) (λ system log valid legal keeps. lead system log (renewed system log valid legal keeps))
 
     -- ---- births
 
@@ -202,8 +156,10 @@ module _ (c : Common) (p : Pid) (a : Audited) where
         let line = (decides system log valid legal keeps).0 in
         let both = bears system log valid legal (sender system log valid legal keeps) in
         record {
-          led = stands_so (record { place = place; by = by; what = ToldBirth p.0 at child end }) n a.ahead b.entry (itself p.0)
-              (λ system log valid legal keeps. ((bears system log valid legal (sender system log valid legal keeps)).0).there) system log valid legal keeps line;
+          led = steps_led (KeepsOne c p a) (λ system log valid legal keeps. keeps) (record { place = place; by = by; what = ToldBirth p.0 at child end }) (record a { process = n }) b.entry (itself p.0)
+              (λ system log valid legal keeps. leads_on.stands system log b.entry p a (record a { process = n }) (standing_told p (what b.entry)
+              ∙ ap (λ (t : Told). is_standing_told p.0 t.what) (decides system log valid legal keeps).0 ∙ itself p.0) (keeps.one).audited (refl, refl)
+              ((bears system log valid legal (sender system log valid legal keeps)).0).there) system log valid legal keeps line;
           child = λ q born.
               let number : q.0 ≡ (((b.child).small).pid).0 = child_is (what b.entry) p.0 at child end (ap (λ (t : Told). t.what) line) q born ∙ sym is.1 in
               let me : ((b.child).small).pid ≡ q = λ i. record { 0 = sym number i } in
@@ -212,17 +168,11 @@ module _ (c : Common) (p : Pid) (a : Audited) where
 
   -- ---- pages that are asked for, and new backups of who waits
 
-  pub asked_keeps : (index : ℕ) (asked : Asked) → SaysAsked p a c.fetches index asked → (system : System) (log : List Entry) → is_system system ≡ true → IsLegalBy MayStand system log → KeepsOne c p a system log
-      → KeepsAsked c.front p index asked system log
-  asked_keeps index asked says system log valid legal keeps = says system log c.front (keeps.common).front (keeps.common).fetches (keeps.one).audited
+  pub fetched_kept : (system : System) (log : List Entry) → is_system system ≡ true → IsLegalBy MayStand system log → KeepsOne c p a system log → KeepsFetched c.front p a c.fetches system log
+  fetched_kept system log valid legal keeps = record { before = (keeps.common).front; fetched = (keeps.common).fetches; audited = (keeps.one).audited }
 
-  pub standing_keeps : (system : System) (log : List Entry) → is_system system ≡ true → IsLegalBy MayStand system log → KeepsOne c p a system log → KeepsStanding c.front p (a.since_moved).only c.family c.records system log
-  standing_keeps system log valid legal keeps = record {
-    before = (keeps.common).front;
-    moved_is = (((keeps.one).audited).since_moved).only;
-    family = (keeps.common).family;
-    records = (keeps.common).records;
-  }
+  pub recorded_kept : (system : System) (log : List Entry) → is_system system ≡ true → IsLegalBy MayStand system log → KeepsOne c p a system log → KeepsRecorded c.front p a c.family c.records system log
+  recorded_kept system log valid legal keeps = record { before = (keeps.common).front; family = (keeps.common).family; records = (keeps.common).records; audited = (keeps.one).audited }
 
   pub still_led : (told : Told) (e : Entry) → is_step_told p.0 told.what ≡ false → LedBy a told e
   still_led told e is = λ system log valid legal keeps line. unled_of system log e p a (step_told p (what e) ∙ ap (λ (t : Told). is_step_told p.0 t.what) line ∙ is) keeps.one

@@ -19,7 +19,7 @@ use Rattle.audited_log.specs.Named.{doer}
 pub itself : (n : ℕ) → eqb n n ≡ true
 itself n = eq-eqb n n refl
 
--- ---- who steps
+-- ---- who steps, and who goes on
 
 pub step_told : (p : Pid) (w : What) → steps_by p w ≡ is_step_told p.0 (told_what w)
 step_told p (Mail at letter) = or_false (same_pid letter.from p || false) ∙ or_false (same_pid letter.from p)
@@ -28,18 +28,6 @@ step_told p (Rebackup to true []) = refl
 step_told p (Rebackup to true (r ∷ rs)) = refl
 step_told p (Rebackup to false recs) = refl
 step_told p _ = refl
-
-pub letter_told : (p : Pid) (w : What) → is_writer p w ≡ is_letter_told p.0 (told_what w)
-letter_told p (Rebackup to true recs) = refl
-letter_told p (Rebackup to false recs) = refl
-letter_told p _ = refl
-
-pub standing_told : (p : Pid) (w : What) → (forks p w || is_cut p w) ≡ is_standing_told p.0 (told_what w)
-standing_told p (Birth parent at child end) = or_false (same_pid parent p)
-standing_told p (Rebackup to true []) = refl
-standing_told p (Rebackup to true (r ∷ rs)) = refl
-standing_told p (Rebackup to false recs) = refl
-standing_told p _ = refl
 
 pub going_told : (p : Pid) (w : What) → goes_on p w ≡ is_going_told p.0 (told_what w)
 going_told p (Rebackup to true recs) = refl
@@ -75,19 +63,6 @@ none_steps (ToldSync pid at took) m none = cc
 none_steps (ToldFresh [] at to) m none = refl
 none_steps (ToldFresh (pid ∷ pids) at to) m none = cc
 none_steps _ m none = refl
-
--- ---- who is not changed
-
-pub record Unchanged (p : Pid) (w : What) : Type 0 where
-  pub unwritten : is_writer p w ≡ false
-  pub unstood : (forks p w || is_cut p w) ≡ false
-
-pub unchanged : (p : Pid) (w : What) → changes p w ≡ false → Unchanged p w
-unchanged p w is =
-    let steps = or_parts (steps_by p w) (gets_letter p w) is in
-    let cut = or_parts (is_writer p w || forks p w) (is_cut p w) steps.0 in
-    let writes = or_parts (is_writer p w) (forks p w) cut.0 in
-    record { unwritten = writes.0; unstood = λ i. writes.1 i || cut.1 i }
 
 -- ---- births, and the end
 

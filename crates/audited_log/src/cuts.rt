@@ -10,7 +10,7 @@ use crate::answer::{Answer, childless};
 use crate::common::Common;
 use audited_process::answering::sender_of;
 use audited_process::audited::Audited;
-use log_cuts::syncs::next_sync;
+use audited_process::lines::sync;
 use log_processes::sender::Head;
 use std::alloc::Global;
 use t32_base::streams::NoMemory;
@@ -30,19 +30,9 @@ pub(crate) fn answer(
     ensures common { StaysCommon common.old common.new }
 {
     let kept = sender_of(head.pid, audited, &common.fetches, &common.family);
+    let (front, limits) = (&common.front, common.limits);
     let pager = &mut common.pager;
-    match next_sync(
-        alloc,
-        &common.front,
-        common.limits,
-        head,
-        took,
-        kept,
-        &audited.begun.start,
-        pager,
-        &mut audited.process,
-        &mut audited.ahead,
-    ) {
+    match sync(alloc, front, limits, head, took, kept, pager, audited) {
         Ok(entry) => Ok(childless(entry)),
         Err(_) => Err(NoMemory),
     }

@@ -7,11 +7,10 @@ ghost use Rattle.audited_log.specs.One.{AnswersOne, LeadsOne, StaysCommon};
 
 use crate::answer::{Answer, childless};
 use crate::common::Common;
-use audited_process::answering::asked_of;
 use audited_process::audited::Audited;
+use audited_process::lines;
 use entry_lines::ToldBy;
 use log_audit::answers::next_page;
-use log_audit::fetches::next_fetch;
 use std::alloc::Global;
 use t32_base::process::Pid;
 use t32_base::streams::NoMemory;
@@ -28,8 +27,8 @@ pub(crate) fn fetch(
     ensures decides { AnswersOne common.now pid audited.now place by (Fetch pid.0 index) result }
     ensures leads { IfSome result (LeadsOne common.now pid audited.now audited.now) }
 {
-    let asked = asked_of(pid, audited, &common.fetches, index);
-    childless(next_fetch(&common.front, place, by, pid, index, asked))
+    let (front, fetches) = (&common.front, &common.fetches);
+    childless(lines::fetch(front, place, by, pid, index, fetches, audited))
 }
 
 /// The answer to a line by which page `index` of the process `pid` comes. The disk of the page server fails at no call, so that it

@@ -8,8 +8,8 @@ use crate::answer::{Answer, childless};
 use crate::common::Common;
 use audited_process::answering::sender_of;
 use audited_process::audited::Audited;
+use audited_process::lines::letter;
 use entry_lines::ToldLetter;
-use log_processes::letters::next_letter;
 use log_processes::sender::Head;
 use std::alloc::Global;
 use t32_base::streams::NoMemory;
@@ -26,14 +26,7 @@ pub(crate) fn answer(
     ensures leads { IfOk result (λ answer. IfSome answer (LeadsOne common.now head.pid audited.old audited.new)) }
 {
     let kept = sender_of(head.pid, audited, &common.fetches, &common.family);
-    let entry = next_letter(
-        alloc,
-        &common.front,
-        common.limits,
-        head,
-        told,
-        kept,
-        &mut audited.process,
-    )?;
+    let (front, limits) = (&common.front, common.limits);
+    let entry = letter(alloc, front, limits, head, told, kept, audited)?;
     Ok(childless(entry))
 }

@@ -10,7 +10,7 @@ use crate::answer::{Answer, childless};
 use crate::common::Common;
 use audited_process::answering::sender_of;
 use audited_process::audited::Audited;
-use log_cuts::pages::next_page;
+use audited_process::lines::page;
 use log_processes::sender::Head;
 use std::alloc::Global;
 use t32_base::streams::NoMemory;
@@ -28,17 +28,7 @@ pub(crate) fn answer(
     ensures leads { IfOk result (λ answer. IfSome answer (LeadsOne common.now head.pid audited.old audited.new)) }
 {
     let kept = sender_of(head.pid, audited, &common.fetches, &common.family);
-    let (process, ahead) = (&audited.process, &mut audited.ahead);
-    let sent = &audited.since_moved.sent;
-    let entry = next_page(
-        alloc,
-        &common.front,
-        head,
-        index,
-        kept,
-        sent,
-        process,
-        ahead,
-    )?;
+    let (front, limits) = (&common.front, common.limits);
+    let entry = page(alloc, front, limits, head, index, kept, audited)?;
     Ok(childless(entry))
 }

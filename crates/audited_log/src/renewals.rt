@@ -11,9 +11,9 @@ use crate::answer::{Answer, childless};
 use crate::common::Common;
 use audited_process::answering::sender_of;
 use audited_process::audited::Audited;
+use audited_process::lines;
 use log_processes::sender::Head;
-use log_renewals::fresh::next_fresh;
-use log_renewals::standing::{StandingHead, next_standing};
+use log_renewals::standing::StandingHead;
 use std::alloc::Global;
 use t32_base::streams::NoMemory;
 
@@ -36,18 +36,8 @@ pub(crate) fn fresh(
     let kept = sender_of(head.pid, audited, &common.fetches, &common.family);
     let (front, limits) = (&common.front, common.limits);
     let others = behind_first(pids);
-    match next_fresh(
-        alloc,
-        front,
-        limits,
-        head,
-        others,
-        to,
-        kept,
-        &mut common.pager,
-        &mut audited.process,
-        &mut audited.ahead,
-    ) {
+    let pager = &mut common.pager;
+    match lines::fresh(alloc, front, limits, head, others, to, kept, pager, audited) {
         Ok(entry) => Ok(childless(entry)),
         Err(_) => Err(NoMemory),
     }
@@ -65,18 +55,10 @@ pub(crate) fn standing(
     ensures decides { IfOk result (AnswersOne common.now head.pid audited.now head.place head.by (Standing pids.now head.to)) }
     ensures leads { IfOk result (λ answer. IfSome answer (LeadsOne common.now head.pid audited.now audited.now)) }
 {
-    let only = audited.since_moved.only;
     let others = behind_first(pids);
     let (front, family) = (&common.front, &common.family);
-    let entry = next_standing(
-        alloc,
-        front,
-        head,
-        others,
-        only,
-        family,
-        common.records.records(),
-    )?;
+    let records = common.records.records();
+    let entry = lines::standing(alloc, front, head, others, family, records, audited)?;
     Ok(childless(entry))
 }
 

@@ -1,14 +1,14 @@
-use Rattle.std.proofs.Common.{refl, Option, subst, sym}
+use Rattle.std.proofs.Common.{◌≡◌, refl, Option, Some, subst, sym}
 use Rattle.std.specs.Option.{IfSome}
-use Rattle.proc_state.specs.State.{state_of}
 use Rattle.bus_msg.specs.declared.entry.Entry.{Entry}
 use Rattle.cert_sched.specs.Built.{MayStand}
 use Rattle.entry_lines.specs.declared.told.Told.{Told}
 use Rattle.entry_lines.specs.declared.told.ToldWhat.TheVariants.{Sync}
 use Rattle.log_audit.specs.Decides.{Decides}
-use Rattle.log_cuts.specs.Syncs.{KeepsCut, LeadsToCut}
+use Rattle.audited_process.specs.Lines.{KeepsPaged, LeadsTo}
 use Rattle.audited_log.specs.One.{KeepsOne}
-use Rattle.audited_log.proofs.OneLaws.{cut, decides_more, leads_one, sync_led}
+use Rattle.audited_log.proofs.Telling.{itself}
+use Rattle.audited_log.proofs.OneLaws.{paged_kept, decides_more, leads_one, steps_led}
 use Rattle.audited_log.proofs.cuts.answer.Goals as goal
 
 abbrev told : goal.After-childless → Told
@@ -20,7 +20,7 @@ decides c =
     let p = c.args.head.pid in
     let a = c.args.audited.now in
     let kept = c.sender_of-kept.result in
-    decides_more (KeepsCut common.front common.limits p (state_of a.process) kept (a.begun).start common.pager) (KeepsOne common p a) (told c) (cut common p a kept c.sender_of-kept.ensures) c.in-Ok.entry c.in-Ok.ensures.decides
+    decides_more (KeepsPaged common.front common.limits p a kept common.pager) (KeepsOne common p a) (told c) (paged_kept common p a kept c.sender_of-kept.ensures) c.in-Ok.entry c.in-Ok.ensures.decides
 
 pub returns-in-Ok-clause-decides : goal.returns-in-Ok-clause-decides
 returns-in-Ok-clause-decides c = subst (λ (o : Option Entry). Decides MayStand (KeepsOne c.args.common.now c.args.head.pid c.args.audited.now) (told c) o) (sym c.childless.ensures.entry) (decides c)
@@ -31,8 +31,7 @@ returns-in-Ok-clause-leads c =
     let p = c.args.head.pid in
     let a = c.args.audited.now in
     let kept = c.sender_of-kept.result in
-    let n = c.next_sync.new.process in
-    let m = c.next_sync.new.ahead in
-    leads_one common p a (record a { process = n; ahead = m }) (told c) refl c.childless.result c.in-Ok.entry c.childless.ensures.entry c.childless.ensures.child (decides c)
-    (λ e is. sync_led common p a kept c.sender_of-kept.ensures c.args.head.place c.args.head.at c.args.head.by c.args.took n m e
-    (subst (λ (o : Option Entry). IfSome o (λ (e : Entry). LeadsToCut common.front common.limits p kept (a.begun).start common.pager (state_of a.process) e (state_of n))) is c.in-Ok.ensures.leads))
+    let new = c.sync.new.audited in
+    leads_one common p a new (told c) refl c.childless.result c.in-Ok.entry c.childless.ensures.entry c.childless.ensures.child (decides c)
+    (λ e is. steps_led common p a kept c.sender_of-kept.ensures (KeepsPaged common.front common.limits p a kept common.pager) (paged_kept common p a kept c.sender_of-kept.ensures) (told c) new e (itself p.0)
+    (subst (λ (o : Option Entry). IfSome o (LeadsTo (KeepsPaged common.front common.limits p a kept common.pager) p new)) is c.in-Ok.ensures.leads))

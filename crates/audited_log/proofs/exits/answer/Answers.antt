@@ -1,13 +1,12 @@
 use Rattle.std.proofs.Common.{refl, Option, subst, sym}
-use Rattle.proc_state.specs.State.{state_of}
 use Rattle.bus_msg.specs.declared.entry.Entry.{Entry}
 use Rattle.cert_sched.specs.Built.{MayStand}
 use Rattle.entry_lines.specs.declared.told.Told.{Told}
 use Rattle.entry_lines.specs.declared.told.ToldWhat.TheVariants.{Exit}
 use Rattle.log_audit.specs.Decides.{Decides}
-use Rattle.log_processes.specs.Sending.{KeepsSender}
+use Rattle.audited_process.specs.Lines.{KeepsAudited}
 use Rattle.audited_log.specs.One.{KeepsOne}
-use Rattle.audited_log.proofs.OneLaws.{decides_more, exit_led, leads_one, sender}
+use Rattle.audited_log.proofs.OneLaws.{audited_kept, decides_more, exit_led, leads_one}
 use Rattle.audited_log.proofs.exits.answer.Goals as goal
 
 abbrev told : goal.After-childless → Told
@@ -19,7 +18,7 @@ decides c =
     let p = c.args.head.pid in
     let a = c.args.audited.now in
     let kept = c.sender_of-kept.result in
-    decides_more (KeepsSender common.front common.limits p (state_of a.process) kept) (KeepsOne common p a) (told c) (sender common p a kept c.sender_of-kept.ensures) c.in_ok-entry.entry c.in_ok-entry.ensures.decides
+    decides_more (KeepsAudited common.front common.limits p a kept) (KeepsOne common p a) (told c) (audited_kept common p a kept c.sender_of-kept.ensures) c.in_ok-entry.entry c.in_ok-entry.ensures
 
 pub returns-clause-decides : goal.returns-clause-decides
 returns-clause-decides c = subst (λ (o : Option Entry). Decides MayStand (KeepsOne c.args.common.now c.args.head.pid c.args.audited.now) (told c) o) (sym c.childless.ensures.entry) (decides c)
@@ -29,6 +28,6 @@ returns-clause-leads c =
     let common = c.args.common.now in
     let p = c.args.head.pid in
     let a = c.args.audited.now in
-    let n = c.next_exit.new.process in
-    leads_one common p a (record a { process = n }) (told c) refl c.childless.result c.in_ok-entry.entry c.childless.ensures.entry c.childless.ensures.child (decides c)
-    (λ e is. exit_led common p a c.sender_of-kept.result c.sender_of-kept.ensures c.args.head.place c.args.head.at c.args.head.by c.args.told n e)
+    let new = c.exit.new.audited in
+    leads_one common p a new (told c) refl c.childless.result c.in_ok-entry.entry c.childless.ensures.entry c.childless.ensures.child (decides c)
+    (λ e is. exit_led common p a c.sender_of-kept.result c.sender_of-kept.ensures c.args.head.place c.args.head.at c.args.head.by c.args.told new e)

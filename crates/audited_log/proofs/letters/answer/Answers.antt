@@ -1,14 +1,14 @@
-use Rattle.std.proofs.Common.{refl, Option, subst, sym}
+use Rattle.std.proofs.Common.{◌≡◌, refl, Option, Some, subst, sym}
 use Rattle.std.specs.Option.{IfSome}
-use Rattle.proc_state.specs.State.{state_of}
 use Rattle.bus_msg.specs.declared.entry.Entry.{Entry}
 use Rattle.cert_sched.specs.Built.{MayStand}
 use Rattle.entry_lines.specs.declared.told.Told.{Told}
 use Rattle.entry_lines.specs.declared.told.ToldWhat.TheVariants.{Mail}
 use Rattle.log_audit.specs.Decides.{Decides}
-use Rattle.log_processes.specs.Sending.{KeepsSender, Leads}
+use Rattle.audited_process.specs.Lines.{KeepsAudited, LeadsTo}
 use Rattle.audited_log.specs.One.{KeepsOne}
-use Rattle.audited_log.proofs.OneLaws.{decides_more, leads_one, letter_led, sender}
+use Rattle.audited_log.proofs.Telling.{itself}
+use Rattle.audited_log.proofs.OneLaws.{audited_kept, decides_more, leads_one, steps_led}
 use Rattle.audited_log.proofs.letters.answer.Goals as goal
 
 abbrev told : goal.After-childless → Told
@@ -20,7 +20,7 @@ decides c =
     let p = c.args.head.pid in
     let a = c.args.audited.now in
     let kept = c.sender_of-kept.result in
-    decides_more (KeepsSender common.front common.limits p (state_of a.process) kept) (KeepsOne common p a) (told c) (sender common p a kept c.sender_of-kept.ensures) c.in_ok-entry.entry c.in_ok-entry.ensures.decides
+    decides_more (KeepsAudited common.front common.limits p a kept) (KeepsOne common p a) (told c) (audited_kept common p a kept c.sender_of-kept.ensures) c.in_ok-entry.entry c.in_ok-entry.ensures.decides
 
 pub returns-clause-decides : goal.returns-clause-decides
 returns-clause-decides c = subst (λ (o : Option Entry). Decides MayStand (KeepsOne c.args.common.now c.args.head.pid c.args.audited.now) (told c) o) (sym c.childless.ensures.entry) (decides c)
@@ -31,7 +31,7 @@ returns-clause-leads c =
     let p = c.args.head.pid in
     let a = c.args.audited.now in
     let kept = c.sender_of-kept.result in
-    let n = c.next_letter.new.process in
-    leads_one common p a (record a { process = n }) (told c) refl c.childless.result c.in_ok-entry.entry c.childless.ensures.entry c.childless.ensures.child (decides c)
-    (λ e is. letter_led common p a kept c.sender_of-kept.ensures c.args.head.place c.args.head.at c.args.head.by c.args.told.now n e
-    (subst (λ (o : Option Entry). IfSome o (λ (e : Entry). Leads common.front common.limits p kept (state_of a.process) e (state_of n))) is c.in_ok-entry.ensures.leads))
+    let new = c.letter.new.audited in
+    leads_one common p a new (told c) refl c.childless.result c.in_ok-entry.entry c.childless.ensures.entry c.childless.ensures.child (decides c)
+    (λ e is. steps_led common p a kept c.sender_of-kept.ensures (KeepsAudited common.front common.limits p a kept) (audited_kept common p a kept c.sender_of-kept.ensures) (told c) new e (itself p.0)
+    (subst (λ (o : Option Entry). IfSome o (LeadsTo (KeepsAudited common.front common.limits p a kept) p new)) is c.in_ok-entry.ensures.leads))

@@ -1,13 +1,13 @@
-use Rattle.std.proofs.Common.{refl, Option, subst, sym}
-use Rattle.proc_state.specs.State.{state_of}
+use Rattle.std.proofs.Common.{◌≡◌, refl, Option, Some, subst, sym}
+use Rattle.std.specs.Option.{IfSome}
 use Rattle.bus_msg.specs.declared.entry.Entry.{Entry}
 use Rattle.cert_sched.specs.Built.{MayStand}
 use Rattle.entry_lines.specs.declared.told.Told.{Told}
 use Rattle.entry_lines.specs.declared.told.ToldWhat.TheVariants.{Page}
 use Rattle.log_audit.specs.Decides.{Decides}
-use Rattle.log_cuts.specs.Pages.{KeepsPages}
+use Rattle.audited_process.specs.Lines.{KeepsAudited, LeadsTo}
 use Rattle.audited_log.specs.One.{KeepsOne}
-use Rattle.audited_log.proofs.OneLaws.{decides_more, leads_one, page_led, paged}
+use Rattle.audited_log.proofs.OneLaws.{audited_kept, decides_more, leads_one, page_led}
 use Rattle.audited_log.proofs.pages.answer.Goals as goal
 
 abbrev told : goal.After-childless → Told
@@ -19,7 +19,7 @@ decides c =
     let p = c.args.head.pid in
     let a = c.args.audited.now in
     let kept = c.sender_of-kept.result in
-    decides_more (KeepsPages common.front p (state_of a.process) kept (a.since_moved).sent) (KeepsOne common p a) (told c) (paged common p a kept c.sender_of-kept.ensures) c.in_ok-entry.entry c.in_ok-entry.ensures.decides
+    decides_more (KeepsAudited common.front common.limits p a kept) (KeepsOne common p a) (told c) (audited_kept common p a kept c.sender_of-kept.ensures) c.in_ok-entry.entry c.in_ok-entry.ensures.decides
 
 pub returns-clause-decides : goal.returns-clause-decides
 returns-clause-decides c = subst (λ (o : Option Entry). Decides MayStand (KeepsOne c.args.common.now c.args.head.pid c.args.audited.now) (told c) o) (sym c.childless.ensures.entry) (decides c)
@@ -29,6 +29,8 @@ returns-clause-leads c =
     let common = c.args.common.now in
     let p = c.args.head.pid in
     let a = c.args.audited.now in
-    let n = c.next_page.new.ahead in
-    leads_one common p a (record a { ahead = n }) (told c) refl c.childless.result c.in_ok-entry.entry c.childless.ensures.entry c.childless.ensures.child (decides c)
-    (λ e is. page_led common p a c.sender_of-kept.result c.sender_of-kept.ensures c.args.head.place c.args.head.at c.args.index c.args.head.by n e c.next_page.ensures.ahead)
+    let kept = c.sender_of-kept.result in
+    let new = c.page.new.audited in
+    leads_one common p a new (told c) refl c.childless.result c.in_ok-entry.entry c.childless.ensures.entry c.childless.ensures.child (decides c)
+    (λ e is. page_led common p a kept c.sender_of-kept.ensures (told c) new e c.page.ensures.ahead
+    (subst (λ (o : Option Entry). IfSome o (LeadsTo (KeepsAudited common.front common.limits p a kept) p new)) is c.in_ok-entry.ensures.leads))

@@ -1,16 +1,16 @@
 use Rattle.std.proofs.Common.{◌≡◌, refl, List, ◌∷◌, ℕ, Option, subst, sym}
 use Rattle.std.specs.Option.{IfSome}
-use Rattle.proc_state.specs.State.{state_of}
 use Rattle.bus_msg.specs.declared.entry.Entry.{Entry}
 use Rattle.cert_sched.specs.Built.{MayStand}
 use Rattle.entry_lines.specs.declared.told.Told.{Told}
 use Rattle.entry_lines.specs.declared.told.ToldWhat.TheVariants.{Fresh}
 use Rattle.log_audit.specs.Decides.{Decides}
-use Rattle.log_renewals.specs.Fresh.{KeepsFresh, LeadsToRenewal}
+use Rattle.audited_process.specs.Lines.{KeepsPaged, LeadsTo}
 use Rattle.audited_log.specs.One.{KeepsOne}
 use Rattle.audited_log.specs.Answers.{entry_of}
 use Rattle.audited_log.specs.Named.{behind_first}
-use Rattle.audited_log.proofs.OneLaws.{decides_more, first_named, fresh_led, leads_one, renewed}
+use Rattle.audited_log.proofs.Telling.{itself}
+use Rattle.audited_log.proofs.OneLaws.{decides_more, first_named, leads_one, paged_kept, steps_led}
 use Rattle.audited_log.proofs.renewals.fresh.Goals as goal
 
 -- the line names the process first
@@ -29,8 +29,8 @@ decides c =
     let p = c.args.head.pid in
     let a = c.args.audited.now in
     let kept = c.sender_of-kept.result in
-    decides_more (KeepsFresh common.front common.limits p (state_of a.process) kept common.pager) (KeepsOne common p a) (told c (named c)) (renewed common p a kept c.sender_of-kept.ensures) c.in-Ok.entry
-    (subst (λ (ns : List ℕ). Decides MayStand (KeepsFresh common.front common.limits p (state_of a.process) kept common.pager) (told c (p.0 ∷ ns)) c.in-Ok.entry) c.behind_first-others.ensures c.in-Ok.ensures.decides)
+    decides_more (KeepsPaged common.front common.limits p a kept common.pager) (KeepsOne common p a) (told c (named c)) (paged_kept common p a kept c.sender_of-kept.ensures) c.in-Ok.entry
+    (subst (λ (ns : List ℕ). Decides MayStand (KeepsPaged common.front common.limits p a kept common.pager) (told c (p.0 ∷ ns)) c.in-Ok.entry) c.behind_first-others.ensures c.in-Ok.ensures.decides)
 
 pub returns-in-Ok-clause-decides : goal.returns-in-Ok-clause-decides
 returns-in-Ok-clause-decides c =
@@ -43,8 +43,8 @@ returns-in-Ok-clause-leads c =
     let p = c.args.head.pid in
     let a = c.args.audited.now in
     let kept = c.sender_of-kept.result in
-    let n = c.next_fresh.new.process in
-    let m = c.next_fresh.new.ahead in
-    leads_one common p a (record a { process = n; ahead = m }) (told c (named c)) refl c.childless.result c.in-Ok.entry c.childless.ensures.entry c.childless.ensures.child (decides c)
-    (λ e is. fresh_led common p a kept c.sender_of-kept.ensures c.args.head.place c.args.head.at c.args.to c.args.head.by (behind_first c.args.pids.now) n m e
-    (subst (λ (o : Option Entry). IfSome o (λ (e : Entry). LeadsToRenewal common.front common.limits p kept common.pager (state_of a.process) e (state_of n))) is c.in-Ok.ensures.leads))
+    let new = c.fresh.new.audited in
+    let Kept = KeepsPaged common.front common.limits p a kept common.pager in
+    leads_one common p a new (told c (named c)) refl c.childless.result c.in-Ok.entry c.childless.ensures.entry c.childless.ensures.child (decides c)
+    (λ e is. steps_led common p a kept c.sender_of-kept.ensures Kept (paged_kept common p a kept c.sender_of-kept.ensures) (told c (named c)) new e (itself p.0)
+    (subst (λ (o : Option Entry). IfSome o (LeadsTo Kept p new)) is c.in-Ok.ensures.leads))

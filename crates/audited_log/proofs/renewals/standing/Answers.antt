@@ -5,10 +5,10 @@ use Rattle.cert_sched.specs.Built.{MayStand}
 use Rattle.entry_lines.specs.declared.told.Told.{Told}
 use Rattle.entry_lines.specs.declared.told.ToldWhat.TheVariants.{Standing}
 use Rattle.log_audit.specs.Decides.{Decides}
-use Rattle.log_renewals.specs.Standing.{KeepsStanding}
+use Rattle.audited_process.specs.Lines.{KeepsRecorded}
 use Rattle.audited_log.specs.One.{KeepsOne}
 use Rattle.audited_log.specs.Named.{behind_first}
-use Rattle.audited_log.proofs.OneLaws.{decides_more, first_named, leads_one, standing_keeps, still_led}
+use Rattle.audited_log.proofs.OneLaws.{decides_more, first_named, leads_one, recorded_kept, still_led}
 use Rattle.audited_log.proofs.renewals.standing.Goals as goal
 
 abbrev told : goal.After-childless → List ℕ → Told
@@ -25,10 +25,10 @@ decides c =
     let common = c.args.common.now in
     let p = c.args.head.pid in
     let a = c.args.audited.now in
-    let Kept = λ (recs : List BackRec). KeepsStanding common.front p (a.since_moved).only common.family recs in
+    let Kept = λ (recs : List BackRec). KeepsRecorded common.front p a common.family recs in
     subst (λ (ns : List ℕ). Decides MayStand (KeepsOne common p a) (told c ns) c.in_ok-entry.entry) (ap (λ ns. p.0 ∷ ns) c.behind_first-others.ensures ∙ same c)
-    (decides_more (Kept c.records.result.now) (KeepsOne common p a) (told c (p.0 ∷ c.behind_first-others.result.now))
-    (λ system log valid legal keeps. subst (λ (recs : List BackRec). Kept recs system log) (sym c.records.ensures) (standing_keeps common p a system log valid legal keeps)) c.in_ok-entry.entry c.in_ok-entry.ensures)
+    (decides_more (Kept c.records-records.result.now) (KeepsOne common p a) (told c (p.0 ∷ c.behind_first-others.result.now))
+    (λ system log valid legal keeps. subst (λ (recs : List BackRec). Kept recs system log) (sym c.records-records.ensures) (recorded_kept common p a system log valid legal keeps)) c.in_ok-entry.entry c.in_ok-entry.ensures)
 
 pub returns-clause-decides : goal.returns-clause-decides
 returns-clause-decides c = subst (λ (o : Option Entry). Decides MayStand (KeepsOne c.args.common.now c.args.head.pid c.args.audited.now) (told c c.args.pids.now) o) (sym c.childless.ensures.entry) (decides c)
