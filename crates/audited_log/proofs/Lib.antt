@@ -11,3 +11,4 @@ pub mod Starting
 pub mod Taking
 pub mod Ending
 pub mod Walking
+pub mod Concerned

@@ -1,5 +1,5 @@
 -- Where the entry of a line leads the process that is kept.
-use Rattle.std.proofs.Common.{◌≡◌, ℕ, refl, sym, ◌∙◌, ap, subst, List, [], ◌∷◌, ◌++◌, true, false, not, ◌||◌, Option, Some, None, true≢false}
+use Rattle.std.proofs.Common.{◌≡◌, ℕ, refl, sym, ◌∙◌, ap, subst, List, [], ◌∷◌, ◌++◌, true, false, not, Option, Some, None, true≢false}
 use Rattle.std.specs.Prelude.{option_map}
 use Rattle.std.specs.Option.{IfSome}
 use Rattle.std.proofs.lemmas.Bool.{or_parts}
@@ -13,15 +13,14 @@ use Rattle.bus_msg.specs.declared.entry.What.{What}
 use Rattle.bus_msg.specs.declared.entry.What.TheVariants.{Birth, Rebackup}
 use Rattle.bus_msg.specs.PlacedAfter.{what}
 use Rattle.cert_sched.specs.Schedule.{process_after}
-use Rattle.cert_sched.specs.Deeds.{is_birth_of, is_cut}
+use Rattle.cert_sched.specs.Deeds.{is_birth_of}
 use Rattle.cert_sched.specs.Legal.{IsLegalBy}
 use Rattle.cert_sched.specs.Built.{MayStand}
 use Rattle.cert_sched.proofs.CameLaws.{same_of}
 use Rattle.entry_lines.specs.declared.told.Told.{Told}
 use Rattle.entry_lines.specs.declared.told.ToldBy.{ToldBy}
 use Rattle.entry_lines.specs.declared.told.ToldEnd.{ToldEnd}
-use Rattle.entry_lines.specs.declared.told.ToldLetter.{ToldLetter}
-use Rattle.entry_lines.specs.declared.told.ToldWhat.TheVariants.{Birth as ToldBirth, Mail as ToldMail, Sync as ToldSync, Fresh as ToldFresh, Exit as ToldExit, Page as ToldPage}
+use Rattle.entry_lines.specs.declared.told.ToldWhat.TheVariants.{Birth as ToldBirth, Exit as ToldExit}
 use Rattle.entry_lines.specs.Told.{told_of, told_what}
 use Rattle.page_server.specs.Account.{PagerState, SameAccounts}
 use Rattle.log_audit.specs.Decides.{Decides}

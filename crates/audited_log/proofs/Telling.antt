@@ -1,19 +1,17 @@
 -- What the line of an entry tells of its kind.
 use Rattle.std.proofs.Common.{◌≡◌, ℕ, refl, ◌∙◌, ap, [], ◌∷◌, Bool, true, false, ◌||◌, eqb, eq-eqb, Some, None, true≢false}
-use Rattle.std.proofs.lemmas.Bool.{or_parts}
 use Rattle.t32_base.specs.declared.process.Pid.{Pid}
 use Rattle.t32_base.proofs.Facts.{or_false}
 use Rattle.bus_msg.specs.declared.entry.What.{What}
 use Rattle.bus_msg.specs.declared.entry.What.TheVariants.{Mail, Birth, Rebackup}
 use Rattle.bus_msg.specs.Places.{same_pid}
-use Rattle.cert_sched.specs.Deeds.{is_birth_of, is_cut}
+use Rattle.cert_sched.specs.Deeds.{is_birth_of}
 use Rattle.entry_lines.specs.declared.told.ToldWhat.{ToldWhat}
 use Rattle.entry_lines.specs.declared.told.ToldWhat.TheVariants.{Birth as ToldBirth, Mail as ToldMail, Sync as ToldSync, Fresh as ToldFresh, Done as ToldDone}
 use Rattle.entry_lines.specs.Told.{told_what}
 use Rattle.line_laws.specs.Meant.{is_end}
-use Rattle.log_processes.specs.Arrivals.{is_writer}
-use Rattle.audited_process.specs.Concerns.{changes, forks, gets_letter, goes_on, steps_by}
-use Rattle.audited_process.specs.Leading.{is_going_told, is_letter_told, is_standing_told, is_step_told}
+use Rattle.audited_process.specs.Concerns.{goes_on, steps_by}
+use Rattle.audited_process.specs.Leading.{is_going_told, is_step_told}
 use Rattle.audited_log.specs.Named.{doer}
 
 pub itself : (n : ℕ) → eqb n n ≡ true

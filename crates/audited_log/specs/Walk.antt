@@ -1,12 +1,14 @@
 -- What an entry makes of the processes that are kept.
-use Rattle.std.specs.Prelude.{ℕ, ◌≡◌, ◌<◌, ◌-◌, ◌^◌, true, false, List, [], ◌∷◌, ◌++◌, length, Option, Some, None, ⊤}
+use Rattle.std.specs.Prelude.{ℕ, ◌≡◌, ◌<◌, ◌-◌, ◌^◌, true, false, List, [], ◌∷◌, ◌++◌, length, Option, Some, None, ⊤, ◌||◌, Bool, not, ◌&&◌}
 use Rattle.t32_base.specs.declared.process.Pid.{Pid}
 use Rattle.sys_text.specs.declared.system.System.{System}
 use Rattle.sys_text.specs.Valid.{is_system}
 use Rattle.proc_state.specs.declared.process.Process.{Process}
 use Rattle.proc_state.specs.State.{state_of}
 use Rattle.bus_msg.specs.declared.entry.Entry.{Entry}
-use Rattle.bus_msg.specs.Places.{Places}
+use Rattle.bus_msg.specs.declared.entry.What.{What}
+use Rattle.bus_msg.specs.declared.entry.What.TheVariants.{Crash, Page}
+use Rattle.bus_msg.specs.Places.{Places, same_pid}
 use Rattle.bus_msg.specs.PlacedAfter.{what}
 use Rattle.cert_sched.specs.Schedule.{placement}
 use Rattle.cert_sched.specs.Rules.{is_over}
@@ -15,8 +17,24 @@ use Rattle.cert_sched.specs.Built.{MayStand}
 use Rattle.log_cuts.specs.Ahead.{IsAhead}
 use Rattle.audited_process.specs.declared.audited.Audited.{Audited}
 use Rattle.audited_process.specs.Audited.{TakesEntry}
-use Rattle.audited_process.specs.Concerns.{goes_on}
+use Rattle.audited_process.specs.Concerns.{changes, goes_on}
 use Rattle.audited_log.specs.Processes.{AreKept, AreLed, BearsAs, IsLedOf, kept_at}
+
+-- ---- whom it concerns
+
+-- it is a page of the process, or a loss, which may move it
+abbrev pub tells_of : Pid → What → Bool
+tells_of p (Page pid at index bytes) = same_pid pid p
+tells_of p (Crash k cause) = true
+tells_of p _ = false
+
+-- it may change what is kept of a process that waits for no new backup
+abbrev pub concerns : Pid → What → Bool
+concerns p w = changes p w || tells_of p w
+
+-- it leaves what is kept of the process
+abbrev pub is_left : Pid → What → Audited → Bool
+is_left p w a = not (a.since_moved).waits && not (concerns p w)
 
 -- ---- when it can be taken in
 

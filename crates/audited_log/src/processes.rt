@@ -9,9 +9,10 @@ ghost use Rattle.bus_msg.specs.PlacedAfter.{what};
 ghost use Rattle.log_cuts.specs.Ahead.{IsAhead};
 ghost use Rattle.audited_process.specs.Concerns.{goes_on};
 ghost use Rattle.audited_log.specs.Processes.{AreKept};
-ghost use Rattle.audited_log.specs.Walk.{AllCanBeTaken, AllGoOn, CanBeTaken, GoesOn, TakesAll};
+ghost use Rattle.audited_log.specs.Walk.{AllCanBeTaken, AllGoOn, CanBeTaken, GoesOn, TakesAll, concerns, is_left};
 
 use audited_process::audited::Audited;
+use audited_process::concerns::changes;
 use bus_msg::entry::{Entry, What};
 use channel_table::placement::Placement;
 use plain_kernel::booting::processes_of;
@@ -97,7 +98,7 @@ fn numbers_of(alloc: Global, processes: &Processes) -> Result<Vec<u32>, NoMemory
     Ok(numbers)
 }
 
-// A process goes on, if it does.
+// A process goes on, if it does. One that waits for no new backup is left as it is where the entry does not concern it.
 fn go_on(
     alloc: Global,
     pid: Pid,
@@ -108,10 +109,34 @@ fn go_on(
     requires { goes_on pid (what entry.now) ≡ true → CanBeTaken entry.now pid audited.old }
     ensures { OnOk result (GoesOn before.now entry.now pid audited.old audited.new) }
 {
-    if goes_on(pid, &entry.post.what) {
-        audited.take(alloc, pid, before, entry)
-    } else {
-        Ok(())
+    let what = &entry.post.what;
+    if !goes_on(pid, what) {
+        return Ok(());
+    }
+    if is_left(pid, what, audited) {
+        return Ok(());
+    }
+    audited.take(alloc, pid, before, entry)
+}
+
+// Whether an entry leaves what is kept of a process.
+fn is_left(pid: Pid, what: &What, audited: &Audited) -> bool
+    ensures { result ≡ is_left pid what.now audited.now }
+{
+    !audited.since_moved.waits && !concerns(pid, what)
+}
+
+// Whether it may change what is kept of a process that waits for no new backup.
+fn concerns(pid: Pid, what: &What) -> bool
+    ensures { result ≡ concerns pid what.now }
+{
+    if changes(pid, what) {
+        return true;
+    }
+    match what {
+        What::Page { pid: own, .. } => own.0 == pid.0,
+        What::Crash { .. } => true,
+        _ => false,
     }
 }
 

@@ -1,4 +1,4 @@
-use Rattle.std.proofs.Common.{◌≡◌, refl, Option, Some, subst, sym}
+use Rattle.std.proofs.Common.{refl, Option, subst, sym}
 use Rattle.std.specs.Option.{IfSome}
 use Rattle.bus_msg.specs.declared.entry.Entry.{Entry}
 use Rattle.cert_sched.specs.Built.{MayStand}
