@@ -1,5 +1,5 @@
-//! The walk over printed logs. They are what `sim` prints with `--log` of systems of the examples, each with its losses: a conversation with a cluster
-//! that comes back, a server with two children, a fullback that is moved three times, and a worker that takes signals.
+//! The walk over printed logs. They are what `sim` prints with `--log` of systems of the examples, each with its losses: a conversation
+//! with a cluster that comes back, a server with two children, a fullback that is moved three times, and a worker that takes signals.
 ghost use Rattle.std.specs.Prelude.{◌≡◌, true, IfOk, IsTrue};
 ghost use Rattle.sys_text.specs.Valid.{is_system};
 ghost use Rattle.audited_log.specs.State.{IsOfSomeLog};

@@ -1,6 +1,5 @@
 -- Answers to lines, from what is kept of one process or of all of them together to what is kept of the log.
-use Rattle.std.proofs.Common.{◌≡◌, ℕ, ◌<◌, ◌^◌, refl, sym, ◌∙◌, ap, subst, List, Bool, true, false, not, eqb, Option, Some, None, Result, Ok, Err, BTreeMap, true≢false}
-use Rattle.std.specs.Prelude.{IfOk}
+use Rattle.std.proofs.Common.{◌≡◌, ℕ, ◌<◌, ◌^◌, refl, sym, ◌∙◌, ap, subst, List, Bool, true, false, not, eqb, Option, Some, None, BTreeMap, true≢false}
 use Rattle.std.specs.Option.{IfSome}
 use Rattle.std.specs.Map.{set_value}
 use Rattle.std.proofs.lemmas.Bool.{and_parts}
@@ -50,7 +49,8 @@ not_over front place system log next before = sym before.over ∙ off front.over
 
 -- ---- no process is kept with that number
 
-pub absent_refused : (state : AuditedLog) (told : Told) (n : ℕ) → doer told.what ≡ Some n → ((p : Pid) → p.0 ≡ n → p.0 < 2 ^ 32 → kept_at (state.processes).entries p ≡ None) → AnswersTold state told None
+pub absent_refused : (state : AuditedLog) (told : Told) (n : ℕ) → doer told.what ≡ Some n → ((p : Pid) → p.0 ≡ n → p.0 < 2 ^ 32 → kept_at (state.processes).entries p ≡ None)
+    → AnswersTold state told None
 absent_refused state told n is nothing = λ system log e valid legal keeps line may.
     let one = does (placement system log) (e.post).by (what e) n (ap (λ (t : Told). doer t.what) line ∙ is) (may.stands).by_right in
     let open_log : is_over system log ≡ false = ((may.stands).placed).2 in
@@ -83,7 +83,8 @@ module _ (state : AuditedLog) (told : Told) (p : Pid) (a : Audited) (next : is_n
         child = one.child;
       }
     where
-      by_key : (system : System) (log : List Entry) (e : Entry) → told_of e ≡ told → IsLed e system log p (Some new) → AreKept system log (state.processes).entries → (q : Pid) → (b : Bool) → at_key p.0 q.0 ≡ b
+      by_key : (system : System) (log : List Entry) (e : Entry) → told_of e ≡ told → IsLed e system log p (Some new) → AreKept system log (state.processes).entries → (q : Pid) → (b : Bool)
+          → at_key p.0 q.0 ≡ b
           → IsLed e system log q (kept_at (set_value (at_key p.0) (state.processes).entries new) q)
       by_key system log e line led kept q true same =
           let me : p ≡ q = λ i. record { 0 = key_same p.0 q.0 same i } in
@@ -93,26 +94,9 @@ module _ (state : AuditedLog) (told : Told) (p : Pid) (a : Audited) (next : is_n
           let none : steps_by q (what e) ≡ false = step_told q (what e) ∙ ap (λ (t : Told). is_step_told q.0 t.what) line ∙ only_doer told.what p.0 q.0 does_it (other_number p.0 q.0 other) in
           subst (λ (o : Option Audited). IsLed e system log q o) (sym (elsewhere p q (state.processes).entries new other)) (unled_as system log e q (kept_at (state.processes).entries q) none (kept q))
 
--- the same of results
-
-pub one_answers_if : (E : Type 0) (state : AuditedLog) (told : Told) (p : Pid) (a : Audited) → is_next (state.common).front told.place ≡ true → kept_at (state.processes).entries p ≡ Some a
-    → (r : Result (Option Answer) E) → IfOk r (λ r. Decides MayStand (KeepsOne state.common p a) told (entry_of r)) → IfOk r (λ r. AnswersTold state told (entry_of r))
-one_answers_if E state told p a next there (Ok r) decides = one_answers state told p a next there r decides
-one_answers_if E state told p a next there (Err x) decides = tt
-
-pub one_leads_if : (E : Type 0) (state : AuditedLog) (told : Told) (p : Pid) (a : Audited) (next : is_next (state.common).front told.place ≡ true) (there : kept_at (state.processes).entries p ≡ Some a)
-    (c : Common) (m : BTreeMap ℕ Audited) (new : Audited) → doer told.what ≡ Some p.0 → m.entries ≡ set_value (at_key p.0) (state.processes).entries new → StaysCommon state.common c
-    → (r : Result (Option Answer) E) → IfOk r (λ r. Decides MayStand (KeepsOne state.common p a) told (entry_of r)) → IfOk r (λ r. IfSome r (LeadsOne state.common p a new))
-    → IfOk r (λ r. IfSome r (Leads state (record { common = c; processes = m })))
-one_leads_if E state told p a next there c m new does_it made stays (Ok r) decides leads = one_leads state told p a next there c m new does_it made stays r decides leads
-one_leads_if E state told p a next there c m new does_it made stays (Err x) decides leads = tt
-
 -- ---- a line of no process
 
 module _ (state : AuditedLog) (told : Told) where
-  pub common_answers : (x : Option Entry) → Decides MayStand (λ system log. IsCommonOf system log state.common) told x → AnswersTold state told x
-  common_answers x decides = decides_more (λ system log. IsCommonOf system log state.common) (λ system log. IsStateOf system log state) told (λ system log valid legal is. is.common) x decides
-
   no_birth : (w : ToldWhat) → doer w ≡ None → is_birth_told w ≡ false
   no_birth (ToldBirth parent at child end) none = cc
   no_birth _ none = refl

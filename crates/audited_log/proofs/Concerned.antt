@@ -1,5 +1,5 @@
 -- An entry that does not concern a process which waits for no new backup leaves what is kept of it.
-use Rattle.std.proofs.Common.{◌≡◌, ℕ, ◌+◌, refl, sym, ◌∙◌, ap, arith, List, [], ◌∷◌, length, Bool, true, false, cond, not, ◌&&◌, ◌||◌, eqb, Option, Some, None, true≢false}
+use Rattle.std.proofs.Common.{◌≡◌, ℕ, ◌+◌, refl, sym, ◌∙◌, ap, arith, length, Bool, true, false, cond, not, ◌&&◌, ◌||◌, eqb, Some, None, true≢false}
 use Rattle.std.proofs.lemmas.Bool.{and_parts, or_parts}
 use Rattle.std.proofs.lemmas.Bool.Decides.{nat_tests}
 use Rattle.t32_base.specs.declared.process.Pid.{Pid}
@@ -19,7 +19,6 @@ use Rattle.cert_sched.specs.Moved.{names}
 use Rattle.log_laws.proofs.pages.OneEntry.{moves_none}
 use Rattle.log_renewals.proofs.Unmoved.{keeps_on}
 use Rattle.audited_process.specs.declared.audited.Audited.{Audited}
-use Rattle.audited_process.specs.declared.begun.Begun.{Begun}
 use Rattle.audited_process.specs.Audited.{TakesEntry}
 use Rattle.audited_process.specs.Concerns.{changes, gets_letter, goes_on, page_sent, steps_by}
 use Rattle.audited_process.proofs.ByKind.{no_exit, unchanged}
@@ -84,7 +83,8 @@ module _ (before : Places) (p : Pid) (a : Audited) (e : Entry) (left : is_left p
         begun = on.1;
         since_moved = record {
           sent = pages_left p e (a.since_moved).sent (no_page_sent p w parts.1) system log valid may.stands stays (led.since_moved).sent;
-          only = keeps_on p (a.since_moved).only (a.since_moved).only e (only_still (a.since_moved).only (is_done_by p w) (nothing_done p w steps.0 parts.1 goes)) system log stays (led.since_moved).only;
+          only = keeps_on p (a.since_moved).only (a.since_moved).only e (only_still (a.since_moved).only (is_done_by p w) (nothing_done p w steps.0 parts.1 goes)) system log stays
+              (led.since_moved).only;
           waits = idle ∙ sym (ap (λ b. b && not (names p w) && not (is_alone p (placement system log))) idle) ∙ waits;
         };
       }

@@ -39,7 +39,8 @@ module _ (state : AuditedLog) (place : ℕ) (processes : List (ℕ × Process)) 
   as_it_stands system log p None is = sym (ap (λ b. cond b (process_after system log p) None) is)
   as_it_stands system log p (Some a) is = sym (is.audited).there ∙ ap (λ b. cond b (process_after system log p) None) (sym is.unended)
 
-  pub unended_kept : (system : System) (log : List Entry) → is_system system ≡ true → IsLegalBy MayStand system log → IsStateOf system log state → KeepsUnended (state.common).front processes system log
+  pub unended_kept : (system : System) (log : List Entry) → is_system system ≡ true → IsLegalBy MayStand system log → IsStateOf system log state
+      → KeepsUnended (state.common).front processes system log
   unended_kept system log valid legal is = record {
     before = (is.common).front;
     unended = λ p. ap (option_map state_of) (taken p)

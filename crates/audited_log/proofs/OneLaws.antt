@@ -22,7 +22,6 @@ use Rattle.entry_lines.specs.declared.told.ToldBy.{ToldBy}
 use Rattle.entry_lines.specs.declared.told.ToldEnd.{ToldEnd}
 use Rattle.entry_lines.specs.declared.told.ToldWhat.TheVariants.{Birth as ToldBirth, Exit as ToldExit}
 use Rattle.entry_lines.specs.Told.{told_of, told_what}
-use Rattle.page_server.specs.Account.{PagerState, SameAccounts}
 use Rattle.log_audit.specs.Decides.{Decides}
 use Rattle.log_processes.specs.declared.sender.Sender.{Sender}
 use Rattle.log_processes.specs.Sending.{KeepsSender}
@@ -40,7 +39,7 @@ use Rattle.audited_log.specs.declared.answer.Answer.{Answer}
 use Rattle.audited_log.specs.declared.common.Common.{Common}
 use Rattle.audited_log.specs.Named.{behind_first, first_number}
 use Rattle.audited_log.specs.Processes.{BearsAs, IsLedOf}
-use Rattle.audited_log.specs.One.{IsOfBirth, KeepsOne, LeadsOne, StaysCommon}
+use Rattle.audited_log.specs.One.{IsOfBirth, KeepsOne, LeadsOne}
 use Rattle.audited_log.specs.Answers.{IsChildless, entry_of}
 use Rattle.audited_log.proofs.Telling.{going_told, is_birth_told, itself, step_told, unborn}
 use Rattle.audited_log.proofs.Leading.{unled_of}
@@ -63,17 +62,6 @@ first_named (m ∷ ms) n is = let same : m ≡ n = cc in λ i. sym same i ∷ ms
 pub born_entry : (told : ℕ) (o : Option Born) (r : Option Answer) → IsOfBirth told o r → entry_of r ≡ option_map (λ (b : Born). b.entry) o
 born_entry told None r is = ap entry_of is
 born_entry told (Some b) r is = ap entry_of is.0
-
--- what stays of all processes together where no account and no fetch changes
-pub stays : (c : Common) (pager : PagerState) → SameAccounts c.pager pager → pager.fetches ≡ (c.pager).fetches → StaysCommon c (record c { pager = pager })
-stays c pager accounts fetches system log is = record {
-  front = is.front;
-  limits = is.limits;
-  accounts = record { accounts = λ p. accounts p ∙ (is.accounts).accounts p; waits = fetches ∙ (is.accounts).waits };
-  fetches = is.fetches;
-  family = is.family;
-  records = is.records;
-}
 
 -- ---- one process
 
@@ -104,11 +92,13 @@ module _ (c : Common) (p : Pid) (a : Audited) where
     pub audited_kept : (system : System) (log : List Entry) → is_system system ≡ true → IsLegalBy MayStand system log → KeepsOne c p a system log → KeepsAudited c.front c.limits p a kept system log
     audited_kept system log valid legal keeps = record { audited = (keeps.one).audited; sender = sender system log valid legal keeps }
 
-    pub paged_kept : (system : System) (log : List Entry) → is_system system ≡ true → IsLegalBy MayStand system log → KeepsOne c p a system log → KeepsPaged c.front c.limits p a kept c.pager system log
+    pub paged_kept : (system : System) (log : List Entry) → is_system system ≡ true → IsLegalBy MayStand system log → KeepsOne c p a system log
+        → KeepsPaged c.front c.limits p a kept c.pager system log
     paged_kept system log valid legal keeps = (audited_kept system log valid legal keeps, (keeps.common).accounts)
 
     -- where it steps by the entry, its copy is of no use
-    pub steps_led : (Kept : System → List Entry → Type 0) → ((system : System) (log : List Entry) → is_system system ≡ true → IsLegalBy MayStand system log → KeepsOne c p a system log → Kept system log)
+    pub steps_led : (Kept : System → List Entry → Type 0) → ((system : System) (log : List Entry) → is_system system ≡ true → IsLegalBy MayStand system log → KeepsOne c p a system log
+        → Kept system log)
         → (told : Told) (new : Audited) (e : Entry) → is_step_told p.0 told.what ≡ true → LeadsTo Kept p new e → LedBy new told e
     steps_led Kept more told new e is lead = λ system log valid legal keeps line.
         let steps : steps_by p (what e) ≡ true = step_told p (what e) ∙ ap (λ (t : Told). is_step_told p.0 t.what) line ∙ is in
@@ -155,7 +145,11 @@ module _ (c : Common) (p : Pid) (a : Audited) where
         let line = (decides system log valid legal keeps).0 in
         let both = bears system log valid legal (sender system log valid legal keeps) in
         record {
-          led = steps_led (KeepsOne c p a) (λ system log valid legal keeps. keeps) (record { place = place; by = by; what = ToldBirth p.0 at child end }) (record a { process = n }) b.entry (itself p.0)
+          led = steps_led (KeepsOne c p a) (λ system log valid legal keeps. keeps) (record {
+            place = place;
+            by = by;
+            what = ToldBirth p.0 at child end;
+          }) (record a { process = n }) b.entry (itself p.0)
               (λ system log valid legal keeps. leads_on.stands system log b.entry p a (record a { process = n }) (standing_told p (what b.entry)
               ∙ ap (λ (t : Told). is_standing_told p.0 t.what) (decides system log valid legal keeps).0 ∙ itself p.0) (keeps.one).audited (refl, refl)
               ((bears system log valid legal (sender system log valid legal keeps)).0).there) system log valid legal keeps line;
@@ -170,7 +164,8 @@ module _ (c : Common) (p : Pid) (a : Audited) where
   pub fetched_kept : (system : System) (log : List Entry) → is_system system ≡ true → IsLegalBy MayStand system log → KeepsOne c p a system log → KeepsFetched c.front p a c.fetches system log
   fetched_kept system log valid legal keeps = record { before = (keeps.common).front; fetched = (keeps.common).fetches; audited = (keeps.one).audited }
 
-  pub recorded_kept : (system : System) (log : List Entry) → is_system system ≡ true → IsLegalBy MayStand system log → KeepsOne c p a system log → KeepsRecorded c.front p a c.family c.records system log
+  pub recorded_kept : (system : System) (log : List Entry) → is_system system ≡ true → IsLegalBy MayStand system log → KeepsOne c p a system log
+      → KeepsRecorded c.front p a c.family c.records system log
   recorded_kept system log valid legal keeps = record { before = (keeps.common).front; family = (keeps.common).family; records = (keeps.common).records; audited = (keeps.one).audited }
 
   pub still_led : (told : Told) (e : Entry) → is_step_told p.0 told.what ≡ false → LedBy a told e

@@ -41,7 +41,8 @@ IsStarted (Some s) (Some a) = BeginsAsRoot (state_of s) a × IsAhead (state_of a
 
 -- ---- the roots are placed, and none has ended
 
-roots_placed : (p : Pid) (roots : List (Pid × Root)) → list_any (λ m. eqb m p.0) (placed_pids (map placed_root roots)) ≡ is_some (find (λ (q : Placed). same_pid q.pid p && not q.ended) (map placed_root roots))
+roots_placed : (p : Pid) (roots : List (Pid × Root)) → list_any (λ m. eqb m p.0) (placed_pids (map placed_root roots)) ≡ is_some (find (λ (q : Placed). same_pid q.pid p && not q.ended)
+    (map placed_root roots))
 roots_placed p [] = refl
 roots_placed p (r ∷ roots) = by_test (same_pid r.0 p) (roots_placed p roots)
   where
@@ -65,7 +66,8 @@ found_among p (e ∷ es) found = by_test (is_eq (pid_cmp p e.0)) refl found (fou
     either true c is = refl
     either false c is = is
 
-    by_test : (b : Bool) → is_eq (pid_cmp p e.0) ≡ b → is_some (cond b (Some e.1) (finmap.find pid_cmp p es)) ≡ true → (is_some (finmap.find pid_cmp p es) ≡ true → list_any (λ m. eqb m p.0) (state_pids es) ≡ true)
+    by_test : (b : Bool) → is_eq (pid_cmp p e.0) ≡ b → is_some (cond b (Some e.1) (finmap.find pid_cmp p es)) ≡ true → (is_some (finmap.find pid_cmp p es) ≡ true
+        → list_any (λ m. eqb m p.0) (state_pids es) ≡ true)
         → (eqb (e.0).0 p.0 || list_any (λ m. eqb m p.0) (state_pids es)) ≡ true
     by_test true is h more = ap (λ b. b || list_any (λ m. eqb m p.0) (state_pids es)) (untied p.0 (e.0).0 is)
     by_test false is h more = either (eqb (e.0).0 p.0) (list_any (λ m. eqb m p.0) (state_pids es)) (more h)
@@ -82,7 +84,8 @@ module _ (system : System) (valid : is_system system ≡ true) (p : Pid) where
   root_unended : is_some (process_at (boot system) p) ≡ true → IsUnended system [] p
   unfolding placement
   root_unended there =
-      sym (roots_placed p (roots_of system)) ∙ sym ((all_alike Stands itself system [] valid (nothing_legal system) (boot system) (booted system)).among p) ∙ found_among p (boot system).processes there
+      sym (roots_placed p (roots_of system)) ∙ sym ((all_alike Stands itself system [] valid (nothing_legal system) (boot system) (booted system)).among p)
+      ∙ found_among p (boot system).processes there
 
   no_root : process_at (boot system) p ≡ None → is_some (unended_at (placement system []) p) ≡ false
   unfolding plain_after

@@ -40,7 +40,8 @@ module _ {A B : Type 0} (Made : ℕ → Option A → Option B → Type 0) (all :
       by_key false other =
           let left_so : lookup (at_key m) less ≡ lookup (at_key m) left = without m ∙ ap (λ b. cond b None (lookup (at_key m) left)) other in
           let made_so : lookup (at_key m) more ≡ lookup (at_key m) made = with_it m ∙ ap (λ b. cond b (Some y) (lookup (at_key m) made)) other in
-          subst (λ o. IsMade (Made m) (lookup (at_key m) all) o (lookup (at_key m) more)) (sym left_so) (subst (λ o. IsMade (Made m) (lookup (at_key m) all) (lookup (at_key m) left) o) (sym made_so) (are m))
+          subst (λ o. IsMade (Made m) (lookup (at_key m) all) o (lookup (at_key m) more)) (sym left_so) (subst (λ o. IsMade (Made m) (lookup (at_key m) all) (lookup (at_key m) left) o)
+          (sym made_so) (are m))
 
   -- after all of them
   pub made_all : (left : List (ℕ × A)) (made : List (ℕ × B)) → left ≡ [] → AreMade Made all left made → (n : ℕ) → Made n (lookup (at_key n) all) (lookup (at_key n) made)

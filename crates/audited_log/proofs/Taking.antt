@@ -102,9 +102,11 @@ module _ (before : Places) (e : Entry) (child : Option Process) (old gone new : 
   pub record Comes : Type 0 where
     pub same : (p : Pid) → is_exit_of p (what e) ≡ false → is_birth_of p (what e) ≡ false → kept_at new p ≡ kept_at gone p
     pub ended : (p : Pid) → is_exit_of p (what e) ≡ true → kept_at new p ≡ None
-    pub born : (p : Pid) → is_birth_of p (what e) ≡ true → (s : Process) → child ≡ Some s → (a : Audited) × ((kept_at new p ≡ Some a) × BeginsAsChild (state_of s) a × IsAhead (state_of a.process) a.ahead)
+    pub born : (p : Pid) → is_birth_of p (what e) ≡ true → (s : Process) → child ≡ Some s → (a : Audited) × ((kept_at new p ≡ Some a) × BeginsAsChild (state_of s) a × IsAhead
+        (state_of a.process) a.ahead)
 
-  module _ (all : AllGoOn before e old gone) (comes : Comes) (system : System) (log : List Entry) (valid : is_system system ≡ true) (legal : IsLegalBy MayStand system log) (may : MayStand system log e)
+  module _ (all : AllGoOn before e old gone) (comes : Comes) (system : System) (log : List Entry) (valid : is_system system ≡ true) (legal : IsLegalBy MayStand system log)
+      (may : MayStand system log e)
       (places : placement system log ≡ before) (led : AreLed e system log old) (bears : BearsAs system log e child) (runs : is_end (what e) ≡ false) where
     abbrev then : List Entry
     then = log ++ e ∷ []
@@ -169,7 +171,8 @@ other_key p q is = key_other p.0 q.0 is
 
 module _ (before : Places) (e : Entry) (child : Option Process) (old gone new : List (ℕ × Audited)) where
   -- a process that ends goes
-  pub comes_without : (pid : Pid) (at : ℕ) (end : End) → what e ≡ Exit pid at end → ((n : ℕ) → lookup (at_key n) new ≡ cond (at_key pid.0 n) None (lookup (at_key n) gone)) → Comes before e child old gone new
+  pub comes_without : (pid : Pid) (at : ℕ) (end : End) → what e ≡ Exit pid at end → ((n : ℕ) → lookup (at_key n) new ≡ cond (at_key pid.0 n) None (lookup (at_key n) gone))
+      → Comes before e child old gone new
   comes_without pid at end is without = record {
     same = λ p stay unborn. without p.0 ∙ ap (λ b. cond b None (kept_at gone p)) (other_key pid p (ap (is_exit_of p) (sym is) ∙ stay));
     ended = λ p ends. without p.0 ∙ ap (λ b. cond b None (kept_at gone p)) (same_number pid p (ap (is_exit_of p) (sym is) ∙ ends));
@@ -178,7 +181,8 @@ module _ (before : Places) (e : Entry) (child : Option Process) (old gone new : 
 
   -- a child comes
   pub comes_with : (parent : Pid) (at : ℕ) (kid : Pid) (end : ℕ) (s : Process) (a : Audited) → what e ≡ Birth parent at kid end → child ≡ Some s
-      → ((n : ℕ) → lookup (at_key n) new ≡ cond (at_key kid.0 n) (Some a) (lookup (at_key n) gone)) → BeginsAsChild (state_of s) a → IsAhead (state_of a.process) a.ahead → Comes before e child old gone new
+      → ((n : ℕ) → lookup (at_key n) new ≡ cond (at_key kid.0 n) (Some a) (lookup (at_key n) gone)) → BeginsAsChild (state_of s) a → IsAhead (state_of a.process) a.ahead
+      → Comes before e child old gone new
   comes_with parent at kid end s a is some with_it begins ahead = record {
     same = λ p stay unborn. with_it p.0 ∙ ap (λ b. cond b (Some a) (kept_at gone p)) (other_key kid p (ap (is_birth_of p) (sym is) ∙ unborn));
     ended = λ p ends. absurd (true≢false (sym ends ∙ ap (is_exit_of p) is));

@@ -45,7 +45,8 @@ HasPages c = IfSome (earliest c.pager) (IsKept c.pager)
 
 -- the answer is right for each legal log of which this is kept of all processes together
 abbrev pub AnswersCommon : Common → ℕ → ToldBy → ToldWhat → Option Answer → Type 0
-AnswersCommon c place by w result = Decides MayStand (λ system log. IsCommonOf system log c) (record { place = place; by = by; what = w }) (entry_of result)
+AnswersCommon c place by w result =
+    Decides MayStand (λ system log. IsCommonOf system log c) (record { place = place; by = by; what = w }) (entry_of result)
 
 -- the entry bears no child
 abbrev pub IsChildless : Answer → Type 0
@@ -53,7 +54,8 @@ IsChildless a = a.child ≡ None
 
 -- ---- between the answer and the next state
 
--- What is kept of all processes together is what a log says; each process stands as the next entry led it, unless the run ends by that; and the child that it bears is this one.
+-- What is kept of all together is what a log says, each process stands as the next entry led it, unless the run ends by that, and the
+-- child that it bears is this one.
 pub record IsLedStateOf (system : System) (log : List Entry) (state : AuditedLog) (a : Answer) : Type 0 where
   pub common : IsCommonOf system log state.common
   pub processes : is_end (what a.entry) ≡ false → AreLed a.entry system log (state.processes).entries
@@ -61,7 +63,8 @@ pub record IsLedStateOf (system : System) (log : List Entry) (state : AuditedLog
 
 -- so it is of each legal log of which the state was
 abbrev pub Leads : AuditedLog → AuditedLog → Answer → Type 0
-Leads old new a = (system : System) (log : List Entry) → is_system system ≡ true → IsLegalBy MayStand system log → IsStateOf system log old → IsLedStateOf system log new a
+Leads old new a = (system : System) (log : List Entry) → is_system system ≡ true → IsLegalBy MayStand system log
+    → IsStateOf system log old → IsLedStateOf system log new a
 
 -- it is so of some legal log with room for the entry, which may stand next in it
 pub record CanTake (state : AuditedLog) (a : Answer) : Type 0 where
@@ -75,5 +78,6 @@ pub record CanTake (state : AuditedLog) (a : Answer) : Type 0 where
 
 -- the state of each such log becomes that of the log with the entry
 abbrev pub TakesAnswer : AuditedLog → AuditedLog → Answer → Type 0
-TakesAnswer old new a = (system : System) (log : List Entry) → is_system system ≡ true → IsLegalBy MayStand system log → MayStand system log a.entry → IsLedStateOf system log old a
+TakesAnswer old new a = (system : System) (log : List Entry) → is_system system ≡ true → IsLegalBy MayStand system log
+    → MayStand system log a.entry → IsLedStateOf system log old a
     → IsStateOf system (log ++ a.entry ∷ []) new

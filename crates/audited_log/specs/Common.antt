@@ -13,7 +13,8 @@ use Rattle.log_processes.specs.Sending.{AreLimits}
 use Rattle.log_records.specs.Records.{AreRecordsOf}
 use Rattle.audited_log.specs.declared.common.Common.{Common}
 
--- It is what a log says: its front, the limits of the system, the accounts of a page server, the fetches, the children that never synchronised, and the records.
+-- It is what a log says: its front, the system's limits, the accounts of a page server, the fetches, the children that never
+-- synchronised, and the records.
 pub record IsCommonOf (system : System) (log : List Entry) (c : Common) : Type 0 where
   pub front : IsFrontOf system log c.front
   pub limits : AreLimits c.limits system
@@ -24,5 +25,6 @@ pub record IsCommonOf (system : System) (log : List Entry) (c : Common) : Type 0
 
 -- that of a legal log, and then of the log with an entry that may stand next
 abbrev pub KeepsCommon : Common → Common → Entry → Type 0
-KeepsCommon old new e = (system : System) (log : List Entry) → is_system system ≡ true → IsLegalBy MayStand system log → MayStand system log e
+KeepsCommon old new e = (system : System) (log : List Entry) → is_system system ≡ true → IsLegalBy MayStand system log
+    → MayStand system log e
     → IsCommonOf system log old → IsCommonOf system (log ++ e ∷ []) new

@@ -23,7 +23,8 @@ pub record KeepsOne (c : Common) (p : Pid) (a : Audited) (system : System) (log 
 
 -- the answer to the line is right for each legal log of which that is kept
 abbrev pub AnswersOne : Common → Pid → Audited → ℕ → ToldBy → ToldWhat → Option Answer → Type 0
-AnswersOne c p a place by w result = Decides MayStand (KeepsOne c p a) (record { place = place; by = by; what = w }) (option_map (λ (a : Answer). a.entry) result)
+AnswersOne c p a place by w result =
+    Decides MayStand (KeepsOne c p a) (record { place = place; by = by; what = w }) (option_map (λ (a : Answer). a.entry) result)
 
 -- The process stands as the entry led it, and the child that the entry bears is this one.
 pub record IsLedOne (system : System) (log : List Entry) (p : Pid) (a : Audited) (answer : Answer) : Type 0 where
@@ -32,12 +33,14 @@ pub record IsLedOne (system : System) (log : List Entry) (p : Pid) (a : Audited)
 
 -- so it is of each legal log of which that was kept
 abbrev pub LeadsOne : Common → Pid → Audited → Audited → Answer → Type 0
-LeadsOne c p old new answer = (system : System) (log : List Entry) → is_system system ≡ true → IsLegalBy MayStand system log → KeepsOne c p old system log → IsLedOne system log p new answer
+LeadsOne c p old new answer = (system : System) (log : List Entry) → is_system system ≡ true → IsLegalBy MayStand system log
+    → KeepsOne c p old system log → IsLedOne system log p new answer
 
 -- the answer is the birth with its child, which has this number
 abbrev pub IsOfBirth : ℕ → Option Born → Option Answer → Type 0
 IsOfBirth told None answer = answer ≡ None
-IsOfBirth told (Some born) answer = (answer ≡ Some (record { entry = born.entry; child = Some born.child })) × ((((born.child).small).pid).0 ≡ told)
+IsOfBirth told (Some born) answer =
+    (answer ≡ Some (record { entry = born.entry; child = Some born.child })) × ((((born.child).small).pid).0 ≡ told)
 
 -- what was kept of all processes together is so still
 abbrev pub StaysCommon : Common → Common → Type 0

@@ -60,4 +60,5 @@ AreLed e system log processes = (p : Pid) → IsLed e system log p (kept_at proc
 -- an entry bears this process, as it stands then; or it bears none
 abbrev pub BearsAs : System → List Entry → Entry → Option Process → Type 0
 BearsAs system log e None = (p : Pid) → is_birth_of p (what e) ≡ false
-BearsAs system log e (Some child) = (p : Pid) → is_birth_of p (what e) ≡ true → process_after system (log ++ e ∷ []) p ≡ Some (state_of child)
+BearsAs system log e (Some child) =
+    (p : Pid) → is_birth_of p (what e) ≡ true → process_after system (log ++ e ∷ []) p ≡ Some (state_of child)

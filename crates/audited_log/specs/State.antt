@@ -10,7 +10,7 @@ use Rattle.audited_log.specs.declared.state.AuditedLog.{AuditedLog}
 use Rattle.audited_log.specs.Common.{IsCommonOf}
 use Rattle.audited_log.specs.Processes.{AreKept}
 
--- What is kept of all processes together is what a log says, and so is what is kept of each one that has not ended, while the log is not over.
+-- What is kept of all processes together is what a log says, and so is what is kept of each that has not ended, while the log is open.
 pub record IsStateOf (system : System) (log : List Entry) (state : AuditedLog) : Type 0 where
   pub common : IsCommonOf system log state.common
   pub processes : is_over system log ≡ false → AreKept system log (state.processes).entries
@@ -25,4 +25,5 @@ pub record IsOfSomeLog (state : AuditedLog) : Type 0 where
 
 -- it is so of each legal log of which it was, with this entry
 abbrev pub KeepsState : AuditedLog → AuditedLog → Entry → Type 0
-KeepsState old new e = (system : System) (log : List Entry) → is_system system ≡ true → IsLegalBy MayStand system log → IsStateOf system log old → IsStateOf system (log ++ e ∷ []) new
+KeepsState old new e = (system : System) (log : List Entry) → is_system system ≡ true → IsLegalBy MayStand system log
+    → IsStateOf system log old → IsStateOf system (log ++ e ∷ []) new

@@ -73,5 +73,6 @@ AllGoOn before e old new = (p : Pid) → GoesOnIfThere before e p (kept_at old p
 
 -- those of a legal log that the next entry led, and then those of the log with the entry, unless that is over
 abbrev pub TakesAll : Places → Entry → Option Process → List (ℕ × Audited) → List (ℕ × Audited) → Type 0
-TakesAll before e child old new = (system : System) (log : List Entry) → is_system system ≡ true → IsLegalBy MayStand system log → MayStand system log e → placement system log ≡ before
+TakesAll before e child old new = (system : System) (log : List Entry) → is_system system ≡ true → IsLegalBy MayStand system log
+    → MayStand system log e → placement system log ≡ before
     → AreLed e system log old → BearsAs system log e child → is_over system (log ++ e ∷ []) ≡ false → AreKept system (log ++ e ∷ []) new

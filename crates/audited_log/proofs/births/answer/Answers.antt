@@ -20,7 +20,8 @@ returns-clause-decides c =
     let kept = c.sender_of-kept.result in
     let told : Told = record { place = c.args.head.place; by = c.args.head.by; what = Birth p.0 c.args.head.at c.args.child c.args.end } in
     subst (λ (o : Option Entry). Decides MayStand (KeepsOne common p a) told o) (sym (born_entry c.args.child c.in_ok-born.born c.in_ok-answer.answer c.in_ok-answer.ensures))
-    (decides_more (KeepsSender common.front common.limits p (state_of a.process) kept) (KeepsOne common p a) told (sender common p a kept c.sender_of-kept.ensures) (option_map (λ (b : Born). b.entry) c.in_ok-born.born) c.in_ok-born.ensures.decides)
+    (decides_more (KeepsSender common.front common.limits p (state_of a.process) kept) (KeepsOne common p a) told (sender common p a kept c.sender_of-kept.ensures) (option_map (λ
+    (b : Born). b.entry) c.in_ok-born.born) c.in_ok-born.ensures.decides)
 
 pub returns-clause-leads : goal.returns-clause-leads
 returns-clause-leads c =
@@ -29,6 +30,8 @@ returns-clause-leads c =
     let a = c.args.audited.now in
     let kept = c.sender_of-kept.result in
     let told : Told = record { place = c.args.head.place; by = c.args.head.by; what = Birth p.0 c.args.head.at c.args.child c.args.end } in
-    birth_leads common p a kept c.sender_of-kept.ensures c.args.head.place c.args.head.at c.args.child c.args.end c.args.head.by c.next_birth.new.process c.in_ok-born.born c.in_ok-answer.answer c.in_ok-answer.ensures
-    (decides_more (KeepsSender common.front common.limits p (state_of a.process) kept) (KeepsOne common p a) told (sender common p a kept c.sender_of-kept.ensures) (option_map (λ (b : Born). b.entry) c.in_ok-born.born) c.in_ok-born.ensures.decides)
+    birth_leads common p a kept c.sender_of-kept.ensures c.args.head.place c.args.head.at c.args.child c.args.end c.args.head.by c.next_birth.new.process c.in_ok-born.born c.in_ok-answer.answer
+    c.in_ok-answer.ensures
+    (decides_more (KeepsSender common.front common.limits p (state_of a.process) kept) (KeepsOne common p a) told (sender common p a kept c.sender_of-kept.ensures) (option_map (λ
+    (b : Born). b.entry) c.in_ok-born.born) c.in_ok-born.ensures.decides)
     c.in_ok-born.ensures.bears

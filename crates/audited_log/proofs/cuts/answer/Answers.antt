@@ -20,7 +20,8 @@ decides c =
     let p = c.args.head.pid in
     let a = c.args.audited.now in
     let kept = c.sender_of-kept.result in
-    decides_more (KeepsPaged common.front common.limits p a kept common.pager) (KeepsOne common p a) (told c) (paged_kept common p a kept c.sender_of-kept.ensures) c.in-Ok.entry c.in-Ok.ensures.decides
+    decides_more (KeepsPaged common.front common.limits p a kept common.pager) (KeepsOne common p a) (told c) (paged_kept common p a kept c.sender_of-kept.ensures) c.in-Ok.entry
+    c.in-Ok.ensures.decides
 
 pub returns-in-Ok-clause-decides : goal.returns-in-Ok-clause-decides
 returns-in-Ok-clause-decides c = subst (λ (o : Option Entry). Decides MayStand (KeepsOne c.args.common.now c.args.head.pid c.args.audited.now) (told c) o) (sym c.childless.ensures.entry) (decides c)
@@ -33,5 +34,6 @@ returns-in-Ok-clause-leads c =
     let kept = c.sender_of-kept.result in
     let new = c.sync.new.audited in
     leads_one common p a new (told c) refl c.childless.result c.in-Ok.entry c.childless.ensures.entry c.childless.ensures.child (decides c)
-    (λ e is. steps_led common p a kept c.sender_of-kept.ensures (KeepsPaged common.front common.limits p a kept common.pager) (paged_kept common p a kept c.sender_of-kept.ensures) (told c) new e (itself p.0)
+    (λ e is. steps_led common p a kept c.sender_of-kept.ensures (KeepsPaged common.front common.limits p a kept common.pager) (paged_kept common p a kept c.sender_of-kept.ensures) (told c) new e
+    (itself p.0)
     (subst (λ (o : Option Entry). IfSome o (LeadsTo (KeepsPaged common.front common.limits p a kept common.pager) p new)) is c.in-Ok.ensures.leads))

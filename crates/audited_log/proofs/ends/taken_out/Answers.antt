@@ -13,7 +13,8 @@ loop-pid-init c = subst (AreMade Made c.args.kept.now.entries c.args.kept.now.en
 
 pub loop-pid-preserved : goal.loop-pid-preserved
 loop-pid-preserved c =
-    made_more Made c.args.kept.now.entries c.loop-pid.kept.entries c.pop_first.new.self.entries c.loop-pid.processes.entries c.insert.new.self.entries c.in-Some.pid c.in-Some.audited c.in-Some.audited.process
+    made_more Made c.args.kept.now.entries c.loop-pid.kept.entries c.pop_first.new.self.entries c.loop-pid.processes.entries c.insert.new.self.entries c.in-Some.pid c.in-Some.audited
+    c.in-Some.audited.process
     c.loop-pid.invariant c.in-Some.ensures.value c.in-Some.ensures.updates.0 c.in_ok-insert.ensures.updates.0 (λ there. refl)
 
 pub returns : goal.returns

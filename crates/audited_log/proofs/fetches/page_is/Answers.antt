@@ -14,4 +14,7 @@ returns-in-Ok-clause-decides c =
     let common = c.args.common.now in
     let told : Told = record { place = c.args.place; by = c.args.by; what = PageIs c.args.pid c.args.index } in
     subst (λ (o : Option Entry). Decides MayStand (λ system log. IsCommonOf system log common) told o) (sym c.childless.ensures.entry)
-    (decides_more (KeepsPages common.front common.pager) (λ system log. IsCommonOf system log common) told (λ system log valid legal is. record { before = is.front; accounts = is.accounts }) c.in-Ok.entry c.in-Ok.ensures.decides)
+    (decides_more (KeepsPages common.front common.pager) (λ system log. IsCommonOf system log common) told (λ system log valid legal is. record {
+      before = is.front;
+      accounts = is.accounts;
+    }) c.in-Ok.entry c.in-Ok.ensures.decides)

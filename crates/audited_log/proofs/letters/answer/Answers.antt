@@ -20,7 +20,8 @@ decides c =
     let p = c.args.head.pid in
     let a = c.args.audited.now in
     let kept = c.sender_of-kept.result in
-    decides_more (KeepsAudited common.front common.limits p a kept) (KeepsOne common p a) (told c) (audited_kept common p a kept c.sender_of-kept.ensures) c.in_ok-entry.entry c.in_ok-entry.ensures.decides
+    decides_more (KeepsAudited common.front common.limits p a kept) (KeepsOne common p a) (told c) (audited_kept common p a kept c.sender_of-kept.ensures) c.in_ok-entry.entry
+    c.in_ok-entry.ensures.decides
 
 pub returns-clause-decides : goal.returns-clause-decides
 returns-clause-decides c = subst (λ (o : Option Entry). Decides MayStand (KeepsOne c.args.common.now c.args.head.pid c.args.audited.now) (told c) o) (sym c.childless.ensures.entry) (decides c)

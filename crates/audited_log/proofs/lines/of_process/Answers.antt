@@ -19,14 +19,17 @@ returns-in_default-get_mut-clause-decides c =
 pub of_kept-requires-clause-ahead : goal.of_kept-requires-clause-ahead
 of_kept-requires-clause-ahead c =
     let some = c.requires.ready.some in
-    ((state_one c.args.state.now c.args.told.now c.in-Some.pid c.in-Some-get_mut.audited.now c.requires.ready.next (sym c.in-Some-get_mut.ensures.value) some.system some.log some.valid some.legal some.is).one).ahead
+    ((state_one c.args.state.now c.args.told.now c.in-Some.pid c.in-Some-get_mut.audited.now c.requires.ready.next
+    (sym c.in-Some-get_mut.ensures.value) some.system some.log some.valid some.legal some.is).one).ahead
 
 pub returns-clause-decides : goal.returns-clause-decides
 returns-clause-decides c =
-    one_answers c.args.state.now c.args.told.now c.in-Some.pid c.in-Some-get_mut.audited.now c.requires.ready.next (sym c.in-Some-get_mut.ensures.value) c.in_ok-answer.answer c.in_ok-answer.ensures.decides
+    one_answers c.args.state.now c.args.told.now c.in-Some.pid c.in-Some-get_mut.audited.now c.requires.ready.next
+    (sym c.in-Some-get_mut.ensures.value) c.in_ok-answer.answer c.in_ok-answer.ensures.decides
 
 pub returns-clause-leads : goal.returns-clause-leads
 returns-clause-leads c =
     one_leads c.args.state.now c.args.told.now c.in-Some.pid c.in-Some-get_mut.audited.now c.requires.ready.next (sym c.in-Some-get_mut.ensures.value) c.of_kept.new.common
-    (c.get_mut.follows.lender c.of_kept.new.audited) c.of_kept.new.audited (c.requires.doer ∙ ap Some (sym c.in-Some.ensures)) (c.get_mut.follows.holds c.of_kept.new.audited).0 c.of_kept.ensures.common
+    (c.get_mut.follows.lender c.of_kept.new.audited) c.of_kept.new.audited (c.requires.doer ∙ ap Some (sym c.in-Some.ensures))
+    (c.get_mut.follows.holds c.of_kept.new.audited).0 c.of_kept.ensures.common
     c.in_ok-answer.answer c.in_ok-answer.ensures.decides c.in_ok-answer.ensures.leads

@@ -13,12 +13,14 @@ loop-pid-init c = subst (AreMade Made c.in_ok-roots.roots.entries c.in_ok-roots.
 
 pub loop-pid-preserved : goal.loop-pid-preserved
 loop-pid-preserved c =
-    made_more Made c.in_ok-roots.roots.entries c.loop-pid.roots.entries c.pop_first.new.self.entries c.loop-pid.processes.entries c.insert.new.self.entries c.in-Some.pid c.in-Some.process c.in_ok-root.root
+    made_more Made c.in_ok-roots.roots.entries c.loop-pid.roots.entries c.pop_first.new.self.entries c.loop-pid.processes.entries c.insert.new.self.entries c.in-Some.pid c.in-Some.process
+    c.in_ok-root.root
     c.loop-pid.invariant c.in-Some.ensures.value c.in-Some.ensures.updates.0 c.in_ok-insert.ensures.updates.0 (λ there. (c.in_ok-root.ensures.audited, c.in_ok-root.ensures.ahead))
 
 pub loop-pid-preserved-in_ok-insert : goal.loop-pid-preserved-in_ok-insert
 loop-pid-preserved-in_ok-insert c =
-    made_more Made c.in_ok-roots.roots.entries c.loop-pid.roots.entries c.pop_first.new.self.entries c.loop-pid.processes.entries c.insert.new.self.entries c.in-Some.pid c.in-Some.process c.in_ok-root.root
+    made_more Made c.in_ok-roots.roots.entries c.loop-pid.roots.entries c.pop_first.new.self.entries c.loop-pid.processes.entries c.insert.new.self.entries c.in-Some.pid c.in-Some.process
+    c.in_ok-root.root
     c.loop-pid.invariant c.in-Some.ensures.value c.in-Some.ensures.updates.0 c.in_ok-insert.ensures.updates.0 (λ there. (c.in_ok-root.ensures.audited, c.in_ok-root.ensures.ahead))
 
 pub returns : goal.returns

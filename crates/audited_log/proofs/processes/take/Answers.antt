@@ -16,7 +16,8 @@ returns-in_ok-insert-in-Birth c =
     let old = c.args.processes.now.entries in
     let gone = c.go_on_all.new.processes.entries in
     takes_all c.args.before.now c.args.entry.now c.args.child old gone c.insert.new.self.entries c.in_ok-go_on_all.ensures
-    (comes_with c.args.before.now c.args.entry.now c.args.child old gone c.insert.new.self.entries c.in-Birth.parent c.in-Birth.at c.in-Birth.pid c.in-Birth.end c.in-Some.born c.in_ok-child-in-Birth.field-0
+    (comes_with c.args.before.now c.args.entry.now c.args.child old gone c.insert.new.self.entries c.in-Birth.parent c.in-Birth.at c.in-Birth.pid c.in-Birth.end c.in-Some.born
+    c.in_ok-child-in-Birth.field-0
     c.in-Birth.is c.in-Some.is c.in_ok-insert-in-Birth.ensures.updates.0 c.in_ok-child-in-Birth.ensures.audited c.in_ok-child-in-Birth.ensures.ahead)
 
 pub returns-in_default-child : goal.returns-in_default-child

@@ -28,14 +28,17 @@ decides c =
     let Kept = λ (recs : List BackRec). KeepsRecorded common.front p a common.family recs in
     subst (λ (ns : List ℕ). Decides MayStand (KeepsOne common p a) (told c ns) c.in_ok-entry.entry) (ap (λ ns. p.0 ∷ ns) c.behind_first-others.ensures ∙ same c)
     (decides_more (Kept c.records-records.result.now) (KeepsOne common p a) (told c (p.0 ∷ c.behind_first-others.result.now))
-    (λ system log valid legal keeps. subst (λ (recs : List BackRec). Kept recs system log) (sym c.records-records.ensures) (recorded_kept common p a system log valid legal keeps)) c.in_ok-entry.entry c.in_ok-entry.ensures)
+    (λ system log valid legal keeps. subst (λ (recs : List BackRec). Kept recs system log) (sym c.records-records.ensures)
+    (recorded_kept common p a system log valid legal keeps)) c.in_ok-entry.entry c.in_ok-entry.ensures)
 
 pub returns-clause-decides : goal.returns-clause-decides
-returns-clause-decides c = subst (λ (o : Option Entry). Decides MayStand (KeepsOne c.args.common.now c.args.head.pid c.args.audited.now) (told c c.args.pids.now) o) (sym c.childless.ensures.entry) (decides c)
+returns-clause-decides c = subst (λ (o : Option Entry). Decides MayStand (KeepsOne c.args.common.now c.args.head.pid c.args.audited.now) (told c c.args.pids.now) o) (sym c.childless.ensures.entry)
+    (decides c)
 
 pub returns-clause-leads : goal.returns-clause-leads
 returns-clause-leads c =
     let common = c.args.common.now in
     let p = c.args.head.pid in
     let a = c.args.audited.now in
-    leads_one common p a a (told c c.args.pids.now) refl c.childless.result c.in_ok-entry.entry c.childless.ensures.entry c.childless.ensures.child (decides c) (λ e is. still_led common p a (told c c.args.pids.now) e refl)
+    leads_one common p a a (told c c.args.pids.now) refl c.childless.result c.in_ok-entry.entry c.childless.ensures.entry c.childless.ensures.child (decides c) (λ e is. still_led common p a
+    (told c c.args.pids.now) e refl)

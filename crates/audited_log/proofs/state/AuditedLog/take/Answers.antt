@@ -28,10 +28,12 @@ pub take-requires-2-clause-records : goal.take-requires-2-clause-records
 take-requires-2-clause-records c =
     let r = c.requires in
     let e = c.args.answer.entry in
-    c.entries_can_be_taken.ensures r.system r.log e (c.args.self.now.common).records r.valid (built_stands r.system (r.log ++ e ∷ []) (IsLegal-snoc MayStand r.system r.log e r.legal r.may)) r.room ((r.is).common).records
+    c.entries_can_be_taken.ensures r.system r.log e (c.args.self.now.common).records r.valid (built_stands r.system (r.log ++ e ∷ []) (IsLegal-snoc MayStand r.system r.log e r.legal r.may)) r.room
+    ((r.is).common).records
 
 pub returns-clause-takes : goal.returns-clause-takes
 returns-clause-takes c = λ system log valid legal may is. record {
   common = c.in_ok-take-2.ensures system log valid legal may is.common;
-  processes = λ runs. c.in_ok-take.ensures system log valid legal may (sym ((is.common).front).places ∙ sym c.places-before.ensures) (is.processes (goes_on_so system log c.args.answer.entry runs)) is.child runs;
+  processes = λ runs. c.in_ok-take.ensures system log valid legal may (sym ((is.common).front).places ∙ sym c.places-before.ensures) (is.processes
+      (goes_on_so system log c.args.answer.entry runs)) is.child runs;
 }
