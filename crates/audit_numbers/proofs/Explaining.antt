@@ -17,7 +17,7 @@ use Rattle.bus_msg.specs.declared.entry.Entry.{Entry}
 use Rattle.bus_msg.specs.PlacedAfter.{what}
 use Rattle.cert_sched.specs.Parts.{last_of}
 use Rattle.cert_sched.specs.Told.{Told, cluster_lost, told}
-use Rattle.cert_sched.specs.Built.{MayStand}
+use Rattle.cert_sched.specs.Legal.{MayStand}
 use Rattle.entry_lines.specs.Told.{Fits, IsSmall, WhatFits, told_of, told_what}
 use Rattle.report_text.specs.declared.run.Ended.{Ended as RunEnd}
 use Rattle.report_text.specs.declared.run.Ended.TheVariants.{Finished, Lost}

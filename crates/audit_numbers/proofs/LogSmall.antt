@@ -22,8 +22,7 @@ use Rattle.cert_sched.specs.Told.{Told, told}
 use Rattle.cert_sched.specs.Moved.{fetched}
 use Rattle.cert_sched.specs.Steps.{silent_upto}
 use Rattle.cert_sched.specs.Kinds.{KindHolds, is_silent_rest}
-use Rattle.cert_sched.specs.Legal.{IsLegalBy}
-use Rattle.cert_sched.specs.Built.{MayStand}
+use Rattle.cert_sched.specs.Legal.{IsLegalBy, MayStand}
 use Rattle.cert_sched.proofs.Induction.{legal_induction}
 use Rattle.cert_sched.proofs.LogLaws.{IsLegal-snoc, schedule_of-snoc, told-snoc, told_last}
 use Rattle.entry_lines.specs.Told.{CauseFits, Fits, IsSmall, WhatFits, told_of, told_what}

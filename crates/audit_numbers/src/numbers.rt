@@ -2,7 +2,7 @@
 ghost use Rattle.std.specs.Prelude.{◌≡◌, ◌<◌, ◌^◌, true, ℕ, List, length, map};
 ghost use Rattle.sys_text.specs.declared.system.System.{System};
 ghost use Rattle.sys_text.specs.Valid.{is_system};
-ghost use Rattle.cert_sched.specs.Built.{MayStand};
+ghost use Rattle.cert_sched.specs.Legal.{MayStand};
 ghost use Rattle.entry_lines.specs.Told.{told_of};
 ghost use Rattle.log_section.specs.Form.{IsForm};
 ghost use Rattle.log_section.specs.Printed.{KernelFits, RunFits};

@@ -27,8 +27,7 @@ use Rattle.cert_sched.specs.Steps.{silent_upto, emission_at, before_fork_at}
 use Rattle.cert_sched.specs.Rules.{is_over}
 use Rattle.cert_sched.specs.Kinds.{IsSent, KindHolds}
 use Rattle.cert_sched.specs.Scripted.{is_done}
-use Rattle.cert_sched.specs.Legal.{IsLegalBy}
-use Rattle.cert_sched.specs.Built.{MayStand}
+use Rattle.cert_sched.specs.Legal.{IsLegalBy, MayStand}
 use Rattle.cert_sched.proofs.Systems.{cluster, hi_system}
 use Rattle.report_text.specs.declared.run.Run.{Run}
 use Rattle.report_text.specs.declared.run.Ended.{Ended}
@@ -65,17 +64,16 @@ hi_2 = entry 2 Bus 3 None (Done [])
 
 follows_0 : MayStand hi_system [] hi_0
 unfolding boot one_step steps silently plain_after schedule_of placement told is_over silent_upto emission_at before_fork_at backup_record account_after
-follows_0 = record { stands = record { placed = (refl, refl, refl); by_right = refl; applies = refl; kind = refl }; built = refl; limits = refl; new_page = refl; pages = refl }
+follows_0 = record { stands = record { placed = (refl, refl, refl); by_right = refl; applies = refl; kind = refl }; limits = refl; new_page = refl; pages = refl }
 
 follows_1 : MayStand hi_system (hi_0 ∷ []) hi_1
 unfolding boot one_step steps silently plain_after schedule_of placement told is_over silent_upto emission_at before_fork_at backup_record account_after
-follows_1 = record { stands = record { placed = (refl, refl, refl); by_right = refl; applies = refl; kind = (refl, refl) }; built = refl; limits = refl; new_page = refl; pages = refl }
+follows_1 = record { stands = record { placed = (refl, refl, refl); by_right = refl; applies = refl; kind = (refl, refl) }; limits = refl; new_page = refl; pages = refl }
 
 follows_2 : MayStand hi_system (hi_0 ∷ hi_1 ∷ []) hi_2
 unfolding boot one_step steps silently plain_after schedule_of placement told is_over silent_upto emission_at before_fork_at backup_record account_after
 follows_2 = record {
   stands = record { placed = (refl, refl, refl); by_right = refl; applies = refl; kind = record { named = refl; silent = refl; still = refl } };
-  built = refl;
   limits = refl;
   new_page = refl;
   pages = refl;

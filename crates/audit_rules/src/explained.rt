@@ -13,7 +13,7 @@ ghost use Rattle.report_text.specs.RunReport.{report_of, log_text_of};
 ghost use Rattle.entry_lines.specs.Told.{told_of};
 ghost use Rattle.log_section.specs.Form.{IsForm};
 ghost use Rattle.log_section.specs.Printed.{KernelFits, RunFits};
-ghost use Rattle.cert_sched.specs.Built.{MayStand};
+ghost use Rattle.cert_sched.specs.Legal.{MayStand};
 ghost use Rattle.audit_rules.specs.Explained.{ExplainedBy, has_small_number};
 
 use log_section::printed_sections_are_form;

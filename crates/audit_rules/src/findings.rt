@@ -3,7 +3,7 @@ ghost use Rattle.std.specs.Prelude.{◌≡◌, ℕ, List};
 ghost use Rattle.sys_text.specs.declared.system.System.{System};
 ghost use Rattle.audit_text.specs.declared.finding.Finding.{Finding};
 ghost use Rattle.log_section.specs.Printed.{KernelFits, RunFits};
-ghost use Rattle.cert_sched.specs.Built.{MayStand};
+ghost use Rattle.cert_sched.specs.Legal.{MayStand};
 ghost use Rattle.audit_rules.specs.Explained.{ExplainedBy};
 ghost use Rattle.audit_rules.specs.Findings.{AuditCause};
 

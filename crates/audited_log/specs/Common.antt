@@ -3,8 +3,7 @@ use Rattle.std.specs.Prelude.{◌≡◌, true, List, [], ◌∷◌, ◌++◌}
 use Rattle.sys_text.specs.declared.system.System.{System}
 use Rattle.sys_text.specs.Valid.{is_system}
 use Rattle.bus_msg.specs.declared.entry.Entry.{Entry}
-use Rattle.cert_sched.specs.Legal.{IsLegalBy}
-use Rattle.cert_sched.specs.Built.{MayStand}
+use Rattle.cert_sched.specs.Legal.{IsLegalBy, MayStand}
 use Rattle.page_accounts.specs.Keeps.{KeepsAccounts}
 use Rattle.log_laws.specs.births.Unsynced.{unsynced_births}
 use Rattle.log_audit.specs.Front.{IsFrontOf}

@@ -4,8 +4,7 @@ use Rattle.t32_base.specs.declared.process.Pid.{Pid}
 use Rattle.sys_text.specs.declared.system.System.{System}
 use Rattle.sys_text.specs.Valid.{is_system}
 use Rattle.bus_msg.specs.declared.entry.Entry.{Entry}
-use Rattle.cert_sched.specs.Legal.{IsLegalBy}
-use Rattle.cert_sched.specs.Built.{MayStand}
+use Rattle.cert_sched.specs.Legal.{IsLegalBy, MayStand}
 use Rattle.entry_lines.specs.declared.told.ToldBy.{ToldBy}
 use Rattle.entry_lines.specs.declared.told.ToldWhat.{ToldWhat}
 use Rattle.log_audit.specs.Decides.{Decides}

@@ -4,8 +4,7 @@ use Rattle.sys_text.specs.declared.system.System.{System}
 use Rattle.sys_text.specs.Valid.{is_system}
 use Rattle.bus_msg.specs.declared.entry.Entry.{Entry}
 use Rattle.cert_sched.specs.Rules.{is_over}
-use Rattle.cert_sched.specs.Legal.{IsLegalBy}
-use Rattle.cert_sched.specs.Built.{MayStand}
+use Rattle.cert_sched.specs.Legal.{IsLegalBy, MayStand}
 use Rattle.audited_log.specs.declared.state.AuditedLog.{AuditedLog}
 use Rattle.audited_log.specs.Common.{IsCommonOf}
 use Rattle.audited_log.specs.Processes.{AreKept}

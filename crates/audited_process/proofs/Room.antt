@@ -15,8 +15,7 @@ use Rattle.bus_msg.specs.PlacedAfter.{what}
 use Rattle.cert_sched.specs.Schedule.{placement, process_after}
 use Rattle.cert_sched.specs.Deeds.{arrived_count, letter_for}
 use Rattle.cert_sched.specs.Steps.{saved_of}
-use Rattle.cert_sched.specs.Legal.{IsLegalBy, Stands}
-use Rattle.cert_sched.specs.Built.{MayStand}
+use Rattle.cert_sched.specs.Legal.{IsLegalBy, Stands, MayStand}
 use Rattle.cert_sched.specs.Simulation.{IsUnended}
 use Rattle.cert_sched.proofs.LogLaws.{IsLegal-snoc, placement-snoc}
 use Rattle.cert_sched.proofs.OpenLaws.{unended_open}

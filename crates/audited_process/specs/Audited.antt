@@ -10,8 +10,7 @@ use Rattle.bus_msg.specs.Places.{Places}
 use Rattle.bus_msg.specs.PlacedAfter.{what}
 use Rattle.cert_sched.specs.Schedule.{placement, process_after}
 use Rattle.cert_sched.specs.Deeds.{is_birth_of}
-use Rattle.cert_sched.specs.Legal.{IsLegalBy}
-use Rattle.cert_sched.specs.Built.{MayStand}
+use Rattle.cert_sched.specs.Legal.{IsLegalBy, MayStand}
 use Rattle.cert_sched.specs.Simulation.{IsUnended}
 use Rattle.audited_process.specs.declared.audited.Audited.{Audited}
 use Rattle.audited_process.specs.Concerns.{goes_on}

@@ -9,8 +9,7 @@ use Rattle.bus_msg.specs.PlacedAfter.{what}
 use Rattle.cert_sched.specs.Schedule.{process_after}
 use Rattle.cert_sched.specs.Deeds.{is_cut}
 use Rattle.cert_sched.specs.Steps.{saved_of, start_steps}
-use Rattle.cert_sched.specs.Legal.{IsLegalBy}
-use Rattle.cert_sched.specs.Built.{MayStand}
+use Rattle.cert_sched.specs.Legal.{IsLegalBy, MayStand}
 use Rattle.cert_sched.specs.Simulation.{IsUnended}
 use Rattle.log_processes.specs.Arrivals.{stepped}
 use Rattle.log_cuts.specs.Start.{BeginsAt, KeepsStart}

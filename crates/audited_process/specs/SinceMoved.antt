@@ -16,8 +16,7 @@ use Rattle.cert_sched.specs.Told.{Told}
 use Rattle.cert_sched.specs.Deeds.{is_birth_of}
 use Rattle.cert_sched.specs.Moved.{any_since_moved, names, since_moved}
 use Rattle.cert_sched.specs.Rules.{has_awaited_backup, is_alone, is_full, is_moved_fullback}
-use Rattle.cert_sched.specs.Legal.{IsLegalBy, Stands}
-use Rattle.cert_sched.specs.Built.{MayStand}
+use Rattle.cert_sched.specs.Legal.{IsLegalBy, Stands, MayStand}
 use Rattle.cert_sched.specs.Simulation.{IsUnended}
 use Rattle.log_laws.specs.pages.Next.{moves_next}
 use Rattle.log_cuts.specs.SentPages.{IsSentOf}

@@ -4,7 +4,7 @@ ghost use Rattle.std.specs.Option.{IfSome};
 ghost use Rattle.proc_state.specs.State.{state_of};
 ghost use Rattle.page_server.specs.Account.{SameAccounts};
 ghost use Rattle.entry_lines.specs.declared.told.ToldWhat.TheVariants.{Birth, Exit, Fetch, Fresh, Mail, Page, Standing, Sync};
-ghost use Rattle.cert_sched.specs.Built.{MayStand};
+ghost use Rattle.cert_sched.specs.Legal.{MayStand};
 ghost use Rattle.log_audit.specs.Decides.{Decides};
 ghost use Rattle.log_cuts.specs.Ahead.{IsAhead};
 ghost use Rattle.audited_process.specs.Lines.{AnswersLine, KeepsAudited, KeepsFetched, KeepsPaged, KeepsRecorded, LeadsTo};

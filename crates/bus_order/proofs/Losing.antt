@@ -16,8 +16,7 @@ use Rattle.cert_sched.specs.declared.script.ScriptWord.TheVariants.{CrashAt, Cra
 use Rattle.cert_sched.specs.CertAfter.{CertView}
 use Rattle.cert_sched.specs.Schedule.{placement}
 use Rattle.cert_sched.specs.Rules.{is_over}
-use Rattle.cert_sched.specs.Legal.{IsLegalBy}
-use Rattle.cert_sched.specs.Built.{MayStand}
+use Rattle.cert_sched.specs.Legal.{IsLegalBy, MayStand}
 use Rattle.cert_sched.specs.Looked.{Looked, gives, goes_on as goes_by, first_reached, is_bus_word, is_reached, given_by, waits_for_no_word, without_reached}
 use Rattle.cert_sched.specs.Losses.{is_scripted_cause}
 use Rattle.cert_sched.specs.Simulation.{crash_entry}
@@ -38,7 +37,6 @@ crash_may_follow system log k cause legal goes_on lives = record {
     applies = ap is_some (no_items system log (crash_entry system log k cause) (λ k. refl)) ∙ plain_there MayStand (λ system log e may. may.stands) system log legal;
     kind = lives;
   };
-  built = refl;
   limits = refl;
   new_page = refl;
   pages = refl;

@@ -14,8 +14,7 @@ use Rattle.cert_sched.specs.declared.script.ScriptWord.TheVariants.{CrashAt, Cra
 use Rattle.cert_sched.specs.CertAfter.{CertView}
 use Rattle.cert_sched.specs.Schedule.{placement}
 use Rattle.cert_sched.specs.Rules.{is_over}
-use Rattle.cert_sched.specs.Legal.{IsLegalBy}
-use Rattle.cert_sched.specs.Built.{MayStand}
+use Rattle.cert_sched.specs.Legal.{IsLegalBy, MayStand}
 use Rattle.cert_sched.specs.Looked.{Looked, gives, first_reached, is_bus_word, is_reached, given_by, without_reached}
 use Rattle.cert_sched.proofs.LogLaws.{no_items}
 use Rattle.cert_sched.proofs.ThereLaws.{plain_there}
@@ -44,7 +43,6 @@ return_may_follow system log k legal goes_on lost = record {
     applies = ap is_some (no_items system log (return_entry system log k) (λ k. refl)) ∙ plain_there MayStand (λ system log e may. may.stands) system log legal;
     kind = lost;
   };
-  built = refl;
   limits = refl;
   new_page = refl;
   pages = refl;

@@ -2,7 +2,6 @@ use Rattle.std.proofs.Common.{◌≡◌, ◌≤◌, sym, arith, List, [], ◌∷
 use Rattle.sys_text.specs.declared.system.System.{System}
 use Rattle.bus_msg.specs.declared.entry.Entry.{Entry}
 use Rattle.cert_sched.specs.Legal.{IsLegalBy}
-use Rattle.cert_sched.specs.Built.{UnlostMayFollow}
 use Rattle.cert_sched.specs.Scripted.{is_closed}
 
 -- ---- a log without a loss

@@ -15,8 +15,7 @@ use Rattle.bus_msg.specs.PlacedAfter.{what}
 use Rattle.cert_sched.specs.Schedule.{plain_after, schedule_of}
 use Rattle.cert_sched.specs.Kinds.{KindHolds}
 use Rattle.cert_sched.specs.Scripted.{is_done, is_finished}
-use Rattle.cert_sched.specs.Legal.{IsLegalBy}
-use Rattle.cert_sched.specs.Built.{MayStand}
+use Rattle.cert_sched.specs.Legal.{IsLegalBy, MayStand}
 use Rattle.cert_sched.proofs.ListLaws.{last_of-snoc}
 use Rattle.cert_sched.proofs.LogLaws.{plain_run-schedule_of}
 use Rattle.cert_sched.proofs.Induction.{legal_induction}

@@ -20,11 +20,10 @@ use Rattle.bus_msg.specs.Places.{same_pid, unended_in}
 use Rattle.cert_sched.specs.Parts.{rising}
 use Rattle.cert_sched.specs.Schedule.{plain_after, after_entry, placement}
 use Rattle.cert_sched.specs.Steps.{silent_upto}
-use Rattle.cert_sched.specs.Rules.{is_over}
+use Rattle.cert_sched.specs.Rules.{is_over, owes_no_backup}
 use Rattle.cert_sched.specs.Kinds.{is_silent_rest}
 use Rattle.cert_sched.specs.Rests.{is_idle, is_idle_at}
-use Rattle.cert_sched.specs.Legal.{IsLegalBy}
-use Rattle.cert_sched.specs.Built.{MayStand}
+use Rattle.cert_sched.specs.Legal.{IsLegalBy, MayFollow, MayStand}
 use Rattle.cert_sched.specs.Appended.{entry_of}
 use Rattle.cert_sched.proofs.ListLaws.{list_all-weaker}
 use Rattle.cert_sched.proofs.LogLaws.{plain_after-snoc}
@@ -144,10 +143,10 @@ done_still system log rests legal goes_on rest d =
         sym (rising-any (λ m. eqb m q.0) (placed_pids (unended_in (placement system log)))) ∙ sym (ap (list_any (λ m. eqb m q.0)) rest.named) ∙ none in
         ended_acts_not s (told q s (ap (option_and_then (λ k. process_at k q)) d.before ∙ was) (unnamed (placement system log).placed q apart)))
 
--- where all rest, the end of the run may stand next
-pub done_may_follow : (system : System) (log : List Entry) (rests : List (Pid × ℕ)) → is_system system ≡ true → IsLegalBy MayStand system log → is_over system log ≡ false → AllRest system log rests
+-- where all rest, the end of the run may stand next,
+pub done_may_stand : (system : System) (log : List Entry) (rests : List (Pid × ℕ)) → is_system system ≡ true → IsLegalBy MayStand system log → is_over system log ≡ false → AllRest system log rests
     → MayStand system log (done_entry system log rests)
-done_may_follow system log rests valid legal goes_on rest =
+done_may_stand system log rests valid legal goes_on rest =
     let d = done_kernel system log rests valid legal rest in
     record {
       stands = record {
@@ -160,8 +159,13 @@ done_may_follow system log rests valid legal goes_on rest =
           still = ap (option_map is_still) d.after ∙ ap Some (done_still system log rests legal goes_on rest d);
         };
       };
-      built = refl;
       limits = refl;
       new_page = refl;
       pages = refl;
     }
+
+-- and where no backup is owed beside that it may follow
+pub done_may_follow : (system : System) (log : List Entry) (rests : List (Pid × ℕ)) → is_system system ≡ true → IsLegalBy MayStand system log → is_over system log ≡ false → AllRest system log rests
+    → owes_no_backup (placement system log) ≡ true → MayFollow system log (done_entry system log rests)
+done_may_follow system log rests valid legal goes_on rest backed =
+    let may = done_may_stand system log rests valid legal goes_on rest in record { stands = may.stands; limits = may.limits; backup = backed; new_page = may.new_page; pages = may.pages }

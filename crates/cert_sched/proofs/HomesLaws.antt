@@ -23,8 +23,7 @@ use Rattle.cert_sched.specs.Parts.{rising, put_rising}
 use Rattle.cert_sched.specs.Schedule.{placement, placed_root}
 use Rattle.cert_sched.specs.Rules.{is_over, owes_no_backup}
 use Rattle.cert_sched.specs.Rests.{IsRestOf, is_idle_at, owes_no_backup_at}
-use Rattle.cert_sched.specs.Legal.{IsLegalBy}
-use Rattle.cert_sched.specs.Built.{MayStand}
+use Rattle.cert_sched.specs.Legal.{IsLegalBy, MayStand}
 use Rattle.cert_sched.proofs.ListLaws.{list_all-weaker}
 use Rattle.cert_sched.proofs.LogLaws.{placement-snoc}
 use Rattle.cert_sched.proofs.Induction.{legal_induction}
@@ -118,9 +117,13 @@ none_home t k (q ∷ qs) all other =
 -- in a cluster that does not live every process rests, since none is at home there
 pub lost_rest : (system : System) (log : List Entry) (k : ClusterNo) → is_system system ≡ true → IsLegalBy MayStand system log → is_over system log ≡ false → lives_in (placement system log) k ≡ false → IsRestOf system log k []
 lost_rest system log k valid legal goes_on lost = record {
-  named = sym (ap (λ (qs : List Placed). rising (map (λ (q : Placed). (q.pid).0) qs)) (none_home (lives_in (placement system log)) k (placement system log).placed (homes_lived system log valid legal goes_on) lost));
+  named = sym (ap (λ (qs : List Placed). rising (map (λ (q : Placed). (q.pid).0) qs)) nobody);
   idle = refl;
+  backed = ap (list_all (λ q. is_none (next_backup (placement system log) q))) nobody;
 }
+  where
+    nobody : filter (is_at_home k) (placement system log).placed ≡ []
+    nobody = none_home (lives_in (placement system log)) k (placement system log).placed (homes_lived system log valid legal goes_on) lost
 
 -- ---- the pids at home
 

@@ -33,8 +33,7 @@ use Rattle.cert_sched.specs.Record.{backup_record}
 use Rattle.cert_sched.specs.Steps.{before_fork_at, after_items, steps_since, reads_since, start_steps, saved_of}
 use Rattle.cert_sched.specs.Rules.{is_within_limits, keeps_limits}
 use Rattle.cert_sched.specs.Kinds.{KindHolds}
-use Rattle.cert_sched.specs.Legal.{Stands, IsLegalBy, IsLegal, MayFollow}
-use Rattle.cert_sched.specs.Built.{MayStand, KeepsLimits}
+use Rattle.cert_sched.specs.Legal.{Stands, IsLegalBy, IsLegal, MayFollow, MayStand, KeepsLimits}
 use Rattle.cert_sched.specs.Simulation.{RecordLeads}
 use Rattle.cert_sched.proofs.LogLaws.{IsLegal-snoc}
 use Rattle.cert_sched.proofs.RecordLaws.{start_of-snoc, since-snoc, saved_letters-start}

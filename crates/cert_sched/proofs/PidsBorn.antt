@@ -1,5 +1,5 @@
 -- The pids after a log: those at boot, and those of the children that the log bears.
-use Rattle.std.proofs.Common.{◌≡◌, ℕ, ◌-◌, refl, sym, ◌∙◌, ap, List, [], ◌∷◌, ◌++◌, map, true, append-nil, append_assoc, Option, Some, None, is_some}
+use Rattle.std.proofs.Common.{◌≡◌, ℕ, refl, sym, ◌∙◌, ap, List, [], ◌∷◌, ◌++◌, map, true, append-nil, append_assoc, Option, Some, None, is_some}
 use Rattle.std.proofs.lemmas.List.{map-append}
 use Rattle.std.proofs.lemmas.Grind.{flat_map-append}
 use Rattle.t32_base.specs.declared.process.Pid.{Pid}

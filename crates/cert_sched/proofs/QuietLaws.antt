@@ -1,5 +1,5 @@
 -- An entry that tells of no emission leads the kernel on by silent steps alone.
-use Rattle.std.proofs.Common.{option_and_then, ◌≡◌, ℕ, refl, sym, ◌∙◌, ap, subst, List, [], ◌∷◌, ◌++◌, true, false, not, Option, Some, None, is_some, true≢false, append-nil}
+use Rattle.std.proofs.Common.{option_and_then, ◌≡◌, ℕ, refl, sym, ◌∙◌, ap, subst, List, [], ◌∷◌, ◌++◌, true, not, Option, Some, None, is_some, true≢false, append-nil}
 use Rattle.std.specs.Prelude.{option_map}
 use Rattle.std.proofs.lemmas.Bool.{and_parts}
 use Rattle.std.proofs.lemmas.Option.{same_Some}

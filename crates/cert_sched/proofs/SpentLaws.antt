@@ -1,5 +1,5 @@
 -- After any log no process has made more steps than it had left at boot, or a child at its birth, which is far from the greatest number.
-use Rattle.std.proofs.Common.{◌≡◌, ℕ, ◌+◌, ◌-◌, ◌<◌, ◌≤◌, ◌^◌, ap, subst, arith, List, [], true, Some}
+use Rattle.std.proofs.Common.{◌≡◌, ℕ, ◌+◌, ◌-◌, ◌<◌, ◌≤◌, ◌^◌, ap, subst, arith, List, true, Some}
 use Rattle.std.specs.Prelude.{option_map}
 use Rattle.std.proofs.lemmas.List.Sums.{count_by-le-length}
 use Rattle.t32_base.specs.declared.process.Pid.{Pid}

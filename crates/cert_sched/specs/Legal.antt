@@ -1,6 +1,7 @@
 -- Which logs are legal.
 use Rattle.std.specs.Prelude.{◌≡◌, true, List, [], ◌∷◌, ◌++◌, is_some, ⊤}
 use Rattle.sys_text.specs.declared.system.System.{System}
+use Rattle.bus_msg.specs.declared.entry.What.{What}
 use Rattle.bus_msg.specs.declared.entry.Entry.{Entry}
 use Rattle.bus_msg.specs.PlacedAfter.{what}
 use Rattle.cert_sched.specs.Schedule.{plain_after, placement}
@@ -15,13 +16,28 @@ pub record Stands (system : System) (log : List Entry) (e : Entry) : Type 0 wher
   pub applies : is_some (plain_after system (log ++ e ∷ [])) ≡ true
   pub kind : KindHolds system log e (what e)
 
--- An entry may stand next in a log: it stands, and keeps the limits between two cuts, the rule of new backups and the waits for pages.
+-- what tells of steps leaves its process within the limits between two cuts
+abbrev pub KeepsLimits : System → List Entry → What → Type 0
+KeepsLimits system log w = holds_of (is_limited w) (process_of w) (is_within_limits system log w) ≡ true
+
+-- a process that was moved with a state does nothing before it has got its pages
+abbrev pub KeepsWaits : System → List Entry → Entry → Type 0
+KeepsWaits system log e = holds_of (awaits_pages (what e)) (process_of (what e)) (has_its_pages system log) ≡ true
+
+-- An entry may stand next in a log by all rules but that of new backups: it stands, and keeps the limits between two cuts and the waits for pages.
+pub record MayStand (system : System) (log : List Entry) (e : Entry) : Type 0 where
+  pub stands : Stands system log e
+  pub limits : KeepsLimits system log (what e)
+  pub new_page : is_new_page system log (what e) ≡ true
+  pub pages : KeepsWaits system log e
+
+-- An entry may follow in a log: it may stand next, and keeps the rule of new backups.
 pub record MayFollow (system : System) (log : List Entry) (e : Entry) : Type 0 where
   pub stands : Stands system log e
-  pub limits : holds_of (is_limited (what e)) (process_of (what e)) (is_within_limits system log (what e)) ≡ true
+  pub limits : KeepsLimits system log (what e)
   pub backup : keeps_backups system log (what e) ≡ true
   pub new_page : is_new_page system log (what e) ≡ true
-  pub pages : holds_of (awaits_pages (what e)) (process_of (what e)) (has_its_pages system log) ≡ true
+  pub pages : KeepsWaits system log e
 
 -- ---- logs
 

@@ -56,6 +56,13 @@ abbrev pub is_disk_crash : ClusterNo → ℕ → What → Bool
 is_disk_crash k n (Crash j cause) = same_cluster j k && is_disk n cause
 is_disk_crash k n _ = false
 
+-- a word by which a cluster is lost
+abbrev pub is_loss_word : ScriptWord → Bool
+is_loss_word (CrashAt k place) = true
+is_loss_word (CrashStep k step) = true
+is_loss_word (DiskAt k call) = true
+is_loss_word (ReturnAt k place) = false
+
 abbrev pub is_step_word : ClusterNo → ℕ → ScriptWord → Bool
 is_step_word k n (CrashAt j place) = false
 is_step_word k n (CrashStep j step) = same_cluster j k && step == n

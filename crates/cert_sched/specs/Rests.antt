@@ -35,7 +35,8 @@ is_idle_at system log r = is_silent_rest system log r && option_map_or is_idle (
 abbrev pub owes_no_backup_at : System → List Entry → ClusterNo → Bool
 owes_no_backup_at system log k = list_all (λ q. is_none (next_backup (placement system log) q)) (placed_at_home system log k)
 
--- Each process at home in the cluster that has not ended, once and rising, with a count at which it is idle.
+-- Each process at home in the cluster that has not ended, once and rising, with a count at which it is idle; and none of them is owed a backup.
 pub record IsRestOf (system : System) (log : List Entry) (k : ClusterNo) (rests : List (Pid × ℕ)) : Type 0 where
   pub named : map (λ (r : Pid × ℕ). (r.0).0) rests ≡ rising (home_pids system log k)
   pub idle : list_all (is_idle_at system log) rests ≡ true
+  pub backed : owes_no_backup_at system log k ≡ true

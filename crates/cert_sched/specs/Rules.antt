@@ -94,6 +94,14 @@ is_limited (Sync pid small read took) = true
 is_limited (Rebackup to fresh recs) = fresh
 is_limited _ = false
 
+-- what tells of steps of a process and leaves no page, or closes the log: letters, exits, the end and a stop
+abbrev pub tells_or_closes : What → Bool
+tells_or_closes (Mail at letter) = true
+tells_or_closes (Exit pid at end) = true
+tells_or_closes (Done rests) = true
+tells_or_closes Stop = true
+tells_or_closes _ = false
+
 -- the wait of a fullback for its new backup
 abbrev pub awaits_backup : What → Bool
 awaits_backup (Mail at letter) = true

@@ -12,7 +12,7 @@ use Rattle.bus_msg.specs.declared.entry.Entry.{Entry}
 use Rattle.bus_msg.specs.declared.entry.Post.{Post}
 use Rattle.bus_msg.specs.Places.{same_pid, servers_in}
 use Rattle.bus_msg.specs.PlacedAfter.{what, placed_after}
-use Rattle.cert_sched.specs.Built.{MayStand}
+use Rattle.cert_sched.specs.Legal.{MayStand}
 use Rattle.cert_sched.specs.Losses.{is_by_cluster, is_crash_of, is_page_entry}
 use Rattle.cert_sched.specs.Moved.{waiting_fetches}
 use Rattle.cert_sched.specs.Parts.{first_of}

@@ -5,9 +5,8 @@ use Rattle.bus_msg.specs.declared.entry.What.{What}
 use Rattle.bus_msg.specs.declared.entry.What.TheVariants.{Crash, Return}
 use Rattle.bus_msg.specs.declared.entry.Entry.{Entry}
 use Rattle.bus_msg.specs.PlacedAfter.{what}
-use Rattle.cert_sched.specs.Legal.{Stands}
+use Rattle.cert_sched.specs.Legal.{Stands, KeepsLimits, KeepsWaits}
 use Rattle.cert_sched.specs.Rules.{is_new_page}
-use Rattle.cert_sched.specs.Built.{KeepsLimits, KeepsWaits}
 
 -- all but a loss and a return
 abbrev pub is_sent : What → Bool

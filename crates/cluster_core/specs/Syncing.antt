@@ -6,7 +6,7 @@ use Rattle.proc_state.specs.declared.process.Process.{Process}
 use Rattle.proc_state.specs.State.{state_of}
 use Rattle.bus_msg.specs.declared.entry.Entry.{Entry}
 use Rattle.bus_msg.specs.declared.entry.What.TheVariants.{Sync}
-use Rattle.cert_sched.specs.Built.{KeepsLimits}
+use Rattle.cert_sched.specs.Legal.{KeepsLimits}
 use Rattle.checkpoint_laws.specs.batches.Underway.{BatchMay, posts_left}
 use Rattle.cluster_core.specs.View.{ClusterView, held_at}
 use Rattle.residents.specs.Held.{Runs}

@@ -2,7 +2,7 @@
 ghost use Rattle.std.specs.Prelude.{◌≡◌, [], ◌∷◌, ◌++◌, List, false, true, Option, Some, option_map};
 ghost use Rattle.sys_text.specs.Valid.{is_system};
 ghost use Rattle.bus_msg.specs.declared.entry.Entry.{Entry};
-ghost use Rattle.cert_sched.specs.Built.{MayStand};
+ghost use Rattle.cert_sched.specs.Legal.{MayStand};
 ghost use Rattle.cert_sched.specs.Losses.{is_by_cluster, is_crash_of};
 ghost use Rattle.cluster_core.specs.Absorbing.{goes_to};
 ghost use Rattle.cluster_core.specs.Follows.{IsOpen};

@@ -4,7 +4,7 @@ ghost use Rattle.sys_text.specs.Valid.{is_system};
 ghost use Rattle.bus_msg.specs.declared.entry.Entry.{Entry};
 ghost use Rattle.bus_msg.specs.declared.entry.Post.{Post};
 ghost use Rattle.cert_sched.specs.Appended.{entry_of};
-ghost use Rattle.cert_sched.specs.Built.{MayStand};
+ghost use Rattle.cert_sched.specs.Legal.{MayStand};
 ghost use Rattle.cert_sched.specs.Legal.{IsLegal, IsLegalBy, MayFollow, Stands};
 ghost use Rattle.cert_sched.specs.Rules.{is_over};
 ghost use Rattle.standing_backups.specs.Standing.{CanBeNext, IsNextStanding};

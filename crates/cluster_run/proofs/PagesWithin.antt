@@ -23,7 +23,7 @@ use Rattle.cert_sched.specs.Schedule.{placement, places_at_boot}
 use Rattle.cert_sched.specs.Told.{Told, told, told_from}
 use Rattle.cert_sched.specs.Moved.{add_wait, ends_wait, fetched, moved_with_state, waiting_fetches, waiting_in}
 use Rattle.cert_sched.specs.Steps.{page_count}
-use Rattle.cert_sched.specs.Built.{MayStand}
+use Rattle.cert_sched.specs.Legal.{MayStand}
 use Rattle.cert_sched.specs.Legal.{IsLegalBy}
 use Rattle.cert_sched.proofs.KernelSums.{sum_of}
 use Rattle.log_laws.proofs.records.Standing.{built_stands}

@@ -39,9 +39,8 @@ use Rattle.cert_sched.specs.Steps.{at_record, emission_at, first_record, process
 use Rattle.cert_sched.specs.Appended.{entry_of}
 use Rattle.cert_sched.specs.Rests.{home_pids}
 use Rattle.cert_sched.specs.Rules.{is_over}
-use Rattle.cert_sched.specs.Built.{MayStand}
 use Rattle.cluster_core.specs.Sent.{SentMayFollow, is_sent}
-use Rattle.cert_sched.specs.Legal.{IsLegalBy, Stands}
+use Rattle.cert_sched.specs.Legal.{IsLegalBy, Stands, MayStand}
 use Rattle.cluster_turns.specs.Ends.{is_cut_off}
 use Rattle.cert_sched.proofs.KernelSums.{one_of_sum, sum_of}
 use Rattle.cert_sched.proofs.RisingLaws.{NoTwo}

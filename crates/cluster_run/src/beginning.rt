@@ -3,7 +3,7 @@ ghost use Rattle.std.specs.Prelude.{◌≡◌, ◌+◌, ◌<◌, ◌⊎◌, IfOk
 ghost use Rattle.bus_msg.specs.PlacedAfter.{what};
 ghost use Rattle.bus_order.specs.Script.{off_at};
 ghost use Rattle.std.specs.List.{list_all};
-ghost use Rattle.cert_sched.specs.Built.{is_built_word};
+ghost use Rattle.cert_sched.specs.Losses.{is_loss_word};
 ghost use Rattle.cert_sched.specs.Losses.{was_lost_in};
 ghost use Rattle.cert_sched.specs.Rules.{is_over};
 ghost use Rattle.cluster_turns.specs.Along.{IsAlong, IsFailed, IsSame, IsSound, IsStopped, StaysAlive};
@@ -36,7 +36,7 @@ pub fn begin_lives(
     returns: bool,
 ) -> Result<(), NoMemory>
     requires sound { IsSound bus.now }
-    requires words { returns ≡ false → list_all is_built_word bus.now.script ≡ true }
+    requires words { returns ≡ false → list_all is_loss_word bus.now.script ≡ true }
     requires has { cluster.old.number.0 < bus.now.system.clusters }
     requires goes_on { is_over bus.now.system bus.now.log ≡ false }
     requires lives { off_at bus.now.log cluster.old.number ≡ None }

@@ -11,9 +11,8 @@ use Rattle.bus_msg.specs.declared.entry.By.TheVariants.{Cluster, Bus}
 use Rattle.bus_msg.specs.declared.entry.What.TheVariants.{Done}
 use Rattle.bus_msg.specs.declared.entry.Post.{Post}
 use Rattle.cert_sched.specs.Appended.{entry_of}
-use Rattle.cert_sched.specs.Built.{MayStand}
 use Rattle.cluster_core.specs.Sent.{SentMayFollow}
-use Rattle.cert_sched.specs.Legal.{IsLegalBy}
+use Rattle.cert_sched.specs.Legal.{IsLegalBy, MayStand}
 use Rattle.cert_sched.specs.Losses.{is_from, least_calls, least_steps, capped, was_lost_in}
 use Rattle.cert_sched.specs.Rests.{IsRestOf}
 use Rattle.cert_sched.specs.Rules.{is_over}

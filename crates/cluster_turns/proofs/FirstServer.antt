@@ -9,8 +9,7 @@ use Rattle.bus_msg.specs.Places.{cluster_no, servers_in}
 use Rattle.cert_sched.specs.Parts.{first_of}
 use Rattle.cert_sched.specs.Schedule.{placement}
 use Rattle.cert_sched.specs.Rules.{is_by, is_over}
-use Rattle.cert_sched.specs.Legal.{IsLegalBy}
-use Rattle.cert_sched.specs.Built.{MayStand}
+use Rattle.cert_sched.specs.Legal.{IsLegalBy, MayStand}
 use Rattle.cert_sched.proofs.ServerLaws.{first_server, servers_live}
 use Rattle.bus_order.specs.Script.{off_at}
 use Rattle.script_laws.proofs.OffLosses.{built_stands}

@@ -23,8 +23,7 @@ use Rattle.cert_sched.specs.declared.script.ScriptWord.{ScriptWord}
 use Rattle.cert_sched.specs.declared.script.ScriptWord.TheVariants.{CrashAt, CrashStep, DiskAt, ReturnAt}
 use Rattle.cert_sched.specs.Schedule.{placement}
 use Rattle.cert_sched.specs.Rules.{is_bus, is_by_right}
-use Rattle.cert_sched.specs.Legal.{IsLegalBy}
-use Rattle.cert_sched.specs.Built.{MayStand}
+use Rattle.cert_sched.specs.Legal.{IsLegalBy, MayStand}
 use Rattle.cert_sched.specs.Losses.{has_step_left, is_by_cluster, is_crash_of, is_disk_crash, is_disk_word, is_from, is_step_crash, is_step_word, was_lost_in}
 use Rattle.cert_sched.proofs.Induction.{legal_induction}
 use Rattle.cluster_core.specs.View.{ClusterView, next_count}

@@ -24,8 +24,7 @@ use Rattle.cluster_turns.specs.Offers.{TakesMark}
 use Rattle.bus_order.proofs.MarksLaws.{mark_in-get_or}
 use Rattle.cluster_turns.specs.Progress.{Falls, FallsBehind, GetsOn, HasMark, IsAtMost, IsAwaiting, IsOff, IsOver, LivesMarked, Remaining, Rests, remaining, remaining_of, total, unseen, AwaitsPage, HasAnswered}
 use Rattle.cluster_turns.specs.Turns.{HasSpent, TurnsOwn}
-use Rattle.cert_sched.specs.Legal.{IsLegalBy}
-use Rattle.cert_sched.specs.Built.{MayStand}
+use Rattle.cert_sched.specs.Legal.{IsLegalBy, MayStand}
 use Rattle.cluster_turns.proofs.FirstServer.{FirstServer, first_lives, first_there}
 use Rattle.cert_sched.specs.Moved.{waiting_fetches}
 use Rattle.cert_sched.specs.Parts.{first_of}

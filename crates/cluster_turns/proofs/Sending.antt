@@ -17,8 +17,7 @@ use Rattle.cert_sched.specs.Schedule.{placement}
 use Rattle.cert_sched.specs.Appended.{entry_of}
 use Rattle.cert_sched.specs.Rules.{is_over}
 use Rattle.cert_sched.specs.Told.{cluster_lost}
-use Rattle.cert_sched.specs.Legal.{IsLegalBy, Stands}
-use Rattle.cert_sched.specs.Built.{MayStand}
+use Rattle.cert_sched.specs.Legal.{IsLegalBy, Stands, MayStand}
 use Rattle.cert_sched.specs.Scripted.{closes}
 use Rattle.cert_sched.specs.Losses.{is_by_cluster, is_crash_of, is_from, was_lost_in}
 use Rattle.cert_sched.proofs.Induction.{is_over-snoc}

@@ -13,7 +13,7 @@ use Rattle.bus_msg.specs.declared.entry.By.TheVariants.{Cluster, Bus}
 use Rattle.bus_msg.specs.Places.{Places}
 use Rattle.sys_text.specs.declared.system.System.{System}
 use Rattle.bus_msg.specs.declared.entry.Entry.{Entry}
-use Rattle.cert_sched.specs.Built.{MayStand}
+use Rattle.cert_sched.specs.Legal.{MayStand}
 use Rattle.cert_sched.specs.Losses.{is_crash_of, is_from}
 use Rattle.cert_sched.specs.Rules.{ends_run, is_bus, is_by_right}
 use Rattle.cert_sched.specs.Scripted.{closes}

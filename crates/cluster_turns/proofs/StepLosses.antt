@@ -21,8 +21,7 @@ use Rattle.bus_msg.specs.PlacedAfter.{what}
 use Rattle.cert_sched.specs.declared.script.ScriptWord.{ScriptWord}
 use Rattle.cert_sched.specs.Appended.{entry_of}
 use Rattle.cert_sched.specs.Rules.{is_over}
-use Rattle.cert_sched.specs.Legal.{IsLegalBy}
-use Rattle.cert_sched.specs.Built.{MayStand}
+use Rattle.cert_sched.specs.Legal.{IsLegalBy, MayStand}
 use Rattle.cert_sched.specs.Losses.{capped, heard, is_by_cluster, is_crash_of, least_calls, least_steps, was_lost_in}
 use Rattle.cluster_core.specs.View.{ClusterView, after_sent}
 use Rattle.cluster_core.specs.Follows.{FollowsBuilt, StandsBetween}

@@ -9,10 +9,9 @@ use Rattle.bus_msg.specs.declared.entry.Cause.TheVariants.{Disk, Place, Step}
 use Rattle.bus_msg.specs.declared.entry.Entry.{Entry}
 use Rattle.bus_msg.specs.PlacedAfter.{what}
 use Rattle.cert_sched.specs.Rules.{is_over}
-use Rattle.cert_sched.specs.Legal.{IsLegalBy}
-use Rattle.cert_sched.specs.Built.{MayStand, is_built_word}
+use Rattle.cert_sched.specs.Legal.{IsLegalBy, MayStand}
 use Rattle.cert_sched.specs.declared.script.ScriptWord.{ScriptWord}
-use Rattle.cert_sched.specs.Losses.{has_disk_left, has_step_left, is_crash_of, is_page_entry, was_lost_in}
+use Rattle.cert_sched.specs.Losses.{has_disk_left, has_step_left, is_crash_of, is_page_entry, was_lost_in, is_loss_word}
 use Rattle.cert_sched.specs.Scripted.{is_closed, is_finished}
 use Rattle.cluster_core.specs.View.{ClusterView, failing_in, with_server}
 use Rattle.script_laws.specs.Off.{has_returned_in}
@@ -54,7 +53,7 @@ pub record IsBeside (log : List Entry) (c : ClusterView) : Type 0 where
 pub record IsSound (b : BusView) : Type 0 where
   pub valid : is_system b.system ≡ true
   pub legal : IsLegalBy MayStand b.system b.log
-  pub unreturned : list_all is_built_word b.script ≡ true → (k : ClusterNo) → has_returned_in b.log k ≡ false
+  pub unreturned : list_all is_loss_word b.script ≡ true → (k : ClusterNo) → has_returned_in b.log k ≡ false
   pub fits : length b.log < 2 ^ 64
 
 -- a cluster of the bus's system beside its log, which has passed no word for a step that gave no loss

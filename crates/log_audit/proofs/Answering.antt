@@ -60,7 +60,6 @@ page_follows f pager place by p i server a first may holds system log valid lega
           applies = applies system log e legal (λ k. refl);
           kind = holds system log keeps.accounts;
         };
-        built = refl;
         limits = refl;
         new_page = refl;
         pages = refl;

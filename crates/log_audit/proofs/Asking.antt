@@ -91,7 +91,6 @@ fetch_follows f place by p i kept home found may system log valid legal keeps =
           applies = applies system log e legal (λ k. refl);
           kind = record { within = subst (λ (n : ℕ). i < n) keeps.pages m.within; moved = sym keeps.moved ∙ m.moved; unasked = sym keeps.asked ∙ m.unasked };
         };
-        built = refl;
         limits = refl;
         new_page = refl;
         pages = refl;

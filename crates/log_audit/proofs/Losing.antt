@@ -18,8 +18,7 @@ use Rattle.plain_kernel.specs.Kernel.{Kernel}
 use Rattle.cert_sched.specs.Schedule.{items_of, placement, plain_after}
 use Rattle.cert_sched.specs.Rules.{is_bus, is_by_right, is_over}
 use Rattle.cert_sched.specs.Kinds.{KindHolds}
-use Rattle.cert_sched.specs.Legal.{IsLegalBy, Stands}
-use Rattle.cert_sched.specs.Built.{MayStand}
+use Rattle.cert_sched.specs.Legal.{IsLegalBy, Stands, MayStand}
 use Rattle.cert_sched.proofs.LogLaws.{no_items}
 use Rattle.cert_sched.proofs.ThereLaws.{plain_there}
 use Rattle.cert_sched.proofs.FreshLaws.{numbered}
@@ -63,7 +62,6 @@ module _ (f : FrontState) (place : ℕ) (by : ToldBy) (may : stop_may f place by
         λ i. record { place = place; by = sym sender i; what = ToldStop },
         record {
           stands = record { placed = next_placed f place parts.0 system log Stop front; by_right = refl; applies = applies system log e legal (λ k. refl); kind = tt };
-          built = refl;
           limits = refl;
           new_page = refl;
           pages = refl;
@@ -84,7 +82,6 @@ loss_follows f place by k cause may system log valid legal front =
           applies = applies system log e legal (λ k. refl);
           kind = ap (λ (p : Places). lives_in p k) (sym front.places) ∙ both.1;
         };
-        built = refl;
         limits = refl;
         new_page = refl;
         pages = refl;

@@ -6,7 +6,7 @@ use Rattle.sys_text.specs.declared.system.System.{System}
 use Rattle.bus_msg.specs.declared.entry.Entry.{Entry}
 use Rattle.bus_msg.specs.declared.entry.By.TheVariants.{Cluster as ByServer}
 use Rattle.bus_msg.specs.declared.entry.What.TheVariants.{PageIs as PageCame}
-use Rattle.cert_sched.specs.Built.{MayStand}
+use Rattle.cert_sched.specs.Legal.{MayStand}
 use Rattle.page_server.specs.Account.{PagerState}
 use Rattle.page_accounts.specs.declared.answering.Answer.{Answer}
 use Rattle.page_accounts.specs.Keeps.{KeepsAccounts}

@@ -7,7 +7,7 @@ use Rattle.bus_msg.specs.declared.entry.By.TheVariants.{Cluster as ByHome}
 use Rattle.bus_msg.specs.declared.entry.What.TheVariants.{Fetch as Asks}
 use Rattle.bus_msg.specs.declared.entry.Entry.{Entry}
 use Rattle.bus_msg.specs.Places.{Places, lives_in}
-use Rattle.cert_sched.specs.Built.{MayStand}
+use Rattle.cert_sched.specs.Legal.{MayStand}
 use Rattle.cert_sched.specs.Moved.{any_since_moved, is_fetch, moved_with_state}
 use Rattle.cert_sched.specs.Rules.{home_at, is_by}
 use Rattle.cert_sched.specs.Steps.{page_count}

@@ -3,7 +3,7 @@ use Rattle.std.specs.Prelude.{ℕ, ◌&&◌, Bool, Option}
 use Rattle.t32_base.specs.declared.process.ClusterNo.{ClusterNo}
 use Rattle.bus_msg.specs.declared.entry.Entry.{Entry}
 use Rattle.bus_msg.specs.Places.{lives_in}
-use Rattle.cert_sched.specs.Built.{MayStand}
+use Rattle.cert_sched.specs.Legal.{MayStand}
 use Rattle.entry_lines.specs.declared.told.ToldBy.{ToldBy}
 use Rattle.entry_lines.specs.declared.told.ToldWhat.{ToldWhat}
 use Rattle.log_audit.specs.Decides.{Decides}

@@ -31,8 +31,7 @@ use Rattle.cert_sched.specs.Schedule.{done_after, placement, process_after}
 use Rattle.cert_sched.specs.Steps.{before_fork_at, process_of, reads_since, saved_of, silent_upto}
 use Rattle.cert_sched.specs.Rules.{awaits_pages, has_its_pages, holds_of, home_at, is_by, is_by_home, is_by_right, is_within_limits, keeps_limits}
 use Rattle.cert_sched.specs.Kinds.{BirthHolds, KindHolds, next_child_at}
-use Rattle.cert_sched.specs.Legal.{IsLegalBy, Stands}
-use Rattle.cert_sched.specs.Built.{KeepsLimits, MayStand}
+use Rattle.cert_sched.specs.Legal.{IsLegalBy, Stands, KeepsLimits, MayStand}
 use Rattle.cert_sched.proofs.BirthPlaces.{parent_unended}
 use Rattle.cert_sched.proofs.BornLaws.{birth_from}
 use Rattle.cert_sched.proofs.FreshLaws.{numbered}
@@ -164,7 +163,6 @@ module _ (front : FrontState) (limits : Limits) (head : Head) (kept : Sender) (s
       follows_log : MayStand system log e
       follows_log = record {
         stands = stands;
-        built = refl;
         limits =
             ap (λ (o : Option ProcState). option_map_or (keeps_limits system log head.pid) (option_map (λ (t : ProcState). fork_parent t child) o) false) there
             ∙ limits_behind system log front limits head.pid s kept head.at q child valid legal keeps before ∙ (and_parts (eqb (next_end q) told.end) (is_within limits kept (fork_parent q child)) may).1;

@@ -25,8 +25,7 @@ use Rattle.cert_sched.specs.Deeds.{arrived_count, letters_to, starts}
 use Rattle.cert_sched.specs.Steps.{numbers_read, process_of, saved_of, silent_upto}
 use Rattle.cert_sched.specs.Rules.{awaits_pages, has_its_pages, holds_of, is_by, is_by_home, is_by_right, is_over, is_within_limits, keeps_limits}
 use Rattle.cert_sched.specs.Kinds.{KindHolds, SyncHolds, after_take, is_due as due_now, took_is}
-use Rattle.cert_sched.specs.Legal.{IsLegalBy, Stands}
-use Rattle.cert_sched.specs.Built.{KeepsLimits, MayStand}
+use Rattle.cert_sched.specs.Legal.{IsLegalBy, Stands, KeepsLimits, MayStand}
 use Rattle.cert_sched.specs.Appended.{entry_of}
 use Rattle.cert_sched.specs.Simulation.{IsUnended}
 use Rattle.cert_sched.proofs.RollLaws.{Rolls}
@@ -187,7 +186,6 @@ module _ (front : FrontState) (limits : Limits) (head : Head) (kept : Sender) (s
           λ j. record { place = head.place; by = sym (m.home_is).told j; what = ToldSync p.0 (count j) took },
           record {
             stands = subst (Stands system log) same (sync_stands system log (Cluster home) p t (read_numbers start u) took sends syncs);
-            built = refl;
             limits = within;
             new_page = refl;
             pages = sym (keeps.sender).whole ∙ m.whole;

@@ -10,8 +10,7 @@ use Rattle.cert_sched.specs.Schedule.{process_after}
 use Rattle.cert_sched.specs.Account.{Account, account_after, all_pages}
 use Rattle.cert_sched.specs.Steps.{reads_since, saved_of, silent_upto, steps_since}
 use Rattle.cert_sched.specs.Rules.{is_over, keeps_limits}
-use Rattle.cert_sched.specs.Legal.{IsLegalBy, Stands}
-use Rattle.cert_sched.specs.Built.{MayStand}
+use Rattle.cert_sched.specs.Legal.{IsLegalBy, Stands, MayStand}
 use Rattle.cert_sched.specs.Simulation.{IsUnended}
 use Rattle.cert_sched.proofs.EndedLaws.{standing_runs}
 use Rattle.cert_sched.proofs.MailLaws.{silently_ends}

@@ -20,7 +20,7 @@ use Rattle.cert_sched.specs.Schedule.{done_after, placement}
 use Rattle.cert_sched.specs.Steps.{page_count, process_of, silent_upto}
 use Rattle.cert_sched.specs.Rules.{awaits_pages, has_its_pages, holds_of, is_by_home, is_by_right, is_new_page}
 use Rattle.cert_sched.specs.Kinds.{KindHolds, PageHolds}
-use Rattle.cert_sched.specs.Built.{MayStand}
+use Rattle.cert_sched.specs.Legal.{MayStand}
 use Rattle.entry_lines.specs.declared.told.ToldWhat.TheVariants.{Page as ToldPage}
 use Rattle.entry_lines.specs.declared.told.Told.{Told}
 use Rattle.entry_lines.specs.Told.{told_of, told_what}
@@ -87,7 +87,6 @@ module _ (front : FrontState) (head : Head) (i : ℕ) (kept : Sender) (s : ProcS
               page = ap (option_map (λ (s : ProcState). page_at s.memory i)) (silent_then system log head.pid s keeps.there head.at ∙ led);
             };
           };
-          built = refl;
           limits = refl;
           new_page = ap not (sym (keeps.pages i head.at)) ∙ parts.1;
           pages = sym keeps.whole ∙ m.whole;

@@ -8,7 +8,7 @@ use Rattle.bus_msg.specs.declared.entry.What.TheVariants.{Page}
 use Rattle.bus_msg.specs.declared.entry.Entry.{Entry}
 use Rattle.cert_sched.specs.Schedule.{process_after}
 use Rattle.cert_sched.specs.Rules.{has_its_pages}
-use Rattle.cert_sched.specs.Built.{MayStand}
+use Rattle.cert_sched.specs.Legal.{MayStand}
 use Rattle.entry_lines.specs.declared.told.ToldWhat.TheVariants.{Page as ToldPage}
 use Rattle.log_audit.specs.Decides.{Decides}
 use Rattle.log_audit.specs.Front.{FrontState, IsFrontOf}

@@ -9,7 +9,7 @@ use Rattle.bus_msg.specs.declared.entry.What.TheVariants.{Sync}
 use Rattle.bus_msg.specs.declared.entry.Entry.{Entry}
 use Rattle.cert_sched.specs.Kinds.{after_take, took_is}
 use Rattle.cert_sched.specs.Schedule.{process_after}
-use Rattle.cert_sched.specs.Built.{MayStand}
+use Rattle.cert_sched.specs.Legal.{MayStand}
 use Rattle.entry_lines.specs.declared.told.ToldWhat.TheVariants.{Sync as ToldSync}
 use Rattle.page_server.specs.Account.{PagerState}
 use Rattle.page_accounts.specs.Keeps.{KeepsAccounts}

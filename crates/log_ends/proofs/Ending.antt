@@ -32,9 +32,8 @@ use Rattle.cert_sched.specs.Steps.{silent_upto}
 use Rattle.cert_sched.specs.Rules.{is_bus, is_by_right}
 use Rattle.cert_sched.specs.Kinds.{DoneHolds, KindHolds, is_silent_rest}
 use Rattle.cert_sched.specs.Rests.{is_idle, is_idle_at}
-use Rattle.cert_sched.specs.Legal.{IsLegalBy}
-use Rattle.cert_sched.specs.Built.{MayStand}
-use Rattle.cert_sched.proofs.DoneLaws.{AllRest, done_may_follow}
+use Rattle.cert_sched.specs.Legal.{IsLegalBy, MayStand}
+use Rattle.cert_sched.proofs.DoneLaws.{AllRest, done_may_stand}
 use Rattle.cert_sched.proofs.FreshLaws.{numbered}
 use Rattle.cert_sched.proofs.PidLaws.{apart_fewer, placed_pids}
 use Rattle.cert_sched.proofs.RisingLaws.{rising-any}
@@ -228,7 +227,7 @@ module _ (front : FrontState) (place : ℕ) (by : ToldBy) (es : List (ℕ × Pro
       let placed = next_placed front place tests.0 system log (Done rests) keeps.before in (
         λ i. record { place = place; by = sym sender i; what = ToldDone },
         subst (MayStand system log) (λ i. record { place = sym placed.0 i; post = record { by = Bus; what = Done rests }; dests = sym placed.1 i })
-            (done_may_follow system log rests valid legal placed.2 (all_rest system log es valid legal sorted keeps.unended rests rest)),
+            (done_may_stand system log rests valid legal placed.2 (all_rest system log es valid legal sorted keeps.unended rests rest)),
       )
 
   pub done_refused : stop_may front place by ≡ false → AnswersDone front place by es None

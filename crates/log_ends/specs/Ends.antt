@@ -10,7 +10,7 @@ use Rattle.plain_kernel.specs.Maps.{at_key, pid_of}
 use Rattle.bus_msg.specs.declared.entry.Entry.{Entry}
 use Rattle.bus_msg.specs.Places.{unended_at}
 use Rattle.cert_sched.specs.Schedule.{placement, process_after}
-use Rattle.cert_sched.specs.Built.{MayStand}
+use Rattle.cert_sched.specs.Legal.{MayStand}
 use Rattle.entry_lines.specs.declared.told.ToldBy.{ToldBy}
 use Rattle.entry_lines.specs.declared.told.ToldWhat.TheVariants.{Done as ToldDone}
 use Rattle.log_audit.specs.Decides.{Decides}

@@ -22,8 +22,7 @@ use Rattle.cert_sched.specs.Schedule.{items_of, process_after, run_upto, steps_i
 use Rattle.cert_sched.specs.Deeds.{is_birth_of, is_cut, letter_for, letters_to, numbered, saved_letters, start_of, starts}
 use Rattle.cert_sched.specs.Steps.{after_items, saved_of, silent_upto, start_steps}
 use Rattle.cert_sched.specs.Kinds.{KindHolds, after_take}
-use Rattle.cert_sched.specs.Legal.{IsLegalBy, Stands}
-use Rattle.cert_sched.specs.Built.{MayStand}
+use Rattle.cert_sched.specs.Legal.{IsLegalBy, Stands, MayStand}
 use Rattle.cert_sched.specs.Simulation.{IsUnended}
 use Rattle.cert_sched.proofs.BirthLaws.{sync_taken}
 use Rattle.cert_sched.proofs.BornLaws.{birth_applied}

@@ -13,8 +13,7 @@ use Rattle.birth_notice.specs.Family.{first_unsynced}
 use Rattle.cert_sched.specs.Family.{has_unsynced_child}
 use Rattle.cert_sched.specs.Record.{backup_record}
 use Rattle.cert_sched.specs.Kinds.{KindHolds}
-use Rattle.cert_sched.specs.Legal.{IsLegalBy}
-use Rattle.cert_sched.specs.Built.{MayStand}
+use Rattle.cert_sched.specs.Legal.{IsLegalBy, MayStand}
 use Rattle.log_laws.specs.births.Unsynced.{changes_unsynced, unsynced_births}
 use Rattle.log_laws.proofs.births.FirstChild.{none_first}
 use Rattle.log_laws.proofs.births.NewBackups.{handed_on_stay, renewed_goes}

@@ -21,8 +21,7 @@ use Rattle.cert_sched.specs.Schedule.{placement}
 use Rattle.cert_sched.specs.Steps.{emission_at, process_of}
 use Rattle.cert_sched.specs.Rules.{awaits_pages, has_its_pages, holds_of, is_by_home, is_by_right}
 use Rattle.cert_sched.specs.Kinds.{ChildrenSynced, IsSent, KindHolds}
-use Rattle.cert_sched.specs.Legal.{IsLegalBy}
-use Rattle.cert_sched.specs.Built.{KeepsLimits, MayStand}
+use Rattle.cert_sched.specs.Legal.{IsLegalBy, KeepsLimits, MayStand}
 use Rattle.cert_sched.proofs.StepLaws.{is_sent, sent_applies}
 use Rattle.entry_lines.specs.declared.told.ToldEnd.{ToldEnd}
 use Rattle.entry_lines.specs.declared.told.ToldWhat.TheVariants.{Exit as ToldExit}
@@ -68,7 +67,6 @@ module _ (front : FrontState) (limits : Limits) (head : Head) (kept : Sender) (s
             applies = sent_applies system log e head.pid head.at (Ended end) t sent refl;
             kind = (ap (option_map (λ (r : Emission × ProcState). r.0)) sent, sym keeps.parent ∙ not_true kept.parent first.0);
           };
-          built = refl;
           limits = told_limits system log head.pid head.at (Ended end) t sent ∙ limits_then system log front limits head.pid s kept head.at (Ended end) t valid legal keeps sent ∙ most.1;
           new_page = refl;
           pages = sym keeps.whole ∙ m.whole;

@@ -23,8 +23,7 @@ use Rattle.cert_sched.specs.Schedule.{placement}
 use Rattle.cert_sched.specs.Steps.{emission_at, process_of}
 use Rattle.cert_sched.specs.Rules.{awaits_pages, has_its_pages, holds_of, is_by_home, is_by_right, is_within_limits, keeps_limits}
 use Rattle.cert_sched.specs.Kinds.{IsSent, KindHolds}
-use Rattle.cert_sched.specs.Legal.{IsLegalBy}
-use Rattle.cert_sched.specs.Built.{KeepsLimits, MayStand}
+use Rattle.cert_sched.specs.Legal.{IsLegalBy, KeepsLimits, MayStand}
 use Rattle.cert_sched.proofs.StepLaws.{is_sent, sent_applies, sent_is_own}
 use Rattle.entry_lines.specs.declared.told.ToldLetter.{ToldLetter}
 use Rattle.entry_lines.specs.declared.told.ToldWhat.TheVariants.{Mail as ToldMail}
@@ -69,7 +68,6 @@ module _ (front : FrontState) (limits : Limits) (head : Head) (kept : Sender) (s
             applies = sent_applies system log e head.pid head.at (Sent letter) t sent (own, refl);
             kind = ap (λ (q : Pid). option_map (λ (r : Emission × ProcState). r.0) (emission_at system log q head.at)) own ∙ ap (option_map (λ (r : Emission × ProcState). r.0)) sent;
           };
-          built = refl;
           limits = ap (is_within_limits system log w) own ∙ within;
           new_page = refl;
           pages = ap (has_its_pages system log) own ∙ sym keeps.whole ∙ m.whole;

@@ -19,8 +19,7 @@ use Rattle.bus_msg.specs.Places.{Places, lives_in}
 use Rattle.cert_sched.specs.Schedule.{done, done_after, plain_after, process_after}
 use Rattle.cert_sched.specs.Steps.{emission_at, numbers_read, reads_since, saved_of, silent_upto}
 use Rattle.cert_sched.specs.Rules.{home_at, is_by, is_by_home, keeps_limits}
-use Rattle.cert_sched.specs.Legal.{IsLegalBy}
-use Rattle.cert_sched.specs.Built.{MayStand}
+use Rattle.cert_sched.specs.Legal.{IsLegalBy, MayStand}
 use Rattle.cert_sched.proofs.MailLaws.{sender_goes_on, silently_ends}
 use Rattle.cert_sched.proofs.StepLaws.{done_kernel, sent_from}
 use Rattle.log_laws.proofs.letters.LogReads.{silent_reads}

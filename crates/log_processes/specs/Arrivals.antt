@@ -12,8 +12,7 @@ use Rattle.bus_msg.specs.PlacedAfter.{what}
 use Rattle.cert_sched.specs.Schedule.{process_after}
 use Rattle.cert_sched.specs.Deeds.{is_first}
 use Rattle.cert_sched.specs.Steps.{after_items, saved_of, start_steps}
-use Rattle.cert_sched.specs.Legal.{IsLegalBy}
-use Rattle.cert_sched.specs.Built.{MayStand}
+use Rattle.cert_sched.specs.Legal.{IsLegalBy, MayStand}
 use Rattle.cert_sched.specs.Simulation.{IsUnended}
 use Rattle.log_processes.specs.declared.sender.Sender.{Sender}
 use Rattle.log_processes.specs.Sending.{KeepsProcess}

@@ -11,8 +11,7 @@ use Rattle.bus_msg.specs.declared.entry.Entry.{Entry}
 use Rattle.bus_msg.specs.Places.{same_pid}
 use Rattle.birth_notice.specs.Family.{stands_in}
 use Rattle.cert_sched.specs.Family.{has_unsynced_child}
-use Rattle.cert_sched.specs.Legal.{IsLegalBy}
-use Rattle.cert_sched.specs.Built.{MayStand}
+use Rattle.cert_sched.specs.Legal.{IsLegalBy, MayStand}
 use Rattle.log_laws.specs.births.Unsynced.{unsynced_births}
 
 -- a child that an entry bears is none of these, nor its own parent

@@ -12,7 +12,7 @@ use Rattle.cert_sched.specs.Schedule.{process_after}
 use Rattle.cert_sched.specs.Steps.{after_items, saved_of, start_steps}
 use Rattle.cert_sched.specs.Rules.{has_its_pages}
 use Rattle.cert_sched.specs.Family.{has_unsynced_child}
-use Rattle.cert_sched.specs.Built.{MayStand}
+use Rattle.cert_sched.specs.Legal.{MayStand}
 use Rattle.entry_lines.specs.declared.told.ToldWhat.{ToldWhat}
 use Rattle.log_audit.specs.Decides.{Decides}
 use Rattle.log_audit.specs.Fetches.{home_told}

@@ -4,8 +4,7 @@ ghost use Rattle.sys_text.specs.declared.system.System.{System};
 ghost use Rattle.sys_text.specs.Valid.{is_system};
 ghost use Rattle.bus_msg.specs.declared.entry.Entry.{Entry as AnEntry};
 ghost use Rattle.bus_msg.specs.PlacedAfter.{what};
-ghost use Rattle.cert_sched.specs.Legal.{IsLegalBy};
-ghost use Rattle.cert_sched.specs.Built.{MayStand};
+ghost use Rattle.cert_sched.specs.Legal.{IsLegalBy, MayStand};
 ghost use Rattle.log_laws.specs.births.Unsynced.{unsynced_births};
 ghost use Rattle.log_processes.specs.Families.{CanBear, KeepsFamily, SaysParent, family_after, without_first};
 

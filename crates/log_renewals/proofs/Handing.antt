@@ -28,8 +28,7 @@ use Rattle.backup_records.specs.Records.{record_in}
 use Rattle.backup_records.proofs.BirthLaws.{found_own}
 use Rattle.cert_sched.specs.Deeds.{start_of}
 use Rattle.cert_sched.specs.Kinds.{KindHolds, StandingHolds, is_done_by}
-use Rattle.cert_sched.specs.Legal.{IsLegalBy}
-use Rattle.cert_sched.specs.Built.{MayStand}
+use Rattle.cert_sched.specs.Legal.{IsLegalBy, MayStand}
 use Rattle.cert_sched.specs.Moved.{any_since_moved, was_moved}
 use Rattle.cert_sched.specs.Parts.{rising}
 use Rattle.cert_sched.specs.Record.{backup_record, has_state, record_from}
@@ -220,7 +219,6 @@ module _ (front : FrontState) (head : StandingHead) (others : List ℕ) (moved :
           applies = applies system log e legal (λ k. refl);
           kind = subst (λ (q : Pid). StandingHolds system log q to (first ∷ rest)) (sym own) holds;
         };
-        built = refl;
         limits = refl;
         new_page = refl;
         pages = refl;

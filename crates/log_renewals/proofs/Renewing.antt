@@ -25,8 +25,7 @@ use Rattle.cert_sched.specs.Account.{account_after, all_pages}
 use Rattle.cert_sched.specs.Appended.{entry_of}
 use Rattle.cert_sched.specs.Deeds.{arrived_count, is_cut}
 use Rattle.cert_sched.specs.Kinds.{FreshHolds, KindHolds}
-use Rattle.cert_sched.specs.Legal.{IsLegalBy, Stands}
-use Rattle.cert_sched.specs.Built.{KeepsLimits, MayStand}
+use Rattle.cert_sched.specs.Legal.{IsLegalBy, Stands, KeepsLimits, MayStand}
 use Rattle.cert_sched.specs.Record.{backup_record, record_with}
 use Rattle.cert_sched.specs.Rules.{awaits_pages, has_its_pages, holds_of, is_by_home, is_by_right, is_over, is_within_limits, keeps_limits}
 use Rattle.cert_sched.specs.Schedule.{items_of, placement, process_after, run_upto, steps_in}
@@ -134,7 +133,6 @@ module _ (front : FrontState) (limits : Limits) (head : Head) (others : List ℕ
           λ j. record { place = head.place; by = sym (m.home_is).told j; what = ToldFresh (p.0 ∷ sym alone j) (here.count j) (cluster_is.1 j) },
           record {
             stands = subst (Stands system log) same (fresh_stands system log home to p t valid (built_stands system log legal) sends renews);
-            built = refl;
             limits = within;
             new_page = refl;
             pages = sym (keeps.sender).whole ∙ m.whole;

@@ -15,7 +15,7 @@ use Rattle.bus_msg.specs.PlacedAfter.{what}
 use Rattle.cert_sched.specs.Schedule.{placement}
 use Rattle.cert_sched.specs.Rules.{is_bus, is_by_right}
 use Rattle.cert_sched.specs.Kinds.{KindHolds}
-use Rattle.cert_sched.specs.Built.{MayStand}
+use Rattle.cert_sched.specs.Legal.{MayStand}
 use Rattle.cert_sched.proofs.FreshLaws.{numbered}
 use Rattle.entry_lines.specs.declared.told.ToldBy.{ToldBy}
 use Rattle.entry_lines.specs.declared.told.ToldBy.TheVariants.{Bus as ByBus}
@@ -80,7 +80,6 @@ return_follows f place by k may system log valid legal front =
           applies = applies system log e legal (λ k. refl);
           kind = ap (λ (p : Places). is_lost_in p k) (sym front.places) ∙ both.1;
         };
-        built = refl;
         limits = refl;
         new_page = refl;
         pages = refl;

@@ -7,7 +7,7 @@ use Rattle.proc_state.specs.State.{ProcState}
 use Rattle.bus_msg.specs.declared.entry.What.TheVariants.{Rebackup}
 use Rattle.bus_msg.specs.declared.entry.Entry.{Entry}
 use Rattle.backup_mode.specs.Posts.{renewed_record}
-use Rattle.cert_sched.specs.Built.{MayStand}
+use Rattle.cert_sched.specs.Legal.{MayStand}
 use Rattle.cert_sched.specs.Schedule.{process_after}
 use Rattle.entry_lines.specs.declared.told.ToldWhat.TheVariants.{Fresh as ToldFresh}
 use Rattle.page_server.specs.Account.{PagerState}

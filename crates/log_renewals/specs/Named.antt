@@ -1,6 +1,6 @@
 -- Lines that none may have.
 use Rattle.std.specs.Prelude.{ℕ, None, ⊤}
-use Rattle.cert_sched.specs.Built.{MayStand}
+use Rattle.cert_sched.specs.Legal.{MayStand}
 use Rattle.entry_lines.specs.declared.told.ToldBy.{ToldBy}
 use Rattle.entry_lines.specs.declared.told.ToldWhat.{ToldWhat}
 use Rattle.log_audit.specs.Decides.{Decides}

@@ -14,7 +14,7 @@ use Rattle.bus_msg.specs.Places.{Places, unended_at}
 use Rattle.bus_msg.specs.NewBackup.{next_backup_at}
 use Rattle.birth_notice.specs.Joined.{others_of}
 use Rattle.backup_records.specs.Records.{record_in}
-use Rattle.cert_sched.specs.Built.{MayStand}
+use Rattle.cert_sched.specs.Legal.{MayStand}
 use Rattle.cert_sched.specs.Rules.{is_full}
 use Rattle.cert_sched.specs.Steps.{first_record}
 use Rattle.entry_lines.specs.declared.told.ToldWhat.TheVariants.{Standing as ToldStanding}

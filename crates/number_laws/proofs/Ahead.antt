@@ -17,8 +17,7 @@ use Rattle.plain_kernel.specs.Kernel.{process_at}
 use Rattle.bus_msg.specs.declared.entry.Entry.{Entry}
 use Rattle.cert_sched.specs.Schedule.{done, done_after, process_after}
 use Rattle.cert_sched.specs.Steps.{before_fork_at, emission_at, page_count, silent_upto}
-use Rattle.cert_sched.specs.Legal.{IsLegalBy}
-use Rattle.cert_sched.specs.Built.{MayStand}
+use Rattle.cert_sched.specs.Legal.{IsLegalBy, MayStand}
 use Rattle.cert_sched.proofs.ReplayLaws.{fork_after}
 use Rattle.cert_sched.proofs.SpentLaws.{process_after-few}
 use Rattle.cert_sched.proofs.StepLaws.{sent_from, silent_from}

@@ -44,8 +44,7 @@ use Rattle.cert_sched.specs.Family.{births_of, is_unsynced, joins, unsynced_fami
 use Rattle.cert_sched.specs.Steps.{after_items, before_fork_at, first_record, silent_upto}
 use Rattle.cert_sched.specs.Rules.{home_at, is_by, is_by_home, is_by_right}
 use Rattle.cert_sched.specs.Kinds.{BirthHolds, KindHolds, after_take, took_is}
-use Rattle.cert_sched.specs.Legal.{IsLegalBy}
-use Rattle.cert_sched.specs.Built.{MayStand}
+use Rattle.cert_sched.specs.Legal.{IsLegalBy, MayStand}
 use Rattle.cert_sched.specs.Simulation.{IsUnended}
 use Rattle.cert_sched.proofs.FreshLaws.{born_rightly, numbered}
 use Rattle.cert_sched.proofs.StepLaws.{is_sent}

@@ -26,8 +26,7 @@ use Rattle.bus_msg.specs.PlacedAfter.{child_of, placed_after, what, with_birth}
 use Rattle.cert_sched.specs.Schedule.{placed_root, placement, plain_after, process_after}
 use Rattle.cert_sched.specs.Rules.{is_by_right}
 use Rattle.cert_sched.specs.Kinds.{KindHolds}
-use Rattle.cert_sched.specs.Legal.{IsLegalBy, Stands}
-use Rattle.cert_sched.specs.Built.{MayStand}
+use Rattle.cert_sched.specs.Legal.{IsLegalBy, Stands, MayStand}
 use Rattle.cert_sched.specs.Simulation.{IsUnended}
 use Rattle.cert_sched.proofs.AmongLaws.{all_alike}
 use Rattle.cert_sched.proofs.BootPids.{state_pids}

@@ -20,9 +20,8 @@ use Rattle.bus_msg.specs.declared.placed.Placed.{Placed}
 use Rattle.bus_msg.specs.Places.{ClusterPlace, Places, boot_cluster, next_serial_in, placed_at}
 use Rattle.bus_msg.specs.PlacedAfter.{placed_after, raised_serial, what, with_birth}
 use Rattle.cert_sched.proofs.BirthKind.{is_birth}
-use Rattle.cert_sched.specs.Built.{MayStand}
 use Rattle.cert_sched.specs.Family.{born, births_of}
-use Rattle.cert_sched.specs.Legal.{IsLegalBy}
+use Rattle.cert_sched.specs.Legal.{IsLegalBy, MayStand}
 use Rattle.cert_sched.specs.Schedule.{placed_root, placement, places_at_boot}
 use Rattle.cert_sched.proofs.BirthsFew.{few_births}
 use Rattle.cert_sched.proofs.FreshLaws.{Was, was_changed, same_serials}

@@ -5,7 +5,7 @@ ghost use Rattle.sys_text.specs.declared.system.System.{System};
 ghost use Rattle.sys_text.specs.Valid.{is_system};
 ghost use Rattle.proc_state.specs.State.{ProcState};
 ghost use Rattle.bus_msg.specs.declared.entry.Entry.{Entry};
-ghost use Rattle.cert_sched.specs.Built.{MayStand};
+ghost use Rattle.cert_sched.specs.Legal.{MayStand};
 ghost use Rattle.cert_sched.specs.Legal.{IsLegalBy};
 ghost use Rattle.cert_sched.specs.Schedule.{process_after};
 ghost use Rattle.state_numbers.specs.Fits.{StateFits};

@@ -14,8 +14,7 @@ use Rattle.plain_kernel.specs.Apply.{plain_run}
 use Rattle.plain_kernel.specs.declared.item.Item.{Item}
 use Rattle.bus_msg.specs.declared.entry.Entry.{Entry}
 use Rattle.cert_sched.specs.Schedule.{plain_after, schedule_of}
-use Rattle.cert_sched.specs.Legal.{IsLegalBy}
-use Rattle.cert_sched.specs.Built.{MayStand}
+use Rattle.cert_sched.specs.Legal.{IsLegalBy, MayStand}
 use Rattle.cert_sched.proofs.Applied.{legal_runs}
 use Rattle.cert_sched.proofs.LogLaws.{plain_run-schedule_of}
 use Rattle.report_text.specs.Load.{has_exited_0, is_exit_0, load_line, load_report, outcome_load}

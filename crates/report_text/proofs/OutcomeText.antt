@@ -22,8 +22,7 @@ use Rattle.plain_kernel.proofs.Pids.{IsRising, left_true, right_true}
 use Rattle.bus_msg.specs.declared.entry.Entry.{Entry}
 use Rattle.cert_sched.specs.Schedule.{plain_after, schedule_of}
 use Rattle.cert_sched.specs.Scripted.{is_finished}
-use Rattle.cert_sched.specs.Legal.{IsLegalBy}
-use Rattle.cert_sched.specs.Built.{MayStand}
+use Rattle.cert_sched.specs.Legal.{IsLegalBy, MayStand}
 use Rattle.cert_sched.proofs.Applied.{finished_kernel_still, legal_runs}
 use Rattle.cert_sched.proofs.LogLaws.{plain_run-schedule_of}
 use Rattle.cert_sched.proofs.StepLaws.{plain_after-rising}

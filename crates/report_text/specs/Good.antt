@@ -9,10 +9,9 @@ use Rattle.cert_sched.specs.declared.script.ScriptWord.{ScriptWord}
 use Rattle.cert_sched.specs.Parts.{last_of}
 use Rattle.cert_sched.specs.Schedule.{schedule_of}
 use Rattle.cert_sched.specs.Told.{Told, told, cluster_lost}
-use Rattle.cert_sched.specs.Legal.{IsLegalBy, MayFollow}
+use Rattle.cert_sched.specs.Legal.{IsLegalBy, MayFollow, MayStand}
 use Rattle.cert_sched.specs.Counted.{counted}
 use Rattle.cert_sched.specs.Scripted.{IsScriptedBy, has_counted, is_finished}
-use Rattle.cert_sched.specs.Built.{MayStand}
 use Rattle.report_text.specs.declared.run.Run.{Run}
 use Rattle.report_text.specs.declared.run.Ended.{Ended}
 use Rattle.report_text.specs.declared.run.Ended.TheVariants.{Finished, Lost}

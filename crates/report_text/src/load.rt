@@ -3,7 +3,7 @@ ghost use Rattle.std.specs.Prelude.{◌≡◌, IfOk, Some, true};
 ghost use Rattle.sys_text.specs.Valid.{is_system};
 ghost use Rattle.plain_kernel.specs.Apply.{plain_run};
 ghost use Rattle.plain_kernel.specs.Kernel.{Kernel};
-ghost use Rattle.cert_sched.specs.Built.{MayStand};
+ghost use Rattle.cert_sched.specs.Legal.{MayStand};
 ghost use Rattle.cert_sched.specs.Legal.{IsLegalBy};
 ghost use Rattle.cert_sched.specs.Schedule.{schedule_of};
 ghost use Rattle.report_text.specs.Load.{load_report as load_report_of};

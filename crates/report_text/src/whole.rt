@@ -6,7 +6,7 @@ ghost use Rattle.bus_msg.specs.Text.{line_of};
 ghost use Rattle.sys_text.specs.Valid.{is_system};
 ghost use Rattle.plain_kernel.specs.Apply.{plain_run};
 ghost use Rattle.plain_kernel.specs.Kernel.{Kernel};
-ghost use Rattle.cert_sched.specs.Built.{MayStand};
+ghost use Rattle.cert_sched.specs.Legal.{MayStand};
 ghost use Rattle.cert_sched.specs.Legal.{IsLegalBy};
 ghost use Rattle.cert_sched.specs.Schedule.{schedule_of};
 ghost use Rattle.cert_sched.specs.Scripted.{is_finished};

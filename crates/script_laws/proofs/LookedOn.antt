@@ -16,10 +16,9 @@ use Rattle.cert_sched.specs.declared.script.ScriptWord.{ScriptWord}
 use Rattle.cert_sched.specs.declared.script.ScriptWord.TheVariants.{CrashAt, CrashStep, DiskAt, ReturnAt}
 use Rattle.cert_sched.specs.Schedule.{placement}
 use Rattle.cert_sched.specs.Rules.{is_bus, is_over}
-use Rattle.cert_sched.specs.Legal.{IsLegalBy}
-use Rattle.cert_sched.specs.Built.{MayStand, is_built_word}
+use Rattle.cert_sched.specs.Legal.{IsLegalBy, MayStand}
 use Rattle.cert_sched.specs.Looked.{first_reached, given_by, is_given, is_reached, without_reached}
-use Rattle.cert_sched.specs.Losses.{is_crash_of}
+use Rattle.cert_sched.specs.Losses.{is_crash_of, is_loss_word}
 use Rattle.cert_sched.specs.Simulation.{crash_entry}
 use Rattle.cert_sched.proofs.ListLaws.{list_all-weaker}
 use Rattle.cert_sched.proofs.LogLaws.{IsLegal-snoc}
@@ -226,22 +225,22 @@ pub adds_after : (b : BusView) → AddsTurns b (after_words b)
 adds_after b = adds_turns (length b.left) b
 
 -- by words that are built they are losses
-no_return : (e : Entry) (j : ClusterNo) (ws : List ScriptWord) → list_all is_built_word ws ≡ true → what e ≡ Return j → list_any (is_its_word e) ws ≡ true → ⊥
+no_return : (e : Entry) (j : ClusterNo) (ws : List ScriptWord) → list_all is_loss_word ws ≡ true → what e ≡ Return j → list_any (is_its_word e) ws ≡ true → ⊥
 no_return e j [] built is some = absurd (true≢false (sym some))
-no_return e j (w ∷ ws) built is some = by_word w (and_parts (is_built_word w) (list_all is_built_word ws) built).0 (or_parts_of (is_its_word e w) some) (no_return e j ws (and_parts (is_built_word w) (list_all is_built_word ws) built).1 is)
+no_return e j (w ∷ ws) built is some = by_word w (and_parts (is_loss_word w) (list_all is_loss_word ws) built).0 (or_parts_of (is_its_word e w) some) (no_return e j ws (and_parts (is_loss_word w) (list_all is_loss_word ws) built).1 is)
   where
     or_parts_of : (a : Bool) → (a || list_any (is_its_word e) ws) ≡ true → (a ≡ true) ⊎ (list_any (is_its_word e) ws ≡ true)
     or_parts_of true h = inl refl
     or_parts_of false h = inr h
 
-    by_word : (w : ScriptWord) → is_built_word w ≡ true → (is_its_word e w ≡ true) ⊎ (list_any (is_its_word e) ws ≡ true) → (list_any (is_its_word e) ws ≡ true → ⊥) → ⊥
+    by_word : (w : ScriptWord) → is_loss_word w ≡ true → (is_its_word e w ≡ true) ⊎ (list_any (is_its_word e) ws ≡ true) → (list_any (is_its_word e) ws ≡ true → ⊥) → ⊥
     by_word w built (inr later) none = none later
     by_word (CrashAt k place) built (inl here) none = true≢false (sym (and_parts (is_crash_of k (what e)) (nat_le place e.place) here).0 ∙ ap (is_crash_of k) is)
     by_word (CrashStep k step) built (inl here) none = true≢false (sym here)
     by_word (DiskAt k call) built (inl here) none = true≢false (sym here)
     by_word (ReturnAt k place) built (inl here) none = true≢false (sym built)
 
-pub adds_losses : (old new : BusView) → list_all is_built_word old.left ≡ true → (adds : AddsTurns old new) → list_all is_bus_loss adds.more ≡ true
+pub adds_losses : (old new : BusView) → list_all is_loss_word old.left ≡ true → (adds : AddsTurns old new) → list_all is_bus_loss adds.more ≡ true
 adds_losses old new built adds = all_losses adds.more adds.turns adds.by_words
   where
     by_what : (e : Entry) (w : What) → what e ≡ w → is_given w ≡ true → list_any (is_its_word e) old.left ≡ true → is_loss w ≡ true

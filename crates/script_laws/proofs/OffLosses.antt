@@ -11,8 +11,7 @@ use Rattle.bus_msg.specs.Places.{lives_in}
 use Rattle.bus_msg.specs.PlacedAfter.{what}
 use Rattle.cert_sched.specs.Schedule.{placement}
 use Rattle.cert_sched.specs.Losses.{is_by_cluster, is_crash_of, was_lost_in}
-use Rattle.cert_sched.specs.Legal.{IsLegalBy, IsLegalFrom, Stands}
-use Rattle.cert_sched.specs.Built.{MayStand}
+use Rattle.cert_sched.specs.Legal.{IsLegalBy, IsLegalFrom, Stands, MayStand}
 use Rattle.bus_order.specs.Script.{off_at, turns}
 use Rattle.script_laws.specs.Off.{IsItsLoss, comes_back, has_returned_in}
 use Rattle.script_laws.proofs.OffSince.{lives_unless_off, off_since, off_where_lost, silent_until_back, turns_parts}

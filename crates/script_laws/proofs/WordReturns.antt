@@ -15,7 +15,7 @@ use Rattle.bus_msg.specs.PlacedAfter.{what}
 use Rattle.cert_sched.specs.declared.script.ScriptWord.{ScriptWord}
 use Rattle.cert_sched.specs.declared.script.ScriptWord.TheVariants.{CrashAt, CrashStep, DiskAt, ReturnAt}
 use Rattle.cert_sched.specs.Schedule.{placement}
-use Rattle.cert_sched.specs.Built.{is_built_word}
+use Rattle.cert_sched.specs.Losses.{is_loss_word}
 use Rattle.cert_sched.specs.Looked.{Looked, at_start, gives_nothing, gives, goes_on, none_reached, given_by, is_bus_word, is_reached, waits_for_no_word, waits_for_words}
 use Rattle.bus_order.specs.View.{BusView, KeepsScript}
 use Rattle.script_laws.specs.Off.{brings_back, comes_back, has_returned_in}
@@ -75,14 +75,14 @@ pub returns_worded : (b : BusView) (k : ClusterNo) → KeepsScript b → has_ret
 returns_worded b k keeps returned = looked_back b.system b.script k b.log (filter is_bus_word b.left) keeps.looked returned
 
 -- by words for losses alone no cluster returns
-pub none_returned : (b : BusView) (k : ClusterNo) → KeepsScript b → list_all is_built_word b.script ≡ true → has_returned_in b.log k ≡ false
+pub none_returned : (b : BusView) (k : ClusterNo) → KeepsScript b → list_all is_loss_word b.script ≡ true → has_returned_in b.log k ≡ false
 none_returned b k keeps losses = by_test (has_returned_in b.log k) refl
   where
-    none_back : (ws : List ScriptWord) → list_all is_built_word ws ≡ true → list_any (brings_back k) ws ≡ false
+    none_back : (ws : List ScriptWord) → list_all is_loss_word ws ≡ true → list_any (brings_back k) ws ≡ false
     none_back [] all = refl
-    none_back (w ∷ ws) all = by_word w (and_parts (is_built_word w) (list_all is_built_word ws) all).0 ∙ none_back ws (and_parts (is_built_word w) (list_all is_built_word ws) all).1
+    none_back (w ∷ ws) all = by_word w (and_parts (is_loss_word w) (list_all is_loss_word ws) all).0 ∙ none_back ws (and_parts (is_loss_word w) (list_all is_loss_word ws) all).1
       where
-        by_word : (w : ScriptWord) → is_built_word w ≡ true → (brings_back k w || list_any (brings_back k) ws) ≡ list_any (brings_back k) ws
+        by_word : (w : ScriptWord) → is_loss_word w ≡ true → (brings_back k w || list_any (brings_back k) ws) ≡ list_any (brings_back k) ws
         by_word (CrashAt j place) built = refl
         by_word (CrashStep j step) built = refl
         by_word (DiskAt j call) built = refl

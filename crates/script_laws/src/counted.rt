@@ -2,7 +2,7 @@
 ghost use Rattle.std.specs.Prelude.{◌≡◌, ◌+◌, ◌≤◌, true, false, length};
 ghost use Rattle.std.specs.List.{list_all, list_any};
 ghost use Rattle.t32_base.specs.declared.process.ClusterNo.{ClusterNo};
-ghost use Rattle.cert_sched.specs.Built.{is_built_word};
+ghost use Rattle.cert_sched.specs.Losses.{is_loss_word};
 ghost use Rattle.bus_order.specs.View.{BusView, KeepsScript};
 ghost use Rattle.backup_laws.specs.LostBy.{AllLostBy};
 ghost use Rattle.script_laws.specs.Crashes.{crashes};
@@ -24,5 +24,5 @@ pub fn losses_are_of_words()
 pub fn returns_are_of_words()
     ensures words { (b : BusView) (k : ClusterNo) → KeepsScript b → has_returned_in b.log k ≡ true → list_any (brings_back k) b.script ≡ true }
     // So by words for losses alone no cluster returns.
-    ensures none { (b : BusView) (k : ClusterNo) → KeepsScript b → list_all is_built_word b.script ≡ true → has_returned_in b.log k ≡ false }
+    ensures none { (b : BusView) (k : ClusterNo) → KeepsScript b → list_all is_loss_word b.script ≡ true → has_returned_in b.log k ≡ false }
 {}

@@ -2,8 +2,8 @@
 ghost use Rattle.std.specs.Prelude.{ℕ, ◌≡◌, Bool, true, false, length};
 ghost use Rattle.std.specs.List.{list_any, list_all};
 ghost use Rattle.cert_sched.specs.declared.script.ScriptWord.{ScriptWord};
-ghost use Rattle.cert_sched.specs.Legal.{IsLegalBy};
-ghost use Rattle.cert_sched.specs.Built.{MayStand, is_built_word};
+ghost use Rattle.cert_sched.specs.Legal.{IsLegalBy, MayStand};
+ghost use Rattle.cert_sched.specs.Losses.{is_loss_word};
 ghost use Rattle.cert_sched.specs.Looked.{is_reached};
 ghost use Rattle.bus_order.specs.View.{BusView, KeepsScript, after_words, looks};
 ghost use Rattle.script_laws.specs.Added.{AddsTurns, is_bus_loss};
@@ -15,7 +15,7 @@ pub fn looks_add_turns()
     // and all that are due.
     ensures after { (b : BusView) → AddsTurns b (after_words b) }
     // Where no word that is left brings a cluster back they are losses.
-    ensures losses { (old new : BusView) → list_all is_built_word old.left ≡ true → (adds : AddsTurns old new) → list_all is_bus_loss adds.more ≡ true }
+    ensures losses { (old new : BusView) → list_all is_loss_word old.left ≡ true → (adds : AddsTurns old new) → list_all is_bus_loss adds.more ≡ true }
     // Where the log has reached no word that is left they change nothing.
     ensures none_reached { (n : ℕ) (b : BusView) → list_any (is_reached (length b.log)) b.left ≡ false → looks n b ≡ b }
 {}

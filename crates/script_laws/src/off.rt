@@ -7,8 +7,7 @@ ghost use Rattle.bus_msg.specs.declared.entry.Entry.{Entry};
 ghost use Rattle.bus_msg.specs.Places.{lives_in};
 ghost use Rattle.cert_sched.specs.Schedule.{placement};
 ghost use Rattle.cert_sched.specs.Losses.{is_by_cluster, was_lost_in};
-ghost use Rattle.cert_sched.specs.Legal.{IsLegalBy, Stands};
-ghost use Rattle.cert_sched.specs.Built.{MayStand};
+ghost use Rattle.cert_sched.specs.Legal.{IsLegalBy, MayStand, Stands};
 ghost use Rattle.bus_order.specs.Script.{off_at};
 ghost use Rattle.script_laws.specs.Off.{IsItsLoss, IsOffSince, has_returned_in};
 

@@ -1,6 +1,6 @@
 //! What `load` makes of its size: the text of its workload, or the run of it.
 ghost use Rattle.std.specs.Prelude.{◌≡◌, IfOk, [], None, false, true};
-ghost use Rattle.cert_sched.specs.Built.{MayStand};
+ghost use Rattle.cert_sched.specs.Legal.{MayStand};
 ghost use Rattle.cert_sched.specs.Legal.{IsLegalBy};
 ghost use Rattle.cert_sched.specs.Schedule.{schedule_of};
 ghost use Rattle.sys_text.specs.declared.system.System.{System as ASystem};

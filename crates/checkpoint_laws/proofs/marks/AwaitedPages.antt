@@ -19,8 +19,7 @@ use Rattle.cert_sched.specs.Moved.{any_since_moved}
 use Rattle.cert_sched.specs.Rules.{awaits_pages, has_its_pages, holds_of}
 use Rattle.cert_sched.specs.Steps.{process_of}
 use Rattle.cert_sched.specs.Kinds.{KindHolds}
-use Rattle.cert_sched.specs.Legal.{IsLegalBy, Stands}
-use Rattle.cert_sched.specs.Built.{KeepsWaits}
+use Rattle.cert_sched.specs.Legal.{IsLegalBy, Stands, KeepsWaits}
 use Rattle.cert_sched.proofs.BornLaws.{there_not_born}
 use Rattle.cert_sched.proofs.CameLaws.{same_of}
 use Rattle.cert_sched.proofs.Induction.{legal_induction}

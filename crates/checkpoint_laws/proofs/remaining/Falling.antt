@@ -17,10 +17,9 @@ use Rattle.bus_msg.specs.PlacedAfter.{what, placed_after}
 use Rattle.cert_sched.specs.Schedule.{placement}
 use Rattle.cert_sched.specs.Told.{cluster_lost}
 use Rattle.cert_sched.specs.Deeds.{is_cut, is_birth_of}
-use Rattle.cert_sched.specs.Rules.{is_new_page}
+use Rattle.cert_sched.specs.Rules.{is_new_page, tells_or_closes}
 use Rattle.cert_sched.specs.Kinds.{KindHolds}
 use Rattle.cert_sched.specs.Legal.{IsLegalBy, Stands}
-use Rattle.cert_sched.specs.Built.{tells_or_closes}
 use Rattle.cert_sched.proofs.BirthKind.{is_birth}
 use Rattle.cert_sched.proofs.LogLaws.{placement-snoc}
 use Rattle.cert_sched.proofs.StepLaws.{is_sent}

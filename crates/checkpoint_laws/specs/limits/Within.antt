@@ -5,7 +5,7 @@ use Rattle.proc_state.specs.declared.process.Process.{Process}
 use Rattle.bus_msg.specs.declared.entry.Post.{Post}
 use Rattle.bus_msg.specs.declared.entry.Entry.{Entry}
 use Rattle.cert_sched.specs.Appended.{entry_of}
-pub use Rattle.cert_sched.specs.Built.{KeepsLimits}
+pub use Rattle.cert_sched.specs.Legal.{KeepsLimits}
 
 -- since its last synchronisation it made no more steps, and read no more letters
 abbrev pub is_within_by : Process → ℕ → ℕ → Bool

@@ -7,7 +7,7 @@ ghost use Rattle.sys_text.specs.Valid.{is_system};
 ghost use Rattle.bus_msg.specs.declared.entry.What.TheVariants.{Return, Rebackup};
 ghost use Rattle.bus_msg.specs.declared.entry.Entry.{Entry};
 ghost use Rattle.bus_msg.specs.PlacedAfter.{what};
-ghost use Rattle.cert_sched.specs.Built.{tells_or_closes};
+ghost use Rattle.cert_sched.specs.Rules.{tells_or_closes};
 ghost use Rattle.cert_sched.specs.Rules.{is_new_page};
 ghost use Rattle.cert_sched.specs.Legal.{IsLegalBy, Stands};
 ghost use Rattle.checkpoint_laws.specs.remaining.Left.{is_from_cluster, left_of_syncs, left_to_send, most_syncs};

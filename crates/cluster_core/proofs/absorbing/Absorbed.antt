@@ -14,9 +14,9 @@ use Rattle.log_laws.specs.records.Kept.{changes_in_place}
 use Rattle.log_laws.proofs.records.KeptLaws.{records_kept}
 use Rattle.log_laws.proofs.records.Standing.{built_stands}
 use Rattle.crash_notice.specs.Splitting.{moves_here}
-use Rattle.cert_sched.specs.Built.{MayStand, tells_or_closes}
+use Rattle.cert_sched.specs.Legal.{MayStand}
 use Rattle.cert_sched.specs.Losses.{is_by_cluster, is_crash_of}
-use Rattle.cert_sched.specs.Rules.{home_at}
+use Rattle.cert_sched.specs.Rules.{home_at, tells_or_closes}
 use Rattle.bus_msg.specs.declared.placed.Placed.{Placed}
 use Rattle.cert_sched.specs.Schedule.{placement}
 use Rattle.cert_sched.proofs.LogLaws.{IsLegal-last}

@@ -12,7 +12,8 @@ use Rattle.bus_msg.specs.declared.entry.Cause.{Cause}
 use Rattle.sys_text.specs.declared.system.System.{System}
 use Rattle.bus_msg.specs.declared.entry.Entry.{Entry}
 use Rattle.bus_msg.specs.PlacedAfter.{what}
-use Rattle.cert_sched.specs.Built.{is_built, tells_or_closes, TellingMayFollow}
+use Rattle.cert_sched.specs.Rules.{tells_or_closes}
+use Rattle.cluster_core.specs.Sent.{TellingMayFollow}
 use Rattle.cluster_core.specs.Sent.{is_sent, SentMayFollow}
 use Rattle.cert_sched.proofs.UnlostLaws.{telling_sends_no_page}
 use Rattle.cluster_core.specs.Queue.{is_lone}

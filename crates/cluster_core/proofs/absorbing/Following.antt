@@ -32,10 +32,10 @@ use Rattle.cert_sched.specs.Deeds.{deeds_in, is_end_of, is_birth_of, is_cut, sta
 use Rattle.cert_sched.specs.Simulation.{IsUnended}
 use Rattle.replay_laws.specs.rolling.Behind.{RollsBehind}
 use Rattle.cert_sched.specs.Steps.{process_of, silent_upto, emission_at, after_items}
-use Rattle.cert_sched.specs.Rules.{is_over, is_by, is_living, home_at, is_by_home, is_by_right, has_its_pages, keeps_limits}
+use Rattle.cert_sched.specs.Rules.{is_over, is_by, is_living, home_at, is_by_home, is_by_right, has_its_pages, keeps_limits, tells_or_closes}
 use Rattle.cert_sched.specs.Kinds.{ChildrenSynced, IsSent, KindHolds}
-use Rattle.cert_sched.specs.Legal.{IsLegalBy, Stands}
-use Rattle.cert_sched.specs.Built.{tells_or_closes, MayStand, TellingMayFollow, KeepsWaits}
+use Rattle.cert_sched.specs.Legal.{IsLegalBy, Stands, MayStand, KeepsWaits}
+use Rattle.cluster_core.specs.Sent.{TellingMayFollow}
 use Rattle.cluster_core.specs.Sent.{SentMayFollow, is_sent}
 use Rattle.cert_sched.specs.Losses.{is_from, is_by_cluster, is_crash_of, was_lost_in, least_steps, capped}
 use Rattle.cert_sched.specs.Appended.{entry_of}

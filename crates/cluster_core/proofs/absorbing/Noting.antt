@@ -25,7 +25,8 @@ use Rattle.bus_msg.specs.declared.placed.Placed.{Placed}
 use Rattle.bus_msg.specs.Places.{Places, ClusterPlace, lives_in, same_pid, same_cluster, is_cluster, unended_at, all_clusters, cluster_no, servers_in}
 use Rattle.bus_msg.specs.PlacedAfter.{what}
 use Rattle.bus_msg.specs.Route.{backup_of, home_of, bits_of, letter_dests, route, to_list, to_all}
-use Rattle.cert_sched.specs.Built.{MayStand, tells_or_closes}
+use Rattle.cert_sched.specs.Legal.{MayStand}
+use Rattle.cert_sched.specs.Rules.{tells_or_closes}
 use Rattle.cert_sched.specs.Kinds.{KindHolds}
 use Rattle.cert_sched.specs.Schedule.{placement}
 use Rattle.cert_sched.specs.Record.{backup_record}

@@ -9,9 +9,8 @@ use Rattle.bus_msg.specs.declared.entry.By.{By}
 use Rattle.bus_msg.specs.declared.entry.By.TheVariants.{Cluster, Bus}
 use Rattle.bus_msg.specs.declared.entry.Post.{Post}
 use Rattle.bus_msg.specs.Places.{Places, same_pid}
-use Rattle.cert_sched.specs.Built.{tells_or_closes}
 use Rattle.cert_sched.specs.Losses.{is_from}
-use Rattle.cert_sched.specs.Rules.{is_bus, is_by_right}
+use Rattle.cert_sched.specs.Rules.{is_bus, is_by_right, tells_or_closes}
 use Rattle.cert_sched.specs.Scripted.{closes}
 use Rattle.cert_sched.specs.Steps.{process_of}
 use Rattle.cluster_core.specs.Queue.{is_move_of, move_of, tells_steps}

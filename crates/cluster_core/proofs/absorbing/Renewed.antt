@@ -18,11 +18,10 @@ use Rattle.bus_msg.specs.declared.placed.Placed.{Placed}
 use Rattle.bus_msg.specs.Places.{ClusterPlace, Places, unended_at}
 use Rattle.bus_msg.specs.PlacedAfter.{after_rebackup, placed_after, what}
 use Rattle.cert_sched.specs.Account.{is_exit_of}
-use Rattle.cert_sched.specs.Built.{MayStand}
 use Rattle.cert_sched.specs.CertAfter.{count_in}
 use Rattle.cert_sched.specs.Deeds.{deeds_in, is_cut, letter_for, is_birth_of}
 use Rattle.cert_sched.specs.Kinds.{KindHolds, RebackupHolds}
-use Rattle.cert_sched.specs.Legal.{Stands}
+use Rattle.cert_sched.specs.Legal.{Stands, MayStand}
 use Rattle.cert_sched.specs.Losses.{capped, is_by_cluster, is_page_is_entry, least_steps, was_lost_in}
 use Rattle.cert_sched.specs.Moved.{is_fetch, is_page_is}
 use Rattle.cert_sched.specs.Rules.{home_at, is_by, is_by_home, is_by_right, is_living}

@@ -13,7 +13,7 @@ use Rattle.bus_msg.specs.declared.entry.Entry.{Entry}
 use Rattle.bus_msg.specs.Places.{ClusterPlace, Places, lives_in}
 use Rattle.bus_msg.specs.PlacedAfter.{placed_after, returned_cluster, what}
 use Rattle.cert_sched.specs.Account.{is_exit_of}
-use Rattle.cert_sched.specs.Built.{MayStand}
+use Rattle.cert_sched.specs.Legal.{MayStand}
 use Rattle.cert_sched.specs.Deeds.{deeds_in, is_cut, letter_for, is_birth_of}
 use Rattle.cert_sched.specs.Losses.{is_by_cluster}
 use Rattle.cert_sched.specs.Moved.{is_fetch, is_page_is}

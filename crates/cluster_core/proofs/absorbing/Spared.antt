@@ -23,15 +23,15 @@ use Rattle.bus_msg.specs.Places.{Places, unended_at, same_cluster}
 use Rattle.bus_msg.specs.PlacedAfter.{placed_after, what}
 use Rattle.channel_table.specs.Changes.{pids_differ}
 use Rattle.cert_sched.specs.Appended.{entry_of}
-use Rattle.cert_sched.specs.Built.{tells_or_closes, MayStand, TellingMayFollow}
+use Rattle.cluster_core.specs.Sent.{TellingMayFollow}
 use Rattle.cluster_core.specs.Sent.{SentMayFollow}
 use Rattle.cert_sched.specs.Deeds.{deeds_in, is_cut, letter_for, is_birth_of}
-use Rattle.cert_sched.specs.Legal.{Stands}
+use Rattle.cert_sched.specs.Legal.{Stands, MayStand}
 use Rattle.cert_sched.specs.Losses.{capped, is_by_cluster, is_from, is_crash_of, least_steps, was_lost_in}
 use Rattle.cert_sched.specs.Moved.{is_fetch, is_page_is}
 use Rattle.cert_sched.specs.Parts.{rising}
 use Rattle.cert_sched.specs.Rests.{home_pids}
-use Rattle.cert_sched.specs.Rules.{home_at, is_by, is_by_home, is_living, keeps_limits}
+use Rattle.cert_sched.specs.Rules.{home_at, is_by, is_by_home, is_living, keeps_limits, tells_or_closes}
 use Rattle.cert_sched.specs.Schedule.{done_after, placement, process_after}
 use Rattle.cert_sched.specs.Steps.{after_items, emission_at, process_of, silent_upto}
 use Rattle.cert_sched.proofs.LogLaws.{IsLegal-last, placement-snoc}

@@ -21,9 +21,9 @@ use Rattle.cert_sched.specs.Schedule.{done, plain_after, process_after, done_aft
 use Rattle.cert_sched.specs.Deeds.{is_end_of}
 use Rattle.cert_sched.specs.Steps.{process_of, silent_upto, emission_at, after_items}
 use Rattle.cert_sched.specs.Kinds.{KindHolds}
-use Rattle.cert_sched.specs.Rules.{is_by_home, is_by_right, is_over, ends_run}
-use Rattle.cert_sched.specs.Legal.{IsLegalBy}
-use Rattle.cert_sched.specs.Built.{MayStand, TellingMayFollow, tells_or_closes}
+use Rattle.cert_sched.specs.Rules.{is_by_home, is_by_right, is_over, ends_run, tells_or_closes}
+use Rattle.cert_sched.specs.Legal.{IsLegalBy, MayStand}
+use Rattle.cluster_core.specs.Sent.{TellingMayFollow}
 use Rattle.cert_sched.specs.Scripted.{closes}
 use Rattle.cert_sched.proofs.Induction.{is_over-snoc}
 use Rattle.cert_sched.proofs.StepLaws.{Tells, SentTo, is_sent}

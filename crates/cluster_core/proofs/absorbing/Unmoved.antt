@@ -13,7 +13,7 @@ use Rattle.bus_msg.specs.declared.entry.Post.{Post}
 use Rattle.bus_msg.specs.declared.entry.Entry.{Entry}
 use Rattle.bus_msg.specs.Places.{same_pid}
 use Rattle.bus_msg.specs.PlacedAfter.{what}
-use Rattle.cert_sched.specs.Built.{tells_or_closes}
+use Rattle.cert_sched.specs.Rules.{tells_or_closes}
 use Rattle.cert_sched.specs.Schedule.{done, items_of, plain_after}
 use Rattle.cert_sched.specs.Steps.{after_items, emission_at, process_of, silent_upto}
 use Rattle.cert_sched.proofs.LogLaws.{no_items}

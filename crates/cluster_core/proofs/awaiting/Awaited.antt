@@ -16,7 +16,7 @@ use Rattle.bus_msg.specs.PlacedAfter.{what}
 use Rattle.channel_table.specs.Changes.{pids_differ}
 use Rattle.page_waits.specs.Waiting.{WaitingState}
 use Rattle.plain_kernel.specs.Maps.{at_key}
-use Rattle.cert_sched.specs.Built.{MayStand}
+use Rattle.cert_sched.specs.Legal.{MayStand}
 use Rattle.cert_sched.specs.Legal.{IsLegalBy, Stands}
 use Rattle.cert_sched.specs.Losses.{is_crash_of}
 use Rattle.cert_sched.specs.Kinds.{KindHolds}

@@ -7,7 +7,8 @@ use Rattle.bus_msg.specs.declared.entry.Entry.{Entry}
 use Rattle.bus_msg.specs.Places.{Places}
 use Rattle.bus_msg.specs.PlacedAfter.{what}
 use Rattle.bus_msg.specs.declared.entry.What.{What}
-use Rattle.cert_sched.specs.Built.{MayStand, tells_or_closes}
+use Rattle.cert_sched.specs.Legal.{MayStand}
+use Rattle.cert_sched.specs.Rules.{tells_or_closes}
 use Rattle.cert_sched.specs.Losses.{is_crash_of}
 use Rattle.cert_sched.specs.Schedule.{placement}
 use Rattle.log_laws.proofs.records.Standing.{built_stands}

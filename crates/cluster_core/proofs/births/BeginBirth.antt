@@ -13,7 +13,7 @@ use Rattle.cert_sched.specs.Parts.{rising}
 use Rattle.cert_sched.specs.Kinds.{next_child_at}
 use Rattle.cert_sched.specs.Schedule.{placement, done_after}
 use Rattle.cert_sched.specs.Steps.{silent_upto}
-use Rattle.cert_sched.specs.Built.{MayStand}
+use Rattle.cert_sched.specs.Legal.{MayStand}
 use Rattle.cert_sched.specs.Losses.{capped, least_calls, least_steps}
 use Rattle.log_laws.proofs.records.Standing.{built_stands}
 use Rattle.residents.specs.declared.quantum.Forking.{Forking}

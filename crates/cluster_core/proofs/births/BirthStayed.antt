@@ -25,7 +25,7 @@ use Rattle.bus_msg.specs.declared.placed.Placed.{Placed}
 use Rattle.bus_msg.specs.Places.{ClusterPlace, Places, next_serial_in, placed_at, same_cluster, unended_at}
 use Rattle.bus_msg.specs.PlacedAfter.{changed_at, lost_cluster, placed_after, raised_serial, returned_cluster, what, with_birth}
 use Rattle.channel_table.specs.Changes.{pids_differ}
-use Rattle.cert_sched.specs.Built.{MayStand}
+use Rattle.cert_sched.specs.Legal.{MayStand}
 use Rattle.cert_sched.specs.Kinds.{KindHolds, next_child_at}
 use Rattle.cert_sched.specs.Losses.{is_by_cluster, is_crash_of}
 use Rattle.cert_sched.specs.Parts.{rising}

@@ -14,7 +14,7 @@ use Rattle.bus_msg.specs.PlacedAfter.{placed_after, what, with_birth as with_chi
 use Rattle.channel_table.specs.Changes.{CanBeAbsorbed, pids_differ}
 use Rattle.page_server.specs.Account.{PagerState}
 use Rattle.cert_sched.specs.Appended.{entry_of}
-use Rattle.cert_sched.specs.Built.{MayStand}
+use Rattle.cert_sched.specs.Legal.{MayStand}
 use Rattle.cert_sched.specs.Losses.{is_by_cluster, is_crash_of, is_page_entry, least_calls}
 use Rattle.cert_sched.specs.Parts.{put_rising, rising}
 use Rattle.cert_sched.specs.Rests.{home_pids}

@@ -16,11 +16,10 @@ use Rattle.bus_msg.specs.Places.{Places, placed_at, same_cluster, same_pid, unen
 use Rattle.bus_msg.specs.PlacedAfter.{placed_after, what, with_birth}
 use Rattle.channel_table.specs.Changes.{pids_differ}
 use Rattle.cert_sched.specs.Account.{is_exit_of}
-use Rattle.cert_sched.specs.Built.{MayStand}
 use Rattle.cert_sched.specs.Deeds.{deeds_in, is_birth_of, is_cut, letter_for}
 use Rattle.roll_forward.specs.Deeds.{Bears}
 use Rattle.cert_sched.specs.Kinds.{BirthHolds, KindHolds, next_child_at}
-use Rattle.cert_sched.specs.Legal.{Stands}
+use Rattle.cert_sched.specs.Legal.{Stands, MayStand}
 use Rattle.cert_sched.specs.Losses.{is_by_cluster}
 use Rattle.cert_sched.specs.Moved.{is_fetch, is_page_is}
 use Rattle.cert_sched.specs.Rules.{home_at, is_by, is_by_home, is_by_right, is_living}

@@ -11,9 +11,8 @@ use Rattle.bus_msg.specs.declared.entry.Entry.{Entry}
 use Rattle.bus_msg.specs.declared.placed.Placed.{Placed}
 use Rattle.bus_msg.specs.Places.{is_at_home, same_cluster, same_pid, unended_at}
 use Rattle.birth_notice.specs.Family.{first_unsynced}
-use Rattle.cert_sched.specs.Built.{MayStand}
 use Rattle.cert_sched.specs.Kinds.{ChildrenSynced}
-use Rattle.cert_sched.specs.Legal.{IsLegalBy, Stands}
+use Rattle.cert_sched.specs.Legal.{IsLegalBy, Stands, MayStand}
 use Rattle.cert_sched.specs.Parts.{rising}
 use Rattle.cert_sched.specs.Record.{has_state}
 use Rattle.cert_sched.specs.Rules.{home_at}

@@ -20,10 +20,9 @@ use Rattle.bus_msg.specs.PlacedAfter.{placed_after, what, with_birth}
 use Rattle.channel_table.specs.Changes.{pids_differ}
 use Rattle.cert_sched.specs.Account.{is_exit_of}
 use Rattle.cert_sched.specs.Appended.{entry_of}
-use Rattle.cert_sched.specs.Built.{MayStand}
 use Rattle.cert_sched.specs.Deeds.{deeds_in, is_birth_of, is_cut, letter_for}
 use Rattle.cert_sched.specs.Kinds.{BirthHolds, KindHolds}
-use Rattle.cert_sched.specs.Legal.{IsLegalBy, Stands}
+use Rattle.cert_sched.specs.Legal.{IsLegalBy, Stands, MayStand}
 use Rattle.cert_sched.specs.Losses.{is_crash_of}
 use Rattle.cert_sched.specs.Moved.{is_fetch, is_page_is}
 use Rattle.cert_sched.specs.Record.{has_state}

@@ -28,8 +28,7 @@ use Rattle.cert_sched.specs.Record.{backup_record}
 use Rattle.cert_sched.specs.Account.{account_after}
 use Rattle.cert_sched.specs.Steps.{silent_upto, emission_at, before_fork_at}
 use Rattle.cert_sched.specs.Rules.{is_over, has_its_pages}
-use Rattle.cert_sched.specs.Legal.{IsLegalBy}
-use Rattle.cert_sched.specs.Built.{MayStand}
+use Rattle.cert_sched.specs.Legal.{IsLegalBy, MayStand}
 use Rattle.log_laws.specs.records.Kept.{has_backup_in}
 use Rattle.page_waits.specs.Waiting.{WaitingState}
 use Rattle.replay_laws.specs.pages.Waits.{WaitsAs, none_queued}
@@ -44,19 +43,19 @@ use Rattle.cluster_core.proofs.examples.WorkedViews.{pid, cluster, by_cluster, i
 
 letter_follows : MayStand far_system [] far_0
 unfolding boot one_step steps silently plain_after schedule_of placement told is_over silent_upto emission_at before_fork_at backup_record account_after
-letter_follows = record { stands = record { placed = (refl, refl, refl); by_right = refl; applies = refl; kind = refl }; built = refl; limits = refl; new_page = refl; pages = refl }
+letter_follows = record { stands = record { placed = (refl, refl, refl); by_right = refl; applies = refl; kind = refl }; limits = refl; new_page = refl; pages = refl }
 
 end_follows : MayStand far_system (far_0 ∷ []) far_1
 unfolding boot one_step steps silently plain_after schedule_of placement told is_over silent_upto emission_at before_fork_at backup_record account_after
-end_follows = record { stands = record { placed = (refl, refl, refl); by_right = refl; applies = refl; kind = refl }; built = refl; limits = refl; new_page = refl; pages = refl }
+end_follows = record { stands = record { placed = (refl, refl, refl); by_right = refl; applies = refl; kind = refl }; limits = refl; new_page = refl; pages = refl }
 
 page_follows : MayStand far_system came far_2
 unfolding boot one_step steps silently plain_after schedule_of placement told is_over silent_upto emission_at before_fork_at backup_record account_after
-page_follows = record { stands = record { placed = (refl, refl, refl); by_right = refl; applies = refl; kind = record { within = lit< tt; not_before = lit≤ tt; page = refl } }; built = refl; limits = refl; new_page = refl; pages = refl }
+page_follows = record { stands = record { placed = (refl, refl, refl); by_right = refl; applies = refl; kind = record { within = lit< tt; not_before = lit≤ tt; page = refl } }; limits = refl; new_page = refl; pages = refl }
 
 sync_follows : MayStand far_system (far_0 ∷ far_1 ∷ far_2 ∷ []) synced_3
 unfolding boot one_step steps silently plain_after schedule_of placement told is_over silent_upto emission_at before_fork_at backup_record account_after
-sync_follows = record { stands = record { placed = (refl, refl, refl); by_right = refl; applies = refl; kind = record { state = refl; took_first = refl; reads = refl; children = refl; account = refl; due = refl } }; built = refl; limits = refl; new_page = refl; pages = refl }
+sync_follows = record { stands = record { placed = (refl, refl, refl); by_right = refl; applies = refl; kind = record { state = refl; took_first = refl; reads = refl; children = refl; account = refl; due = refl } }; limits = refl; new_page = refl; pages = refl }
 
 -- ---- directly after the synchronisation
 
@@ -139,15 +138,15 @@ served_log = far_0 ∷ far_1 ∷ far_2 ∷ synced_3 ∷ lost_4 ∷ lost_5 ∷ lo
 
 loss_follows : MayStand far_system synced_log lost_4
 unfolding boot one_step steps silently plain_after schedule_of placement told is_over silent_upto emission_at before_fork_at backup_record account_after
-loss_follows = record { stands = record { placed = (refl, refl, refl); by_right = refl; applies = refl; kind = refl }; built = refl; limits = refl; new_page = refl; pages = refl }
+loss_follows = record { stands = record { placed = (refl, refl, refl); by_right = refl; applies = refl; kind = refl }; limits = refl; new_page = refl; pages = refl }
 
 fetch_follows : MayStand far_system lost_log lost_5
 unfolding boot one_step steps silently plain_after schedule_of placement told is_over silent_upto emission_at before_fork_at backup_record account_after
-fetch_follows = record { stands = record { placed = (refl, refl, refl); by_right = refl; applies = refl; kind = record { within = lit< tt; moved = refl; unasked = refl } }; built = refl; limits = refl; new_page = refl; pages = refl }
+fetch_follows = record { stands = record { placed = (refl, refl, refl); by_right = refl; applies = refl; kind = record { within = lit< tt; moved = refl; unasked = refl } }; limits = refl; new_page = refl; pages = refl }
 
 page_comes : MayStand far_system (far_0 ∷ far_1 ∷ far_2 ∷ synced_3 ∷ lost_4 ∷ lost_5 ∷ []) lost_6
 unfolding boot one_step steps silently plain_after schedule_of placement told is_over silent_upto emission_at before_fork_at backup_record account_after
-page_comes = record { stands = record { placed = (refl, refl, refl); by_right = refl; applies = refl; kind = record { asked = refl; page = refl } }; built = refl; limits = refl; new_page = refl; pages = refl }
+page_comes = record { stands = record { placed = (refl, refl, refl); by_right = refl; applies = refl; kind = record { asked = refl; page = refl } }; limits = refl; new_page = refl; pages = refl }
 
 served_legal : IsLegalBy MayStand far_system served_log
 unfolding IsLegalBy
@@ -215,23 +214,23 @@ rolled_log = far_0 ∷ far_1 ∷ far_2 ∷ synced_3 ∷ ended_4 ∷ said_5 ∷ s
 
 exit_follows : MayStand far_system synced_log ended_4
 unfolding boot one_step steps silently plain_after schedule_of placement told is_over silent_upto emission_at before_fork_at backup_record account_after
-exit_follows = record { stands = record { placed = (refl, refl, refl); by_right = refl; applies = refl; kind = (refl, refl) }; built = refl; limits = refl; new_page = refl; pages = refl }
+exit_follows = record { stands = record { placed = (refl, refl, refl); by_right = refl; applies = refl; kind = (refl, refl) }; limits = refl; new_page = refl; pages = refl }
 
 said_follows : MayStand far_system ended_log said_5
 unfolding boot one_step steps silently plain_after schedule_of placement told is_over silent_upto emission_at before_fork_at backup_record account_after
-said_follows = record { stands = record { placed = (refl, refl, refl); by_right = refl; applies = refl; kind = refl }; built = refl; limits = refl; new_page = refl; pages = refl }
+said_follows = record { stands = record { placed = (refl, refl, refl); by_right = refl; applies = refl; kind = refl }; limits = refl; new_page = refl; pages = refl }
 
 later_loss_follows : MayStand far_system (far_0 ∷ far_1 ∷ far_2 ∷ synced_3 ∷ ended_4 ∷ said_5 ∷ []) said_6
 unfolding boot one_step steps silently plain_after schedule_of placement told is_over silent_upto emission_at before_fork_at backup_record account_after
-later_loss_follows = record { stands = record { placed = (refl, refl, refl); by_right = refl; applies = refl; kind = refl }; built = refl; limits = refl; new_page = refl; pages = refl }
+later_loss_follows = record { stands = record { placed = (refl, refl, refl); by_right = refl; applies = refl; kind = refl }; limits = refl; new_page = refl; pages = refl }
 
 later_fetch_follows : MayStand far_system said_log said_7
 unfolding boot one_step steps silently plain_after schedule_of placement told is_over silent_upto emission_at before_fork_at backup_record account_after
-later_fetch_follows = record { stands = record { placed = (refl, refl, refl); by_right = refl; applies = refl; kind = record { within = lit< tt; moved = refl; unasked = refl } }; built = refl; limits = refl; new_page = refl; pages = refl }
+later_fetch_follows = record { stands = record { placed = (refl, refl, refl); by_right = refl; applies = refl; kind = record { within = lit< tt; moved = refl; unasked = refl } }; limits = refl; new_page = refl; pages = refl }
 
 later_page_comes : MayStand far_system (far_0 ∷ far_1 ∷ far_2 ∷ synced_3 ∷ ended_4 ∷ said_5 ∷ said_6 ∷ said_7 ∷ []) said_8
 unfolding boot one_step steps silently plain_after schedule_of placement told is_over silent_upto emission_at before_fork_at backup_record account_after
-later_page_comes = record { stands = record { placed = (refl, refl, refl); by_right = refl; applies = refl; kind = record { asked = refl; page = refl } }; built = refl; limits = refl; new_page = refl; pages = refl }
+later_page_comes = record { stands = record { placed = (refl, refl, refl); by_right = refl; applies = refl; kind = record { asked = refl; page = refl } }; limits = refl; new_page = refl; pages = refl }
 
 rolled_legal : IsLegalBy MayStand far_system rolled_log
 unfolding IsLegalBy

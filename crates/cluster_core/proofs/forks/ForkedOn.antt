@@ -10,7 +10,7 @@ use Rattle.sys_calls.specs.Next.{next_step}
 use Rattle.sys_calls.proofs.Counting.{ended_is_over}
 use Rattle.bus_msg.specs.declared.entry.Entry.{Entry}
 use Rattle.roll_forward.specs.RunsOut.{nothing_left}
-use Rattle.cert_sched.specs.Built.{MayStand}
+use Rattle.cert_sched.specs.Legal.{MayStand}
 use Rattle.cert_sched.specs.Legal.{IsLegalBy, Stands}
 use Rattle.cert_sched.specs.Parts.{rising}
 use Rattle.cert_sched.specs.Rules.{has_its_pages, has_awaited_backup}

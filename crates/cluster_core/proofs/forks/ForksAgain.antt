@@ -16,7 +16,7 @@ use Rattle.sys_calls.specs.Next.{next_step}
 use Rattle.bus_msg.specs.declared.entry.What.{What}
 use Rattle.bus_msg.specs.declared.entry.What.TheVariants.{Rebackup}
 use Rattle.bus_msg.specs.Places.{same_pid}
-use Rattle.cert_sched.specs.Built.{tells_or_closes}
+use Rattle.cert_sched.specs.Rules.{tells_or_closes}
 use Rattle.cert_sched.specs.Deeds.{is_end_of}
 use Rattle.cert_sched.proofs.FamilyLaws.{Pair}
 use Rattle.log_laws.proofs.births.Filters.{kept_passes, one_passes, passes_any}

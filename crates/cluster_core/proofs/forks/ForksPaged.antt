@@ -15,9 +15,8 @@ use Rattle.bus_msg.specs.declared.entry.Entry.{Entry}
 use Rattle.bus_msg.specs.declared.entry.Post.{Post}
 use Rattle.bus_msg.specs.Places.{same_pid}
 use Rattle.bus_msg.specs.PlacedAfter.{what}
-use Rattle.cert_sched.specs.Built.{MayStand}
 use Rattle.cert_sched.specs.Family.{births_of, is_unsynced}
-use Rattle.cert_sched.specs.Legal.{IsLegalBy}
+use Rattle.cert_sched.specs.Legal.{IsLegalBy, MayStand}
 use Rattle.cert_sched.specs.Record.{has_state}
 use Rattle.cert_sched.specs.Schedule.{placement}
 use Rattle.cert_sched.specs.Simulation.{bears}

@@ -20,11 +20,10 @@ use Rattle.cert_sched.specs.Parts.{first_of, rising}
 use Rattle.cert_sched.specs.Schedule.{placement}
 use Rattle.cert_sched.specs.Family.{unsynced_family}
 use Rattle.cert_sched.specs.Record.{backup_record, has_state}
-use Rattle.cert_sched.specs.Built.{MayStand}
 use Rattle.cert_sched.specs.Kinds.{is_done_by}
 use Rattle.cert_sched.specs.Moved.{any_since_moved, is_fetch}
 use Rattle.cert_sched.specs.Rules.{has_awaited_backup, is_by_home, is_over}
-use Rattle.cert_sched.specs.Legal.{IsLegal, IsLegalBy, MayFollow, Stands}
+use Rattle.cert_sched.specs.Legal.{IsLegal, IsLegalBy, MayFollow, Stands, MayStand}
 use Rattle.cert_sched.proofs.FamilyLaws.{families}
 use Rattle.cert_sched.proofs.LiveLaws.{homes_live}
 use Rattle.log_laws.proofs.letters.LogReads.{itself}

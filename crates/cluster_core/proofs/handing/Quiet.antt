@@ -11,9 +11,8 @@ use Rattle.bus_msg.specs.declared.entry.What.TheVariants.{Mail, Birth, Exit, Pag
 use Rattle.bus_msg.specs.declared.entry.Entry.{Entry}
 use Rattle.bus_msg.specs.Places.{same_pid}
 use Rattle.bus_msg.specs.PlacedAfter.{what}
-use Rattle.cert_sched.specs.Built.{MayStand}
 use Rattle.cert_sched.specs.Deeds.{is_birth_of}
-use Rattle.cert_sched.specs.Legal.{IsLegalBy}
+use Rattle.cert_sched.specs.Legal.{IsLegalBy, MayStand}
 use Rattle.cert_sched.specs.Kinds.{KindHolds, is_done_by}
 use Rattle.cert_sched.specs.Moved.{any_since_moved, is_fetch, is_page_is, moved_with_state, was_moved}
 use Rattle.cert_sched.specs.Rules.{awaits_pages, has_its_pages, holds_of, is_by_right}

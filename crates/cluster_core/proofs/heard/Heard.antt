@@ -16,7 +16,6 @@ use Rattle.bus_msg.specs.declared.entry.Entry.{Entry}
 use Rattle.bus_msg.specs.declared.placed.Placed.{Placed}
 use Rattle.bus_msg.specs.Places.{ClusterPlace, Places, is_cluster, is_lost_in, never_lost, same_cluster, same_pid, servers_in, unended_at, placed_at}
 use Rattle.bus_msg.specs.PlacedAfter.{after_loss, after_sync, moved_to, placed_after, returned_cluster, what, raised_serial}
-use Rattle.cert_sched.specs.Built.{MayStand}
 use Rattle.cert_sched.specs.Losses.{capped, is_by_cluster, is_crash_of, least_steps}
 use Rattle.cert_sched.specs.Schedule.{placement}
 use Rattle.cert_sched.proofs.ExitLaws.{unended_exit}
@@ -37,7 +36,7 @@ use Rattle.cluster_core.specs.Recovered.{left_by, moved_by, with_all_waiting}
 use Rattle.cluster_core.specs.Serving.{Serves}
 use Rattle.cluster_core.specs.View.{ClusterView, next_count, with_server}
 use Rattle.cert_sched.specs.Kinds.{BirthHolds, KindHolds}
-use Rattle.cert_sched.specs.Legal.{IsLegalBy, Stands}
+use Rattle.cert_sched.specs.Legal.{IsLegalBy, Stands, MayStand}
 use Rattle.cert_sched.specs.Rules.{is_by_home, is_by_right}
 use Rattle.cert_sched.proofs.BirthClusters.{birth_keeps}
 use Rattle.cert_sched.proofs.FamilyLaws.{Families, Member, families, found_born, found_child}

@@ -15,7 +15,7 @@ use Rattle.bus_msg.specs.Places.{ClusterPlace, Places, lives_in, same_cluster, s
 use Rattle.bus_msg.specs.PlacedAfter.{placed_after, what}
 use Rattle.bus_msg.specs.Route.{route}
 use Rattle.cert_sched.specs.Appended.{entry_of}
-use Rattle.cert_sched.specs.Built.{MayStand}
+use Rattle.cert_sched.specs.Legal.{MayStand}
 use Rattle.cluster_core.specs.Sent.{SentMayFollow, is_sent}
 use Rattle.cert_sched.specs.Losses.{capped, is_by_cluster, is_from, least_steps}
 use Rattle.cert_sched.specs.Schedule.{placement}

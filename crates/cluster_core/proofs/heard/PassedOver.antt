@@ -18,7 +18,7 @@ use Rattle.bus_msg.specs.declared.placed.Placed.{Placed}
 use Rattle.bus_msg.specs.Places.{Places, is_cluster, lives_in, same_cluster, same_pid, servers_in, unended_at, ClusterPlace}
 use Rattle.bus_msg.specs.PlacedAfter.{after_sync, placed_after, what}
 use Rattle.bus_msg.specs.Route.{backup_of, home_of, route, to_clusters}
-use Rattle.cert_sched.specs.Built.{MayStand}
+use Rattle.cert_sched.specs.Legal.{MayStand}
 use Rattle.cert_sched.specs.Losses.{capped, is_by_cluster, is_crash_of, least_steps}
 use Rattle.cert_sched.specs.Rules.{is_by, is_by_home, is_by_right}
 use Rattle.cert_sched.specs.Told.{cluster_lost}

@@ -15,7 +15,7 @@ use Rattle.sys_calls.proofs.RunLemma.{all_delivered}
 use Rattle.bus_msg.specs.declared.entry.What.{What}
 use Rattle.bus_msg.specs.declared.entry.What.TheVariants.{Mail}
 use Rattle.bus_msg.specs.Places.{same_pid}
-use Rattle.cert_sched.specs.Built.{tells_or_closes}
+use Rattle.cert_sched.specs.Rules.{tells_or_closes}
 use Rattle.cert_sched.specs.Deeds.{is_end_of, letter_for, to_process}
 use Rattle.cert_sched.proofs.StepLaws.{Tells}
 use Rattle.cert_sched.proofs.MailLaws.{with_arrival}

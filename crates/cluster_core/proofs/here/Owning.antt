@@ -35,7 +35,7 @@ use Rattle.residents.specs.declared.quantum.Forking.{Forking}
 use Rattle.residents.specs.Quantum.{ComesToFork, Moves, RollsTo, RunsTo, Sends}
 use Rattle.roll_forward.specs.Advancing.{going, rolled_on}
 use Rattle.roll_forward.proofs.RolledLaws.{rolled_keeps}
-use Rattle.cert_sched.specs.Built.{tells_or_closes}
+use Rattle.cert_sched.specs.Rules.{tells_or_closes}
 use Rattle.residents.proofs.Changing.{pid_same}
 use Rattle.cluster_core.proofs.absorbing.ByKind.{by_kind}
 use Rattle.t32_base.specs.Small.{SmallState}

@@ -11,7 +11,7 @@ use Rattle.proc_state.specs.State.{state_of, has_ended}
 use Rattle.plain_kernel.specs.Kernel.{process_at}
 use Rattle.bus_msg.specs.declared.entry.Entry.{Entry}
 use Rattle.roll_forward.specs.RunsOut.{RunsOut}
-use Rattle.cert_sched.specs.Built.{MayStand}
+use Rattle.cert_sched.specs.Legal.{MayStand}
 use Rattle.cert_sched.specs.Legal.{IsLegalBy, Stands}
 use Rattle.cert_sched.specs.Rules.{keeps_limits}
 use Rattle.cert_sched.specs.Schedule.{done, process_after}

@@ -15,8 +15,7 @@ use Rattle.bus_msg.specs.PlacedAfter.{what, placed_after, changed_at, lost_clust
 use Rattle.cert_sched.specs.Parts.{first_of}
 use Rattle.cert_sched.specs.Schedule.{placement}
 use Rattle.cert_sched.specs.Rules.{is_by}
-use Rattle.cert_sched.specs.Legal.{IsLegalBy}
-use Rattle.cert_sched.specs.Built.{MayStand}
+use Rattle.cert_sched.specs.Legal.{IsLegalBy, MayStand}
 use Rattle.cert_sched.specs.Losses.{is_crash_of, was_lost_in}
 use Rattle.cert_sched.specs.Scripted.{is_server}
 use Rattle.cert_sched.proofs.BirthClusters.{birth_keeps, return_keeps}

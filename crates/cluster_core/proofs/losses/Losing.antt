@@ -21,7 +21,6 @@ use Rattle.bus_msg.specs.declared.placed.Placed.{Placed}
 use Rattle.bus_msg.specs.Places.{Places, is_at_home, is_cluster, placed_at, same_cluster, same_pid, unended_at, is_moved_by}
 use Rattle.bus_msg.specs.PlacedAfter.{what, placed_after, after_loss}
 use Rattle.crash_notice.specs.Splitting.{is_moved_here, moves_here, stays}
-use Rattle.cert_sched.specs.Built.{MayStand}
 use Rattle.cluster_core.specs.Sent.{SentMayFollow}
 use Rattle.cert_sched.specs.Deeds.{deeds_in, is_birth_of, is_cut, letter_for, start_of}
 use Rattle.cert_sched.specs.Losses.{is_by_cluster, is_from, is_crash_of}
@@ -77,7 +76,7 @@ use Rattle.page_server.specs.Account.{PagerState}
 use Rattle.replay_laws.proofs.pages.RecordPages.{HasPages, has_pages, starts_so}
 use Rattle.cluster_core.proofs.absorbing.Fallen.{NoneFalls}
 use Rattle.cluster_core.proofs.losses.LostQueue.{NextLoss, no_fetch_queued, no_move_queued, not_here_lost, places_after, queue_stays, found_after}
-use Rattle.cert_sched.specs.Legal.{Stands}
+use Rattle.cert_sched.specs.Legal.{Stands, MayStand}
 use Rattle.replay_laws.specs.pages.Waits.{first_wait, none_queued}
 use Rattle.cert_sched.specs.Told.{cluster_lost, is_moved}
 use Rattle.cluster_core.proofs.losses.NotMoved.{home_not_moved}

@@ -19,12 +19,12 @@ use Rattle.bus_msg.specs.declared.entry.Entry.{Entry}
 use Rattle.bus_msg.specs.declared.placed.Placed.{Placed}
 use Rattle.bus_msg.specs.Places.{Places, lives_in, same_cluster, same_pid, unended_at}
 use Rattle.bus_msg.specs.PlacedAfter.{after_loss, what, placed_after}
-use Rattle.cert_sched.specs.Built.{MayStand, TellingMayFollow, tells_or_closes}
+use Rattle.cluster_core.specs.Sent.{TellingMayFollow}
 use Rattle.cluster_core.specs.Sent.{SentMayFollow}
-use Rattle.cert_sched.specs.Legal.{IsLegalBy}
+use Rattle.cert_sched.specs.Legal.{IsLegalBy, MayStand}
 use Rattle.cert_sched.specs.Losses.{is_by_cluster, is_from, is_crash_of}
 use Rattle.cert_sched.specs.Appended.{entry_of}
-use Rattle.cert_sched.specs.Rules.{is_over, is_by, is_living, is_by_home, home_at, is_by_right, keeps_limits}
+use Rattle.cert_sched.specs.Rules.{is_over, is_by, is_living, is_by_home, home_at, is_by_right, keeps_limits, tells_or_closes}
 use Rattle.cert_sched.specs.Schedule.{items_of, placement}
 use Rattle.cert_sched.proofs.CoverLaws.{lives_on}
 use Rattle.cert_sched.proofs.LogLaws.{IsLegal-last, placement-snoc}

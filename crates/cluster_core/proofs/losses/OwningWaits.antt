@@ -11,7 +11,8 @@ use Rattle.bus_msg.specs.declared.entry.Entry.{Entry}
 use Rattle.bus_msg.specs.Places.{same_cluster}
 use Rattle.bus_msg.specs.PlacedAfter.{what}
 use Rattle.crash_notice.specs.Splitting.{moves_here}
-use Rattle.cert_sched.specs.Built.{MayStand, tells_or_closes}
+use Rattle.cert_sched.specs.Legal.{MayStand}
+use Rattle.cert_sched.specs.Rules.{tells_or_closes}
 use Rattle.cluster_core.specs.Sent.{is_sent}
 use Rattle.cert_sched.specs.Losses.{is_crash_of}
 use Rattle.cert_sched.specs.Schedule.{placement}

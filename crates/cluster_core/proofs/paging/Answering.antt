@@ -13,7 +13,7 @@ use Rattle.bus_msg.specs.declared.entry.Post.{Post}
 use Rattle.bus_msg.specs.Places.{Places, same_pid, servers_in}
 use Rattle.cert_sched.specs.Appended.{entry_of}
 use Rattle.cert_sched.specs.Account.{Account, page_in}
-use Rattle.cert_sched.specs.Built.{MayStand}
+use Rattle.cert_sched.specs.Legal.{MayStand}
 use Rattle.cluster_core.specs.Sent.{SentMayFollow, is_sent}
 use Rattle.cert_sched.specs.Kinds.{PageIsHolds}
 use Rattle.cert_sched.specs.Losses.{is_from, least_steps}

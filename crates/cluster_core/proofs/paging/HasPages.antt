@@ -15,10 +15,10 @@ use Rattle.bus_msg.specs.Places.{Places, lives_in, unended_at}
 use Rattle.bus_msg.specs.PlacedAfter.{what}
 use Rattle.channel_table.specs.Changes.{pids_differ}
 use Rattle.cert_sched.specs.Appended.{entry_of}
-use Rattle.cert_sched.specs.Built.{MayStand, KeepsWaits, tells_or_closes}
+use Rattle.cert_sched.specs.Legal.{MayStand, KeepsWaits}
 use Rattle.cert_sched.specs.Legal.{IsLegalBy, Stands}
 use Rattle.cert_sched.specs.Losses.{is_crash_of, is_from}
-use Rattle.cert_sched.specs.Rules.{awaits_pages, has_its_pages, holds_of, home_at, is_by, is_by_home}
+use Rattle.cert_sched.specs.Rules.{awaits_pages, has_its_pages, holds_of, home_at, is_by, is_by_home, tells_or_closes}
 use Rattle.cert_sched.specs.Schedule.{placement}
 use Rattle.cert_sched.specs.Steps.{process_of}
 use Rattle.cert_sched.proofs.ThereLaws.{unended_not_born}

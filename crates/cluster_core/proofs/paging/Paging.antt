@@ -16,13 +16,14 @@ use Rattle.bus_msg.specs.declared.entry.Entry.{Entry}
 use Rattle.bus_msg.specs.Places.{Places, unended_at, same_pid}
 use Rattle.bus_msg.specs.PlacedAfter.{what, placed_after}
 use Rattle.cert_sched.specs.Appended.{entry_of}
-use Rattle.cert_sched.specs.Built.{tells_or_closes, MayStand, TellingMayFollow}
+use Rattle.cert_sched.specs.Legal.{MayStand}
+use Rattle.cluster_core.specs.Sent.{TellingMayFollow}
 use Rattle.cluster_core.specs.Sent.{SentMayFollow}
 use Rattle.cert_sched.specs.Deeds.{deeds_in, is_cut, letter_for, is_birth_of, starts}
 use Rattle.cert_sched.specs.Losses.{is_by_cluster, is_from, is_crash_of}
 use Rattle.cert_sched.specs.Parts.{rising}
 use Rattle.cert_sched.specs.Rests.{home_pids}
-use Rattle.cert_sched.specs.Rules.{is_by_home, has_its_pages, home_at, is_by, is_by_right, keeps_limits, has_awaited_backup}
+use Rattle.cert_sched.specs.Rules.{is_by_home, has_its_pages, home_at, is_by, is_by_right, keeps_limits, has_awaited_backup, tells_or_closes}
 use Rattle.cert_sched.specs.Schedule.{items_of, placement}
 use Rattle.cert_sched.proofs.LogLaws.{IsLegal-last, placement-snoc}
 use Rattle.backup_records.specs.Records.{records_after}

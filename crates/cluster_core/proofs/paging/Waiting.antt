@@ -16,7 +16,6 @@ use Rattle.bus_msg.specs.declared.entry.Entry.{Entry}
 use Rattle.bus_msg.specs.Places.{same_pid, unended_at}
 use Rattle.bus_msg.specs.PlacedAfter.{what, placed_after}
 use Rattle.roll_forward.specs.Deeds.{Sends}
-use Rattle.cert_sched.specs.Built.{tells_or_closes, MayStand}
 use Rattle.cert_sched.specs.Deeds.{deeds_in, is_cut, is_end_of}
 use Rattle.cert_sched.specs.Moved.{is_fetch, is_page_is}
 use Rattle.cert_sched.specs.Simulation.{IsUnended}
@@ -39,12 +38,12 @@ use Rattle.cluster_core.specs.Holds.{IsHeldAs, is_fetch_queued, process_in, Carr
 use Rattle.cluster_core.proofs.absorbing.ByKind.{by_kind, by_page, is_of_page}
 use Rattle.cluster_core.proofs.here.Here.{arrival_at}
 use Rattle.residents.specs.Resident.{CanComeTo}
-use Rattle.cert_sched.specs.Legal.{IsLegalBy}
+use Rattle.cert_sched.specs.Legal.{IsLegalBy, MayStand}
 use Rattle.cluster_core.specs.Follows.{IsOpen}
 use Rattle.roll_forward.specs.Rolling.{RollingState}
 use Rattle.replay_laws.specs.rolling.Behind.{RollsBehind}
 use Rattle.replay_laws.proofs.rolling.ByRule.{built_silent}
-use Rattle.cert_sched.specs.Rules.{has_its_pages}
+use Rattle.cert_sched.specs.Rules.{has_its_pages, tells_or_closes}
 use Rattle.roll_forward.specs.RunsOut.{nothing_left}
 use Rattle.std.specs.Option.{option_map_or}
 use Rattle.proc_state.specs.State.{state_of, has_ended}

@@ -6,7 +6,7 @@ use Rattle.sys_text.specs.declared.system.System.{System}
 use Rattle.sys_text.specs.Valid.{is_system}
 use Rattle.bus_msg.specs.declared.entry.Entry.{Entry}
 use Rattle.bus_msg.specs.declared.entry.Post.{Post}
-use Rattle.cert_sched.specs.Built.{MayStand}
+use Rattle.cert_sched.specs.Legal.{MayStand}
 use Rattle.cluster_core.specs.Sent.{SentMayFollow}
 use Rattle.cert_sched.specs.Losses.{capped, is_from, least_calls}
 use Rattle.cert_sched.specs.Schedule.{placement}

@@ -19,8 +19,7 @@ use Rattle.birth_notice.specs.Family.{first_unsynced}
 use Rattle.cert_sched.specs.Parts.{rising}
 use Rattle.cert_sched.specs.Schedule.{placement}
 use Rattle.cert_sched.specs.Steps.{silent_upto}
-use Rattle.cert_sched.specs.Legal.{IsLegalBy, Stands}
-use Rattle.cert_sched.specs.Built.{MayStand}
+use Rattle.cert_sched.specs.Legal.{IsLegalBy, Stands, MayStand}
 use Rattle.cert_sched.specs.Losses.{capped, is_from, least_calls, least_steps}
 use Rattle.cert_sched.specs.Rules.{has_its_pages}
 use Rattle.log_laws.proofs.records.Standing.{built_stands}

@@ -20,9 +20,8 @@ use Rattle.bus_msg.specs.Places.{Places, same_pid}
 use Rattle.bus_msg.specs.PlacedAfter.{placed_after, what}
 use Rattle.channel_table.specs.Changes.{pids_differ}
 use Rattle.cert_sched.specs.Appended.{entry_of}
-use Rattle.cert_sched.specs.Built.{MayStand}
 use Rattle.cert_sched.specs.Deeds.{arrived_count}
-use Rattle.cert_sched.specs.Legal.{IsLegalBy, Stands}
+use Rattle.cert_sched.specs.Legal.{IsLegalBy, Stands, MayStand}
 use Rattle.cert_sched.specs.Parts.{rising}
 use Rattle.cert_sched.specs.Schedule.{done_after, placement, process_after}
 use Rattle.cert_sched.specs.Simulation.{IsUnended}

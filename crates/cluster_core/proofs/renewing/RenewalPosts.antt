@@ -18,11 +18,10 @@ use Rattle.bus_msg.specs.NewBackup.{next_backup_at}
 use Rattle.bus_msg.specs.Places.{Places, same_pid}
 use Rattle.bus_msg.specs.PlacedAfter.{what}
 use Rattle.cert_sched.specs.Appended.{entry_of}
-use Rattle.cert_sched.specs.Built.{tells_or_closes}
 use Rattle.cert_sched.specs.Deeds.{arrived_count}
 use Rattle.cert_sched.specs.Legal.{IsLegalBy, Stands}
 use Rattle.cert_sched.specs.Losses.{is_from, least_calls}
-use Rattle.cert_sched.specs.Rules.{has_its_pages, keeps_limits}
+use Rattle.cert_sched.specs.Rules.{has_its_pages, keeps_limits, tells_or_closes}
 use Rattle.cert_sched.specs.Schedule.{placement}
 use Rattle.cert_sched.specs.Simulation.{IsUnended}
 use Rattle.cert_sched.specs.Steps.{silent_upto}

@@ -17,9 +17,8 @@ use Rattle.bus_msg.specs.declared.entry.Post.{Post}
 use Rattle.bus_msg.specs.declared.entry.Entry.{Entry}
 use Rattle.bus_msg.specs.declared.placed.Placed.{Placed}
 use Rattle.bus_msg.specs.PlacedAfter.{what}
-use Rattle.cert_sched.specs.Built.{MayStand}
 use Rattle.cert_sched.specs.Deeds.{arrived_count, letter_for}
-use Rattle.cert_sched.specs.Legal.{IsLegalBy, Stands}
+use Rattle.cert_sched.specs.Legal.{IsLegalBy, Stands, MayStand}
 use Rattle.cert_sched.specs.Losses.{is_by_cluster}
 use Rattle.cert_sched.specs.Parts.{rising}
 use Rattle.cert_sched.specs.Rests.{home_pids}

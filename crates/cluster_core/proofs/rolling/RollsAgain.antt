@@ -4,7 +4,7 @@ use Rattle.t32_base.specs.declared.process.Pid.{Pid}
 use Rattle.sys_text.specs.Valid.{is_system}
 use Rattle.bus_msg.specs.declared.entry.Entry.{Entry}
 use Rattle.cert_sched.specs.Parts.{rising}
-use Rattle.cert_sched.specs.Built.{MayStand}
+use Rattle.cert_sched.specs.Legal.{MayStand}
 use Rattle.cluster_core.specs.View.{ClusterView, held_at}
 use Rattle.residents.specs.Held.{Held, Waits}
 use Rattle.residents.specs.Changed.{with_changed}

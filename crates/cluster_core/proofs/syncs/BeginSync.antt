@@ -18,8 +18,7 @@ use Rattle.cert_sched.specs.Schedule.{placement}
 use Rattle.cert_sched.specs.Kinds.{ChildrenSynced}
 use Rattle.cert_sched.specs.Record.{has_state}
 use Rattle.cert_sched.specs.Steps.{silent_upto}
-use Rattle.cert_sched.specs.Legal.{IsLegalBy, Stands}
-use Rattle.cert_sched.specs.Built.{MayStand}
+use Rattle.cert_sched.specs.Legal.{IsLegalBy, Stands, MayStand}
 use Rattle.cert_sched.specs.Losses.{capped, least_calls, least_steps}
 use Rattle.cert_sched.specs.Rules.{has_its_pages, keeps_limits}
 use Rattle.log_laws.proofs.records.Standing.{built_stands}

@@ -24,7 +24,7 @@ use Rattle.bus_msg.specs.Places.{same_pid}
 use Rattle.bus_msg.specs.PlacedAfter.{what}
 use Rattle.cert_sched.specs.Account.{is_exit_of}
 use Rattle.cert_sched.specs.Appended.{entry_of}
-use Rattle.cert_sched.specs.Built.{tells_or_closes}
+use Rattle.cert_sched.specs.Rules.{tells_or_closes}
 use Rattle.cluster_core.specs.Sent.{SentMayFollow}
 use Rattle.cert_sched.specs.Deeds.{arrived_count, is_birth_of, is_cut, is_end_of}
 use Rattle.cert_sched.specs.Legal.{IsLegalBy, Stands}

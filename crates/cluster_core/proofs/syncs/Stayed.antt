@@ -17,13 +17,12 @@ use Rattle.bus_msg.specs.declared.entry.Entry.{Entry}
 use Rattle.bus_msg.specs.declared.placed.Placed.{Placed}
 use Rattle.bus_msg.specs.Places.{same_pid}
 use Rattle.bus_msg.specs.PlacedAfter.{what}
-use Rattle.cert_sched.specs.Built.{MayStand, KeepsLimits, tells_or_closes}
 use Rattle.cert_sched.specs.Deeds.{is_end_of, letter_for, to_process}
-use Rattle.cert_sched.specs.Legal.{Stands}
+use Rattle.cert_sched.specs.Legal.{Stands, MayStand, KeepsLimits}
 use Rattle.cert_sched.specs.Losses.{is_by_cluster}
 use Rattle.cert_sched.specs.Parts.{rising}
 use Rattle.cert_sched.specs.Rests.{home_pids}
-use Rattle.cert_sched.specs.Rules.{home_at, is_by_home}
+use Rattle.cert_sched.specs.Rules.{home_at, is_by_home, tells_or_closes}
 use Rattle.cert_sched.specs.Schedule.{placement}
 use Rattle.cert_sched.proofs.LogLaws.{IsLegal-last}
 use Rattle.cert_sched.proofs.RisingLaws.{rising-any}

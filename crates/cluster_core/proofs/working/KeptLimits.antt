@@ -13,7 +13,7 @@ use Rattle.sys_calls.proofs.RunLemma.{all_delivered}
 use Rattle.bus_msg.specs.declared.entry.What.{What}
 use Rattle.bus_msg.specs.declared.entry.Entry.{Entry}
 use Rattle.bus_msg.specs.Places.{same_pid}
-use Rattle.cert_sched.specs.Built.{KeepsLimits}
+use Rattle.cert_sched.specs.Legal.{KeepsLimits}
 use Rattle.cert_sched.specs.Deeds.{is_end_of, letter_for, to_process}
 use Rattle.cert_sched.specs.Rules.{keeps_limits}
 use Rattle.cert_sched.specs.Steps.{emission_at}

@@ -17,7 +17,7 @@ use Rattle.sys_calls.specs.Small.{weight_with_children}
 use Rattle.sys_calls.proofs.Bearing.{emits_lightens, silently_lightens}
 use Rattle.bus_msg.specs.declared.entry.Entry.{Entry}
 use Rattle.bus_msg.specs.Places.{is_at_home}
-use Rattle.cert_sched.specs.Built.{MayStand}
+use Rattle.cert_sched.specs.Legal.{MayStand}
 use Rattle.cert_sched.specs.Legal.{IsLegalBy}
 use Rattle.cert_sched.specs.Parts.{put_rising, rising}
 use Rattle.cert_sched.specs.Rests.{home_pids}

@@ -25,8 +25,7 @@ use Rattle.cert_sched.specs.Steps.{silent_upto, emission_at, after_items}
 use Rattle.cert_sched.specs.Rules.{has_awaited_backup, has_its_pages, keeps_limits, is_by, is_living, is_by_home, is_by_right, is_new_page, home_at}
 use Rattle.birth_notice.specs.Family.{first_unsynced}
 use Rattle.cert_sched.specs.Kinds.{ChildrenSynced, KindHolds}
-use Rattle.cert_sched.specs.Legal.{IsLegalBy, Stands}
-use Rattle.cert_sched.specs.Built.{MayStand, KeepsWaits}
+use Rattle.cert_sched.specs.Legal.{IsLegalBy, Stands, MayStand, KeepsWaits}
 use Rattle.cluster_core.specs.Sent.{is_sent, SentMayFollow}
 use Rattle.cert_sched.specs.Losses.{least_steps, capped, is_from, is_page_is_entry}
 use Rattle.cert_sched.specs.Appended.{entry_of}

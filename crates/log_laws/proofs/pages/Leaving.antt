@@ -20,10 +20,9 @@ use Rattle.cert_sched.specs.Schedule.{placement}
 use Rattle.cert_sched.specs.Told.{cluster_lost}
 use Rattle.cert_sched.specs.Deeds.{is_birth_of}
 use Rattle.cert_sched.specs.Moved.{any_since_moved, moved_with_state, waiting_fetches, is_fetch}
-use Rattle.cert_sched.specs.Rules.{is_by_right, is_living, is_by, home_at}
+use Rattle.cert_sched.specs.Rules.{is_by_right, is_living, is_by, home_at, tells_or_closes}
 use Rattle.cert_sched.specs.Steps.{page_count}
 use Rattle.cert_sched.specs.Kinds.{FetchHolds}
-use Rattle.cert_sched.specs.Built.{tells_or_closes}
 use Rattle.cert_sched.specs.Legal.{Stands}
 use Rattle.cert_sched.proofs.LogLaws.{placement-snoc}
 use Rattle.log_laws.specs.pages.Next.{moves_next}

@@ -26,7 +26,7 @@ use Rattle.cert_sched.specs.Moved.{any_since_moved, waiting_fetches, moved_with_
 use Rattle.cert_sched.specs.Steps.{page_count}
 use Rattle.cert_sched.specs.Kinds.{PageIsHolds}
 use Rattle.cert_sched.specs.Rules.{holds_of, awaits_pages, has_its_pages}
-use Rattle.cert_sched.specs.Built.{MayStand, KeepsWaits}
+use Rattle.cert_sched.specs.Legal.{MayStand, KeepsWaits}
 use Rattle.cert_sched.specs.Legal.{IsLegalBy, IsLegalFrom, MayFollow, Stands}
 use Rattle.cert_sched.specs.Simulation.{IsUnended}
 use Rattle.cert_sched.proofs.LogLaws.{placement-snoc}

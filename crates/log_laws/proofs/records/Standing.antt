@@ -2,8 +2,7 @@
 use Rattle.std.proofs.Common.{List, [], ◌∷◌, ◌++◌}
 use Rattle.sys_text.specs.declared.system.System.{System}
 use Rattle.bus_msg.specs.declared.entry.Entry.{Entry}
-use Rattle.cert_sched.specs.Legal.{IsLegalBy, IsLegalFrom, Stands}
-use Rattle.cert_sched.specs.Built.{MayStand}
+use Rattle.cert_sched.specs.Legal.{IsLegalBy, IsLegalFrom, Stands, MayStand}
 use Rattle.cert_sched.proofs.CameLaws.{IsStandingRule}
 
 stands_from : (May : System → List Entry → Entry → Type 0) → IsStandingRule May → (system : System) (log rest : List Entry) → IsLegalFrom May system log rest → IsLegalFrom Stands system log rest

@@ -16,7 +16,7 @@ ghost use Rattle.cert_sched.specs.Moved.{any_since_moved, moved_with_state, wait
 ghost use Rattle.cert_sched.specs.Steps.{page_count};
 ghost use Rattle.cert_sched.specs.Kinds.{PageIsHolds};
 ghost use Rattle.cert_sched.specs.Rules.{has_its_pages};
-ghost use Rattle.cert_sched.specs.Built.{MayStand};
+ghost use Rattle.cert_sched.specs.Legal.{MayStand};
 ghost use Rattle.cert_sched.specs.Legal.{IsLegal, IsLegalBy, Stands};
 ghost use Rattle.cert_sched.specs.Simulation.{IsUnended};
 ghost use Rattle.log_laws.specs.pages.Waited.{is_waited};

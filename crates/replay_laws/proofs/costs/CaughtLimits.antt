@@ -21,8 +21,7 @@ use Rattle.cert_sched.specs.Deeds.{saved_letters, since}
 use Rattle.cert_sched.specs.Steps.{saved_of, start_steps}
 use Rattle.cert_sched.specs.Rules.{is_over, keeps_limits}
 use Rattle.cert_sched.specs.Rolling.{refilled}
-use Rattle.cert_sched.specs.Legal.{IsLegalBy}
-use Rattle.cert_sched.specs.Built.{MayStand}
+use Rattle.cert_sched.specs.Legal.{IsLegalBy, MayStand}
 use Rattle.cert_sched.specs.Simulation.{IsUnended}
 use Rattle.cert_sched.proofs.LimitLaws.{Limited, built_limited}
 use Rattle.cert_sched.proofs.OpenLaws.{unended_open}

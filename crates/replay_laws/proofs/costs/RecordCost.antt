@@ -17,8 +17,7 @@ use Rattle.cert_sched.specs.Deeds.{since, start_of}
 use Rattle.cert_sched.specs.Steps.{numbers_read}
 use Rattle.cert_sched.specs.Record.{backup_record}
 use Rattle.cert_sched.specs.Rolling.{refilled}
-use Rattle.cert_sched.specs.Legal.{IsLegalBy}
-use Rattle.cert_sched.specs.Built.{MayStand}
+use Rattle.cert_sched.specs.Legal.{IsLegalBy, MayStand}
 use Rattle.cert_sched.specs.Simulation.{IsUnended, RecordLeads}
 use Rattle.cert_sched.proofs.LimitLaws.{Ahead, built_record_ahead}
 use Rattle.cert_sched.proofs.OpenLaws.{unended_open}

@@ -7,7 +7,7 @@ use Rattle.roll_forward.specs.Rolling.{with_saved}
 use Rattle.page_waits.specs.Begun.{begun, BeginsFrom}
 use Rattle.bus_msg.specs.declared.entry.Entry.{Entry}
 use Rattle.cert_sched.specs.Record.{has_state}
-use Rattle.cert_sched.specs.Built.{MayStand}
+use Rattle.cert_sched.specs.Legal.{MayStand}
 use Rattle.cert_sched.specs.Legal.{IsLegalBy, Stands}
 use Rattle.cert_sched.specs.Simulation.{IsUnended}
 use Rattle.replay_laws.specs.rolling.Behind.{RollsBehind}

@@ -12,7 +12,7 @@ use Rattle.cert_sched.specs.Parts.{upto_last}
 use Rattle.cert_sched.specs.Deeds.{starts, start_of}
 use Rattle.cert_sched.specs.Record.{backup_record, has_state}
 use Rattle.cert_sched.specs.Steps.{page_count}
-use Rattle.cert_sched.specs.Built.{MayStand}
+use Rattle.cert_sched.specs.Legal.{MayStand}
 use Rattle.cert_sched.specs.Legal.{IsLegalBy, Stands}
 use Rattle.cert_sched.specs.Simulation.{IsUnended}
 use Rattle.replay_laws.proofs.rolling.ByRule.{built_stands, itself}

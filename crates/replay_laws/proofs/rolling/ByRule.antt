@@ -22,8 +22,7 @@ use Rattle.cert_sched.specs.Deeds.{is_cut, start_of, deeds_in, letter_for}
 use Rattle.cert_sched.specs.Steps.{silent_upto}
 use Rattle.cert_sched.specs.Record.{backup_record}
 use Rattle.cert_sched.specs.Rules.{is_over}
-use Rattle.cert_sched.specs.Legal.{IsLegalBy, Stands}
-use Rattle.cert_sched.specs.Built.{MayStand}
+use Rattle.cert_sched.specs.Legal.{IsLegalBy, Stands, MayStand}
 use Rattle.cert_sched.specs.Simulation.{IsUnended}
 use Rattle.cert_sched.specs.Rolling.{RollsAs}
 use Rattle.cert_sched.proofs.SpentLaws.{few_steps_after}

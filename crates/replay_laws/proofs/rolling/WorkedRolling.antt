@@ -24,8 +24,7 @@ use Rattle.cert_sched.specs.Told.{told}
 use Rattle.cert_sched.specs.Steps.{emission_at}
 use Rattle.cert_sched.specs.Rules.{is_over}
 use Rattle.cert_sched.specs.Rolling.{refilled, RollsAs}
-use Rattle.cert_sched.specs.Legal.{IsLegalBy}
-use Rattle.cert_sched.specs.Built.{MayStand}
+use Rattle.cert_sched.specs.Legal.{IsLegalBy, MayStand}
 use Rattle.cert_sched.specs.Simulation.{IsUnended}
 use Rattle.cert_sched.proofs.Systems.{cluster, two_system, two_words}
 use Rattle.replay_laws.specs.rolling.Behind.{RollsBehind}
@@ -54,8 +53,8 @@ log = letter ∷ loss ∷ []
 legal : IsLegalBy MayStand named_system log
 unfolding boot one_step steps silently plain_after placement told is_over emission_at IsLegalBy
 legal = (
-  record { stands = record { placed = (refl, refl, refl); by_right = refl; applies = refl; kind = refl }; built = refl; limits = refl; new_page = refl; pages = refl },
-  (record { stands = record { placed = (refl, refl, refl); by_right = refl; applies = refl; kind = refl }; built = refl; limits = refl; new_page = refl; pages = refl }, tt),
+  record { stands = record { placed = (refl, refl, refl); by_right = refl; applies = refl; kind = refl }; limits = refl; new_page = refl; pages = refl },
+  (record { stands = record { placed = (refl, refl, refl); by_right = refl; applies = refl; kind = refl }; limits = refl; new_page = refl; pages = refl }, tt),
 )
 
 -- ---- its way

@@ -11,8 +11,7 @@ ghost use Rattle.roll_forward.specs.RunsOut.{RunsOut, nothing_left};
 ghost use Rattle.roll_forward.specs.Advancing.{going, rolled_on};
 ghost use Rattle.cert_sched.specs.Schedule.{process_after};
 ghost use Rattle.cert_sched.specs.Rules.{is_over, keeps_limits};
-ghost use Rattle.cert_sched.specs.Legal.{IsLegalBy};
-ghost use Rattle.cert_sched.specs.Built.{MayStand};
+ghost use Rattle.cert_sched.specs.Legal.{IsLegalBy, MayStand};
 ghost use Rattle.cert_sched.specs.Simulation.{IsUnended};
 ghost use Rattle.replay_laws.specs.rolling.Behind.{RollsBehind};
 

@@ -14,8 +14,7 @@ ghost use Rattle.roll_forward.specs.Rolling.{started};
 ghost use Rattle.cert_sched.specs.Deeds.{start_of};
 ghost use Rattle.cert_sched.specs.Steps.{numbers_read};
 ghost use Rattle.cert_sched.specs.Record.{backup_record};
-ghost use Rattle.cert_sched.specs.Legal.{IsLegalBy};
-ghost use Rattle.cert_sched.specs.Built.{MayStand};
+ghost use Rattle.cert_sched.specs.Legal.{IsLegalBy, MayStand};
 ghost use Rattle.cert_sched.specs.Simulation.{IsUnended};
 
 /// A law and no code: a process of a log of what is built, which has not ended, starts again from the record that its

@@ -1,4 +1,4 @@
-use Rattle.cert_sched.specs.Built.{MayStand}
+use Rattle.cert_sched.specs.Legal.{MayStand}
 use Rattle.audit_rules.proofs.Printed.{printed_explained}
 use Rattle.audit_rules.proofs.explained.printed_runs_are_explained.Goals as goal
 

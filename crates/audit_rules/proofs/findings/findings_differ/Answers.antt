@@ -1,4 +1,4 @@
-use Rattle.cert_sched.specs.Built.{MayStand}
+use Rattle.cert_sched.specs.Legal.{MayStand}
 use Rattle.audit_rules.proofs.Found.{none_found, one_finding}
 use Rattle.audit_rules.proofs.findings.findings_differ.Goals as goal
 

@@ -1,7 +1,7 @@
 use Rattle.std.proofs.Common.{refl, Option, subst, sym}
 use Rattle.std.specs.Option.{IfSome}
 use Rattle.bus_msg.specs.declared.entry.Entry.{Entry}
-use Rattle.cert_sched.specs.Built.{MayStand}
+use Rattle.cert_sched.specs.Legal.{MayStand}
 use Rattle.entry_lines.specs.declared.told.Told.{Told}
 use Rattle.entry_lines.specs.declared.told.ToldWhat.TheVariants.{Mail}
 use Rattle.log_audit.specs.Decides.{Decides}

@@ -1,5 +1,5 @@
 use Rattle.std.proofs.Common.{sym, ◌∙◌, ◌++◌, ◌∷◌, []}
-use Rattle.cert_sched.specs.Built.{MayStand}
+use Rattle.cert_sched.specs.Legal.{MayStand}
 use Rattle.cert_sched.proofs.LogLaws.{IsLegal-snoc}
 use Rattle.log_laws.proofs.records.Standing.{built_stands}
 use Rattle.audited_log.proofs.common.Common.take.Goals as goal

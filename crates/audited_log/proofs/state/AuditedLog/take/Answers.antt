@@ -3,7 +3,7 @@ use Rattle.t32_base.specs.declared.process.Pid.{Pid}
 use Rattle.bus_msg.specs.Places.{Places}
 use Rattle.bus_msg.specs.PlacedAfter.{what}
 use Rattle.channel_table.specs.Changes.{CanBeAbsorbed}
-use Rattle.cert_sched.specs.Built.{MayStand}
+use Rattle.cert_sched.specs.Legal.{MayStand}
 use Rattle.cert_sched.proofs.LogLaws.{IsLegal-snoc}
 use Rattle.cert_sched.proofs.NextChildren.{may_be_absorbed}
 use Rattle.log_laws.proofs.records.Standing.{built_stands}

@@ -1,5 +1,5 @@
 use Rattle.log_laws.proofs.pages.StartPages.{built_waits, legal_waits}
-use Rattle.cert_sched.specs.Built.{MayStand}
+use Rattle.cert_sched.specs.Legal.{MayStand}
 use Rattle.cert_sched.specs.Legal.{MayFollow}
 use Rattle.checkpoint_laws.proofs.marks.AwaitedPages.{lacks_sent, lacks_kept}
 use Rattle.checkpoint_laws.proofs.marks.begun.lacking_pages_sends_none.Goals as goal

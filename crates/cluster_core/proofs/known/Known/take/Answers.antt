@@ -1,7 +1,7 @@
 use Rattle.std.proofs.Common.{◌∙◌, sym, ap, subst}
 use Rattle.bus_msg.specs.PlacedAfter.{what, placed_after}
 use Rattle.channel_table.specs.Changes.{CanBeAbsorbed}
-use Rattle.cert_sched.specs.Built.{MayStand}
+use Rattle.cert_sched.specs.Legal.{MayStand}
 use Rattle.cert_sched.proofs.LogLaws.{IsLegal-last, placement-snoc}
 use Rattle.cert_sched.proofs.NextChildren.{may_be_absorbed}
 use Rattle.cluster_core.proofs.births.FamilyNext.{can_join, family_next}

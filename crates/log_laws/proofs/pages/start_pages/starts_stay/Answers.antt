@@ -1,4 +1,4 @@
-use Rattle.cert_sched.specs.Built.{MayStand}
+use Rattle.cert_sched.specs.Legal.{MayStand}
 use Rattle.cert_sched.specs.Legal.{MayFollow}
 use Rattle.log_laws.proofs.pages.StartPages.{start_stays, page_in_log, built_waits, legal_waits, waits_uncut}
 use Rattle.log_laws.proofs.pages.start_pages.starts_stay.Goals as goal

@@ -1,5 +1,4 @@
-use Rattle.cert_sched.specs.Legal.{MayFollow}
-use Rattle.cert_sched.specs.Built.{MayStand}
+use Rattle.cert_sched.specs.Legal.{MayFollow, MayStand}
 use Rattle.log_laws.proofs.records.Standing.{legal_stands}
 use Rattle.log_laws.proofs.records.one_entry.legal_logs_stand.Goals as goal
 

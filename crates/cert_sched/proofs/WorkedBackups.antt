@@ -1,4 +1,4 @@
--- The rule of new backups is no part of the rules that are built: a fullback that a crash moved runs on without its new backup, and rests without it, by computation.
+-- The rule of new backups against all others: a fullback that a crash moved may neither run on nor rest without its new backup, by computation.
 use Rattle.std.proofs.Common.{◌≡◌, refl, List, [], ◌∷◌, Some, None, false}
 use Rattle.sys_calls.specs.Next.{silently}
 use Rattle.plain_kernel.specs.Kernel.{boot}
@@ -13,8 +13,7 @@ use Rattle.cert_sched.specs.Account.{account_after}
 use Rattle.cert_sched.specs.Steps.{silent_upto, emission_at, before_fork_at}
 use Rattle.cert_sched.specs.Rules.{is_over, keeps_backups}
 use Rattle.cert_sched.specs.Rests.{IsRestOf, owes_no_backup_at}
-use Rattle.cert_sched.specs.Legal.{MayFollow}
-use Rattle.cert_sched.specs.Built.{MayStand}
+use Rattle.cert_sched.specs.Legal.{MayFollow, MayStand}
 use Rattle.cert_sched.proofs.Systems.{cluster, two_words, full_system, wait_system}
 use Rattle.cert_sched.proofs.WorkedLogs.{pid, entry, by_cluster, writes, image_page, full_0, full_1, wait_0, wait_1, wait_stands_1}
 
@@ -43,10 +42,10 @@ bare_refused : MayFollow full_system bare_log bare_4 → ⊥
 unfolding placement told
 bare_refused h = let e = h.backup in cc
 
--- and a log of what is built does
+-- where all other rules are kept
 bare_goes_on : MayStand full_system bare_log bare_4
 unfolding boot one_step steps silently plain_after schedule_of placement told is_over silent_upto emission_at before_fork_at backup_record account_after
-bare_goes_on = record { stands = record { placed = (refl, refl, refl); by_right = refl; applies = refl; kind = refl }; built = refl; limits = refl; new_page = refl; pages = refl }
+bare_goes_on = record { stands = record { placed = (refl, refl, refl); by_right = refl; applies = refl; kind = refl }; limits = refl; new_page = refl; pages = refl }
 
 -- ---- a fullback that was moved waits for ever, and is owed a new backup
 
@@ -54,17 +53,16 @@ wait_breaks : keeps_backups wait_system (wait_0 ∷ []) (what wait_1) ≡ false
 unfolding placement told
 wait_breaks = refl
 
--- a log of what is built may end there
+-- all other rules are kept
 wait_ends : MayStand wait_system (wait_0 ∷ []) wait_1
 unfolding placement told
-wait_ends = record { stands = wait_stands_1; built = refl; limits = refl; new_page = refl; pages = refl }
+wait_ends = record { stands = wait_stands_1; limits = refl; new_page = refl; pages = refl }
 
--- its home may tell that all rests there, also that of the process that is owed a backup,
-wait_rests : IsRestOf wait_system (wait_0 ∷ []) (cluster 1) ((pid 16, 4) ∷ (pid 17, 4) ∷ [])
-unfolding boot one_step steps silently plain_after schedule_of placement told is_over silent_upto emission_at before_fork_at backup_record account_after
-wait_rests = record { named = refl; idle = refl }
-
--- of whom the rule of new backups would ask that there be none
+-- and its home may not tell that all rests there
 wait_owed : owes_no_backup_at wait_system (wait_0 ∷ []) (cluster 1) ≡ false
 unfolding placement told
 wait_owed = refl
+
+wait_rests_not : IsRestOf wait_system (wait_0 ∷ []) (cluster 1) ((pid 16, 4) ∷ (pid 17, 4) ∷ []) → ⊥
+unfolding placement told
+wait_rests_not h = let e = h.backed in cc
