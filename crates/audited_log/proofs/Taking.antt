@@ -30,7 +30,7 @@ use Rattle.cert_sched.proofs.LogLaws.{placement-snoc, told-snoc}
 use Rattle.cert_sched.proofs.StayingUnended.{before_unended}
 use Rattle.cert_sched.proofs.ThereLaws.{unended_not_born}
 use Rattle.line_laws.specs.Meant.{is_end}
-use Rattle.log_laws.proofs.records.Standing.{built_stands, itself}
+use Rattle.log_laws.proofs.records.Standing.{all_stand, itself}
 use Rattle.log_cuts.specs.Ahead.{IsAhead}
 use Rattle.audited_process.specs.declared.audited.Audited.{Audited}
 use Rattle.audited_process.specs.Audited.{BeginsAsChild}
@@ -74,7 +74,7 @@ module _ (system : System) (log : List Entry) (e : Entry) (valid : is_system sys
   here = placement system log
 
   pub not_born : (p : Pid) → IsUnended system log p → is_birth_of p (what e) ≡ false
-  not_born p unended = unended_not_born Stands itself system log e p valid (built_stands system log legal) may.stands unended
+  not_born p unended = unended_not_born Stands itself system log e p valid (all_stand system log legal) may.stands unended
 
   pub stays : (p : Pid) → IsUnended system log p → is_exit_of p (what e) ≡ false → IsUnended system more p
   stays p unended stay = ap (λ places. is_some (unended_at places p)) (placement-snoc system log e) ∙ still_unended (what e) here p (not_born p unended) stay unended

@@ -22,7 +22,7 @@ use Rattle.cert_sched.proofs.CameLaws.{same_of}
 use Rattle.cert_sched.proofs.FreshLaws.{born_rightly, child_new, numbered}
 use Rattle.cert_sched.proofs.UnplacedLaws.{never_moved}
 use Rattle.log_laws.proofs.pages.OneEntry.{moves_none}
-use Rattle.log_laws.proofs.records.Standing.{built_stands, itself}
+use Rattle.log_laws.proofs.records.Standing.{all_stand, itself}
 use Rattle.backup_laws.proofs.Since.{was_moved-snoc}
 use Rattle.log_cuts.specs.SentPages.{NoneSent}
 use Rattle.log_cuts.specs.Start.{KeepsStart}
@@ -99,6 +99,6 @@ begins_as_child s a at system log e p valid legal may bears there = record {
   there = there ∙ ap Some (sym at.there);
   begun = starts_here system log e p s false a.begun at.begun (ap (λ b. is_cut p (what e) || b) bears ∙ or_true (is_cut p (what e))) there
       (by_birth (λ q. process_after system (log ++ e ∷ []) q ≡ Some s → KeepsStart q (a.begun).start system (log ++ e ∷ [])) e p bears
-      (λ parent n child end is now. ((at.begun).start).born system log e parent n child end valid (built_stands system log legal) may.stands is (at.begun).stated now) there);
-  since_moved = (at.unmoved).born system log e p valid (built_stands system log legal) may.stands bears;
+      (λ parent n child end is now. ((at.begun).start).born system log e parent n child end valid (all_stand system log legal) may.stands is (at.begun).stated now) there);
+  since_moved = (at.unmoved).born system log e p valid (all_stand system log legal) may.stands bears;
 }

@@ -13,7 +13,7 @@ use Rattle.cert_sched.specs.Schedule.{placement}
 use Rattle.cert_sched.specs.Told.{cluster_lost, is_moved}
 use Rattle.cert_sched.specs.Legal.{IsLegalBy, MayStand}
 use Rattle.cert_sched.specs.Simulation.{IsUnended}
-use Rattle.cert_sched.proofs.DoneLaws.{built_apart}
+use Rattle.cert_sched.proofs.DoneLaws.{stand_apart}
 use Rattle.log_laws.specs.pages.Next.{moves_next}
 use Rattle.backup_laws.proofs.Modes.{moved_is}
 use Rattle.log_cuts.specs.SentPages.{NoneSent, PutsPage}
@@ -50,7 +50,7 @@ moved_so system log e p valid legal unended = by_loss (cluster_lost (what e))
     by_loss None = refl
     by_loss (Some k) =
         let f = found (placement system log) p unended in
-        moved_is (placement system log) p k f.at (built_apart system log valid legal) f.is ∙ ap (λ o. option_map_or (is_moved_by k) o false) (sym f.is)
+        moved_is (placement system log) p k f.at (stand_apart system log valid legal) f.is ∙ ap (λ o. option_map_or (is_moved_by k) o false) (sym f.is)
 
 -- ---- the pages
 

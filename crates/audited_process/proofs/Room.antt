@@ -26,7 +26,7 @@ use Rattle.cert_sched.proofs.ThereLaws.{unended_there}
 use Rattle.log_laws.specs.letters.Numbered.{are_above, are_below, are_in_order, are_numbered}
 use Rattle.log_laws.proofs.letters.LogReads.{all_saved_numbered}
 use Rattle.log_laws.proofs.records.Counts.{arrived_fit}
-use Rattle.log_laws.proofs.records.Standing.{built_stands, itself}
+use Rattle.log_laws.proofs.records.Standing.{all_stand, itself}
 use Rattle.audited_process.specs.declared.audited.Audited.{Audited}
 use Rattle.audited_process.specs.Concerns.{goes_on}
 use Rattle.audited_process.specs.Audited.{IsLedBy}
@@ -77,7 +77,7 @@ module _ (system : System) (log : List Entry) (e : Entry) (p : Pid) (a : Audited
   then = all_delivered (state_of a.process) came
 
   legal_more : IsLegalBy Stands system more
-  legal_more = built_stands system more (IsLegal-snoc MayStand system log e legal may)
+  legal_more = all_stand system more (IsLegal-snoc MayStand system log e legal may)
 
   unended_more : IsUnended system more p
   unended_more = stays_unended system log e p valid legal may unended goes
@@ -92,12 +92,12 @@ module _ (system : System) (log : List Entry) (e : Entry) (p : Pid) (a : Audited
       omega (arith, all, others, next)
 
   few_saved : length (saved_of system log p) ≤ arrived_count log p
-  few_saved = by_process (process_after system log p) refl (unended_there Stands itself system log p valid (built_stands system log legal) unended)
+  few_saved = by_process (process_after system log p) refl (unended_there Stands itself system log p valid (all_stand system log legal) unended)
     where
       by_process : (o : Option ProcState) → process_after system log p ≡ o → is_some o ≡ true → length (saved_of system log p) ≤ arrived_count log p
       by_process None there some = absurd (true≢false (sym some))
       by_process (Some now) there some =
-          let before = built_stands system log legal in
+          let before = all_stand system log legal in
           few_numbered (arrived_count log p) (saved_of system log p)
           (all_saved_numbered system log p now valid before there (unended_open Stands itself system log p valid before unended now there))
 

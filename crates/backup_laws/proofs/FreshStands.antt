@@ -24,7 +24,7 @@ use Rattle.cert_sched.proofs.RecordLaws.{arrived_count-other, backup_record-cut}
 use Rattle.cert_sched.proofs.StepLaws.{silent_applies, silent_from, process_after-silent}
 use Rattle.cert_sched.proofs.RollLaws.{all_roll, rolls_next}
 use Rattle.cert_sched.proofs.OpenLaws.{unended_open}
-use Rattle.cert_sched.proofs.BuiltCuts.{by_home_there}
+use Rattle.cert_sched.proofs.CutLaws.{by_home_there}
 use Rattle.log_laws.proofs.records.Standing.{itself}
 use Rattle.checkpoint_laws.specs.posts.Sending.{MaySend}
 use Rattle.backup_mode.specs.Posts.{fresh_post, renewed_record}

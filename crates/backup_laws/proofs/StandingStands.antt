@@ -26,7 +26,7 @@ use Rattle.cert_sched.specs.Legal.{IsLegal, IsLegalBy, MayFollow, Stands}
 use Rattle.cert_sched.specs.Simulation.{IsUnended}
 use Rattle.cert_sched.proofs.LogLaws.{IsLegal-snoc, no_items, placement-snoc}
 use Rattle.cert_sched.proofs.Induction.{legal_induction}
-use Rattle.cert_sched.proofs.BuiltCuts.{by_home_there}
+use Rattle.cert_sched.proofs.CutLaws.{by_home_there}
 use Rattle.cert_sched.proofs.CameLaws.{same_of}
 use Rattle.cert_sched.proofs.FreshLaws.{Numbered, numbered_more, born_rightly, child_new}
 use Rattle.cert_sched.proofs.UnplacedLaws.{never_moved}

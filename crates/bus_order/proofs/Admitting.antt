@@ -4,7 +4,7 @@ use Rattle.t32_base.specs.declared.process.ClusterNo.{ClusterNo}
 use Rattle.bus_msg.specs.declared.entry.Post.{Post}
 use Rattle.cert_sched.specs.Rules.{is_over}
 use Rattle.cert_sched.specs.Appended.{entry_of}
-use Rattle.cert_sched.specs.Legal.{MayStand}
+use Rattle.cert_sched.specs.Legal.{MayFollow}
 use Rattle.bus_order.specs.declared.marks.Mark.{Mark}
 use Rattle.bus_order.specs.View.{BusView, IsMarkOf, MayIdle, MayTransmit, after_words}
 use Rattle.bus_order.proofs.Looking.{Grown, grown, same_log}
@@ -32,10 +32,10 @@ module _ (old mid : BusView) (cursor : ℕ) (same : mid ≡ after_words old) (se
       (subst (λ ws. IsMarkOf old.system ws mid.log by m) (sym g.script)
       (subst (λ l. IsMarkOf old.system old.script l by m) (sym log) (may.may open_before seen_before)))
 
-  pub post_after : (by : ClusterNo) (post : Post) → MayTransmit old by cursor post → MayStand mid.system mid.log (entry_of mid.system mid.log post)
+  pub post_after : (by : ClusterNo) (post : Post) → MayTransmit old by cursor post → MayFollow mid.system mid.log (entry_of mid.system mid.log post)
   post_after by post may =
-      subst (λ s. MayStand s mid.log (entry_of s mid.log post)) (sym g.system)
-      (subst (λ l. MayStand old.system l (entry_of old.system l post)) (sym log) (may.may open_before seen_before))
+      subst (λ s. MayFollow s mid.log (entry_of s mid.log post)) (sym g.system)
+      (subst (λ l. MayFollow old.system l (entry_of old.system l post)) (sym log) (may.may open_before seen_before))
 
   pub has_after : (by : ClusterNo) (m : Mark) → MayIdle old by cursor m → by.0 < (mid.system).clusters
   has_after by m may = subst (λ s. by.0 < s.clusters) (sym g.system) may.has

@@ -1,7 +1,6 @@
 use Rattle.std.proofs.Common.{◌≡◌, ◌≤◌, sym, arith, List, [], ◌∷◌, length, true, true≢false}
 use Rattle.sys_text.specs.declared.system.System.{System}
 use Rattle.bus_msg.specs.declared.entry.Entry.{Entry}
-use Rattle.cert_sched.specs.Legal.{IsLegalBy}
 use Rattle.cert_sched.specs.Scripted.{is_closed}
 
 -- ---- a log without a loss
@@ -10,7 +9,3 @@ use Rattle.cert_sched.specs.Scripted.{is_closed}
 pub closed_long : (log : List Entry) → is_closed log ≡ true → 1 ≤ length log
 closed_long [] h = absurd (true≢false (sym h))
 closed_long (e ∷ log) h = omega arith
-
-pub none_unlost : (system : System) → IsLegalBy UnlostMayFollow system []
-unfolding IsLegalBy
-none_unlost system = tt

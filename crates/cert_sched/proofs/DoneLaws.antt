@@ -32,7 +32,7 @@ use Rattle.cert_sched.proofs.RisingLaws.{NoTwo, rising-any, rising-apart}
 use Rattle.cert_sched.proofs.PidLaws.{placed_pids, apart_fewer}
 use Rattle.cert_sched.proofs.FreshLaws.{numbered}
 use Rattle.cert_sched.proofs.RunsLaws.{rest_pids, led, led-silent_upto, after_runs, RunsTo, runs_made}
-use Rattle.cert_sched.proofs.EndedLaws.{EndsTold, built_ended}
+use Rattle.cert_sched.proofs.EndedLaws.{EndsTold, stand_ended}
 use Rattle.cert_sched.proofs.StillLaws.{still_where_none_acts, acts}
 use Rattle.cert_sched.proofs.Applied.{legal_applies}
 use Rattle.proc_state.specs.Mail.{first_signal}
@@ -47,8 +47,8 @@ pub record AllRest (system : System) (log : List Entry) (rests : List (Pid × �
 -- ---- the pids
 
 -- no two processes of such a log have one pid
-pub built_apart : (system : System) (log : List Entry) → is_system system ≡ true → IsLegalBy MayStand system log → NoTwo (placed_pids (placement system log).placed)
-built_apart system log valid legal = (numbered MayStand (λ system log e may. may.stands) system log valid legal).two
+pub stand_apart : (system : System) (log : List Entry) → is_system system ≡ true → IsLegalBy MayStand system log → NoTwo (placed_pids (placement system log).placed)
+stand_apart system log valid legal = (numbered MayStand (λ system log e may. may.stands) system log valid legal).two
 
 -- a process that is none of those that have not ended is not found among them
 unnamed : (qs : List Placed) (p : Pid) → list_any (λ m. eqb m p.0) (placed_pids (filter (λ (q : Placed). not q.ended) qs)) ≡ false → find (λ (q : Placed). same_pid q.pid p && not q.ended) qs ≡ None
@@ -116,7 +116,7 @@ done_kernel : (system : System) (log : List Entry) (rests : List (Pid × ℕ)) �
 done_kernel system log rests valid legal rest = by_kernel (plain_after system log) refl (legal_applies system log legal)
   where
     two : NoTwo (rest_pids rests)
-    two = subst NoTwo (sym rest.named) (rising-apart (placed_pids (unended_in (placement system log))) (apart_fewer (λ (q : Placed). not q.ended) (placement system log).placed (built_apart system log valid legal)))
+    two = subst NoTwo (sym rest.named) (rising-apart (placed_pids (unended_in (placement system log))) (apart_fewer (λ (q : Placed). not q.ended) (placement system log).placed (stand_apart system log valid legal)))
 
     by_kernel : (o : Option Kernel) → plain_after system log ≡ o → is_some o ≡ true → DoneKernel system log rests
     by_kernel None is e = absurd (true≢false (sym e))
@@ -130,7 +130,7 @@ done_still system log rests legal goes_on rest d =
     still_where_none_acts (d.runs).to (plain_after-rising system (log ++ done_entry system log rests ∷ []) (d.runs).to d.after) none_moves
   where
     told : EndsTold system log
-    told = built_ended system log legal goes_on
+    told = stand_ended system log legal goes_on
 
     idle : list_all (λ r. option_map_or is_idle (led d.kernel r) false) rests ≡ true
     idle = list_all-weaker (is_idle_at system log) (λ r. option_map_or is_idle (led d.kernel r) false)

@@ -33,7 +33,7 @@ use Rattle.cert_sched.proofs.FreshLaws.{clusters_stay}
 use Rattle.cert_sched.proofs.ThereLaws.{found_among}
 use Rattle.cert_sched.proofs.LiveLaws.{homes_live}
 use Rattle.cert_sched.proofs.RunsLaws.{rest_pids}
-use Rattle.cert_sched.proofs.DoneLaws.{AllRest, built_apart}
+use Rattle.cert_sched.proofs.DoneLaws.{AllRest, stand_apart}
 
 -- ---- the clusters
 
@@ -47,8 +47,8 @@ clusters-length May system log legal =
     ap (λ (p : Places). length p.clusters) (placement-snoc system log e)
     ∙ clusters_stay (what e) (placement system log) ∙ same) log legal
 
-pub built_clusters-length : (system : System) (log : List Entry) → IsLegalBy MayStand system log → length (placement system log).clusters ≡ system.clusters
-built_clusters-length = clusters-length MayStand
+pub stand_clusters-length : (system : System) (log : List Entry) → IsLegalBy MayStand system log → length (placement system log).clusters ≡ system.clusters
+stand_clusters-length = clusters-length MayStand
 
 -- a cluster that lives is one of them
 pub lives_within : (places : Places) (k : ClusterNo) → lives_in places k ≡ true → k.0 < length places.clusters
@@ -86,18 +86,18 @@ each_found t (q ∷ qs) two found = and_from (q.ended || t q.home) (all_at t qs)
 -- each process that has not ended is at home in a cluster that lives
 homes_lived : (system : System) (log : List Entry) → is_system system ≡ true → IsLegalBy MayStand system log → is_over system log ≡ false → all_at (lives_in (placement system log)) (placement system log).placed ≡ true
 homes_lived system log valid legal goes_on =
-    each_found (lives_in (placement system log)) (placement system log).placed (built_apart system log valid legal)
+    each_found (lives_in (placement system log)) (placement system log).placed (stand_apart system log valid legal)
     (homes_live MayStand (λ system log e may. may.stands) system log valid legal goes_on)
 
 -- its number is below theirs
-built_homes : (system : System) (log : List Entry) → is_system system ≡ true → IsLegalBy MayStand system log → is_over system log ≡ false → all_at (λ k. ltb k.0 system.clusters) (placement system log).placed ≡ true
-built_homes system log valid legal goes_on =
+stand_homes : (system : System) (log : List Entry) → is_system system ≡ true → IsLegalBy MayStand system log → is_over system log ≡ false → all_at (λ k. ltb k.0 system.clusters) (placement system log).placed ≡ true
+stand_homes system log valid legal goes_on =
     list_all-weaker (λ (q : Placed). q.ended || lives_in (placement system log) q.home) (λ (q : Placed). q.ended || ltb (q.home).0 system.clusters) (λ q. weaker q q.ended) (placement system log).placed (homes_lived system log valid legal goes_on)
   where
     weaker : (q : Placed) (b : Bool) → (b || lives_in (placement system log) q.home) ≡ true → (b || ltb (q.home).0 system.clusters) ≡ true
     weaker q true h = refl
     weaker q false h =
-        let within : (q.home).0 < system.clusters = omega (arith, lives_within (placement system log) q.home h, built_clusters-length system log legal) in
+        let within : (q.home).0 < system.clusters = omega (arith, lives_within (placement system log) q.home h, stand_clusters-length system log legal) in
         grind (arith, nat_tests)
 
 -- no process that has not ended is at home in a cluster of another kind
@@ -218,7 +218,7 @@ all_rest system log rests_in rests valid legal goes_on rest merges = record {
       merges.named ∙ ap rising (pids-flat_map rests_in (range_with_len 0 system.clusters))
       ∙ ap rising (along (λ k. rest_pids (rests_in k)) (λ k. rising (pids_at (placement system log).placed k)) 0 system.clusters (λ k within. (rest k (omega (arith, within))).named))
       ∙ rising-parts (pids_at (placement system log).placed) (range_with_len 0 system.clusters)
-      ∙ rising_homes system.clusters (placement system log).placed (built_homes system log valid legal goes_on);
+      ∙ rising_homes system.clusters (placement system log).placed (stand_homes system log valid legal goes_on);
   idle = merges.each (is_idle_at system log) (all_parts (is_idle_at system log) rests_in 0 system.clusters (λ k within. (rest k (omega (arith, within))).idle));
 }
 
@@ -228,4 +228,4 @@ pub none_owed : (system : System) (log : List Entry) → is_system system ≡ tr
 none_owed system log valid legal goes_on each =
     all_placed (λ q. is_none (next_backup (placement system log) q)) system.clusters (placement system log).placed
     (λ q ended. ap (λ b. is_none (cond (b || is_some q.backup) None (backup_by_mode (placement system log) q q.mode))) ended)
-    (built_homes system log valid legal goes_on) each
+    (stand_homes system log valid legal goes_on) each

@@ -363,16 +363,16 @@ pub legal_limits : IsLimitingRule MayFollow
 legal_limits system log e may = (may.stands, may.limits)
 
 -- and by those of what is built
-pub built_limits : IsLimitingRule MayStand
-built_limits system log e may = (may.stands, may.limits)
+pub stand_limits : IsLimitingRule MayStand
+stand_limits system log e may = (may.stands, may.limits)
 
 -- in a legal log each process that has not ended is within the limits of its last cut
 pub all_limited : (system : System) (log : List Entry) → is_system system ≡ true → IsLegal system log → AllLimited system log
 all_limited = all_limited_by MayFollow legal_limits
 
 -- and in a log of what is built
-pub built_limited : (system : System) (log : List Entry) → is_system system ≡ true → IsLegalBy MayStand system log → AllLimited system log
-built_limited = all_limited_by MayStand built_limits
+pub stand_limited : (system : System) (log : List Entry) → is_system system ≡ true → IsLegalBy MayStand system log → AllLimited system log
+stand_limited = all_limited_by MayStand stand_limits
 
 -- ---- its record
 
@@ -417,6 +417,6 @@ pub record_ahead : (system : System) (log : List Entry) (p : Pid) (now : ProcSta
 record_ahead = record_ahead_by MayFollow legal_limits
 
 -- and in a log of what is built
-pub built_record_ahead : (system : System) (log : List Entry) (p : Pid) (now : ProcState) (r : BackRec) → is_system system ≡ true → IsLegalBy MayStand system log → process_after system log p ≡ Some now
+pub stand_record_ahead : (system : System) (log : List Entry) (p : Pid) (now : ProcState) (r : BackRec) → is_system system ≡ true → IsLegalBy MayStand system log → process_after system log p ≡ Some now
     → has_ended (now.small).status ≡ false → (leads : RecordLeads system log p r now) → backup_record system log p ≡ Some r → Ahead system r leads.there leads.ahead
-built_record_ahead = record_ahead_by MayStand built_limits
+stand_record_ahead = record_ahead_by MayStand stand_limits

@@ -46,7 +46,7 @@ use Rattle.cluster_core.specs.Owed.{owed_after}
 use Rattle.cluster_core.specs.Work.{AnswersNext, child_of, fetch_post, owes_answer}
 use Rattle.residents.specs.Asking.{AsksNext, any_lacks}
 use Rattle.standing_backups.specs.Standing.{IsNextStanding}
-use Rattle.cluster_core.specs.Follows.{FollowsBuilt, IsOpen, StandsBetween}
+use Rattle.cluster_core.specs.Follows.{Follows, IsOpen, StandsBetween}
 use Rattle.residents.specs.Arriving.{with_letter, with_page_come}
 use Rattle.residents.specs.Told.{rests_in}
 
@@ -69,17 +69,17 @@ pub record IsFirst (system : System) (number : ClusterNo) (c : ClusterView) : Ty
 pub record FollowsSome (c : ClusterView) : Type 0 where
   pub log : List Entry
   pub open_log : IsOpen MayStand c.system log
-  pub follows : FollowsBuilt c.system log c
+  pub follows : Follows c.system log c
 
 -- every log that the cluster followed it follows still
 abbrev pub GoesOn : ClusterView → ClusterView → Type 0
-GoesOn old new = (log : List Entry) → IsOpen MayStand old.system log → FollowsBuilt old.system log old → FollowsBuilt old.system log new
+GoesOn old new = (log : List Entry) → IsOpen MayStand old.system log → Follows old.system log old → Follows old.system log new
 
 -- the cluster follows the log, and the entry is not its own; or it has sent the entry, and follows it next
 abbrev pub IsReady : List Entry → Entry → ClusterView → Type 0
 IsReady log e c =
-    (FollowsBuilt c.system log c × (is_by_cluster c.number e ≡ false) × (is_crash_of c.number (what e) ≡ false))
-    ⊎ StandsBetween FollowsBuilt c.system log e c
+    (Follows c.system log c × (is_by_cluster c.number e ≡ false) × (is_crash_of c.number (what e) ≡ false))
+    ⊎ StandsBetween Follows c.system log e c
 
 -- the entry is the next one of some log, for which the cluster is ready
 pub record ReadyFor (e : Entry) (c : ClusterView) : Type 0 where
@@ -92,7 +92,7 @@ pub record ReadyFor (e : Entry) (c : ClusterView) : Type 0 where
 abbrev pub Absorbs : Entry → ClusterView → ClusterView → Type 0
 Absorbs e old new =
     (log : List Entry) → IsOpen MayStand old.system log → IsOpen MayStand old.system (log ++ e ∷ []) → IsReady log e old →
-    FollowsBuilt old.system (log ++ e ∷ []) new
+    Follows old.system (log ++ e ∷ []) new
 
 -- what an entry that was taken in makes of the processes here: a letter arrives, a process that ended is here no more, a page comes, and a parent has forked
 abbrev pub here_after : What → List (Pid × Held) → List (Pid × Held)
@@ -131,7 +131,7 @@ rests_of c = rests_in c.here
 
 -- where nothing is to be sent, these are the processes that rest here, in each log that the cluster follows
 abbrev pub RestsIn : ClusterView → List (Pid × ℕ) → Type 0
-RestsIn c rests = c.queue ≡ [] → (log : List Entry) → IsOpen MayStand c.system log → FollowsBuilt c.system log c → IsRestOf c.system log c.number rests
+RestsIn c rests = c.queue ≡ [] → (log : List Entry) → IsOpen MayStand c.system log → Follows c.system log c → IsRestOf c.system log c.number rests
 
 -- one process made 1 to 64 steps, of which none sent anything that was not withheld, and nothing else changed but children whose forks were made again
 pub record MovedOne (old new : ClusterView) : Type 0 where
@@ -197,11 +197,11 @@ pub record QueuesBirth (old new : ClusterView) : Type 0 where
 
 -- a fetch waits, in each log that the cluster follows
 abbrev pub WaitsForPages : ClusterView → Type 0
-WaitsForPages c = (log : List Entry) → IsOpen MayStand c.system log → FollowsBuilt c.system log c → waiting_fetches c.system log ≢ []
+WaitsForPages c = (log : List Entry) → IsOpen MayStand c.system log → Follows c.system log c → waiting_fetches c.system log ≢ []
 
 -- none does where it is the first of the page servers that live, in each such log
 abbrev pub OwesNoAnswer : ClusterView → Type 0
-OwesNoAnswer c = (log : List Entry) → IsOpen MayStand c.system log → FollowsBuilt c.system log c → first_of (servers_in (placement c.system log)) ≡ Some c.number → waiting_fetches c.system log ≡ []
+OwesNoAnswer c = (log : List Entry) → IsOpen MayStand c.system log → Follows c.system log c → first_of (servers_in (placement c.system log)) ≡ Some c.number → waiting_fetches c.system log ≡ []
 
 -- the new backup of the first family here that waits for it is queued
 pub record QueuesStanding (old new : ClusterView) : Type 0 where

@@ -2,12 +2,12 @@
 use Rattle.std.specs.Prelude.{◌≡◌, ◌⊎◌, true, false, List, Some, option_map}
 use Rattle.sys_text.specs.declared.system.System.{System}
 use Rattle.bus_msg.specs.declared.entry.Entry.{Entry}
-use Rattle.cert_sched.specs.Legal.{IsLegalBy, MayFollow}
+use Rattle.cert_sched.specs.Legal.{IsLegalBy}
 use Rattle.cert_sched.specs.Rules.{is_over}
 use Rattle.cluster_core.specs.View.{ClusterView, head_of, after_sent}
 use Rattle.cert_sched.specs.Appended.{entry_of}
 use Rattle.cluster_core.specs.Queue.{IsQueued}
-use Rattle.cluster_core.specs.Sent.{SentMayFollow}
+use Rattle.cluster_core.specs.Sent.{SentMayStand}
 use Rattle.cluster_core.specs.Syncing.{Synchronises}
 use Rattle.cluster_core.specs.Bearing.{BearsChild}
 use Rattle.cluster_core.specs.HandingOn.{HandsOver}
@@ -16,28 +16,18 @@ use Rattle.cluster_core.specs.Families.{HoldsFamily}
 use Rattle.cluster_core.specs.Owed.{HoldsOwed}
 use Rattle.cluster_core.specs.Standing.{HoldsBackups}
 use Rattle.cluster_core.specs.ForksAgain.{HoldsForks}
-use Rattle.cluster_core.specs.Holds.{HoldsLog, HoldsProcesses, HoldsQueue, HoldsSteps, HoldsLimits, HoldsPages, HoldsMarks, IsMarked, CarriesMarks, HoldsRecords, HoldsAccounts, HasNotFailed}
-
--- all that a cluster holds
-pub record Follows (system : System) (entries : List Entry) (c : ClusterView) : Type 0 where
-  pub log : HoldsLog system entries c
-  pub processes : HoldsProcesses system entries c
-  pub queue : HoldsQueue MayFollow system entries c
-  pub steps : HoldsSteps entries c
-  pub pages : HoldsPages system entries c
-  pub marks : HoldsMarks IsMarked system entries c
-  pub records : HoldsRecords system entries c
-  pub accounts : HoldsAccounts system entries c
+use Rattle.cluster_core.specs.Holds.{HoldsLog, HoldsProcesses, HoldsQueue, HoldsSteps, HoldsLimits, HoldsPages, HoldsMarks, CarriesMarks, HoldsRecords, HoldsAccounts, HasNotFailed}
 
 -- what is queued is nothing, or one post that is sent alone, or the rest of a batch, or a birth, or the new backup of a family that was moved, or the rest of what brings a process that has run its new backup
 abbrev pub QueuedIn : System → List Entry → ClusterView → Type 0
 QueuedIn system log c = IsQueued c.queue ⊎ Synchronises system log c ⊎ BearsChild system log c ⊎ HandsOver c ⊎ Renews system log c
 
--- The lines that are built so far, for logs of the entries that are built so far.
-pub record FollowsBuilt (system : System) (entries : List Entry) (c : ClusterView) : Type 0 where
+-- All that a cluster holds. Each post that is queued may stand next by all rules but that of new backups; that it keeps this too follows from the lines on the
+-- processes here (`heads_may_follow`).
+pub record Follows (system : System) (entries : List Entry) (c : ClusterView) : Type 0 where
   pub log : HoldsLog system entries c
   pub processes : HoldsProcesses system entries c
-  pub queue : HoldsQueue SentMayFollow system entries c
+  pub queue : HoldsQueue SentMayStand system entries c
   pub queued : QueuedIn system entries c
   pub steps : HoldsSteps entries c
   pub limits : HoldsLimits system c

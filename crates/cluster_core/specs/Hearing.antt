@@ -23,7 +23,7 @@ use Rattle.cluster_core.specs.ForksAgain.{HoldsForks}
 use Rattle.cluster_core.specs.Holds.{CarriesMarks, HasNotFailed, HoldsAccounts, HoldsLimits, HoldsMarks, HoldsPages, HoldsProcesses, HoldsQueue, HoldsRecords}
 use Rattle.cluster_core.specs.Parts.{AllOwn}
 use Rattle.cluster_core.specs.Owed.{HoldsOwed}
-use Rattle.cluster_core.specs.Sent.{SentMayFollow}
+use Rattle.cluster_core.specs.Sent.{SentMayStand}
 use Rattle.cluster_core.specs.Standing.{HoldsBackups}
 use Rattle.cluster_core.specs.Queue.{are_plain}
 use Rattle.cluster_core.specs.Follows.{QueuedIn}
@@ -87,7 +87,7 @@ pub record FollowsHeard (system : System) (entries : List Entry) (c : ClusterVie
   pub lives : lives_in (placement system entries) c.number ≡ true
   pub log : HasHeard system entries c
   pub processes : HoldsProcesses system entries c
-  pub queue : HoldsQueue SentMayFollow system entries c
+  pub queue : HoldsQueue SentMayStand system entries c
   pub queued : QueuedIn system entries c
   pub plain : are_plain c.queue ≡ true
   pub steps : CountsHeard entries c

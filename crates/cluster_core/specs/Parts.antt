@@ -46,4 +46,4 @@ pub record IsSound (system : System) (number : ClusterNo) (cursor : ℕ) (places
   pub duty_are : duty ≡ duty_in (limits_of system) places here
   pub residents : AllOwn cursor here
   pub own : list_all (λ (post : Post). is_from number post.by) queue ≡ true
-  pub built : list_all (λ (post : Post). is_sent post.what) queue ≡ true
+  pub of_kind : list_all (λ (post : Post). is_sent post.what) queue ≡ true

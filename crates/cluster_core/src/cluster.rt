@@ -7,7 +7,7 @@ ghost use Rattle.cert_sched.specs.Scripted.{is_server};
 ghost use Rattle.page_accounts.specs.Booting.{IsAhead};
 ghost use Rattle.cluster_core.specs.Serving.{HurtsServer, IsFailing};
 ghost use Rattle.cluster_core.specs.View.{head_of, after_sent, renewed_by, renewed_by_head, counted_once, disk_calls, failed_at, failing_in, tried_once, with_server};
-ghost use Rattle.cluster_core.specs.Follows.{FollowsBuilt};
+ghost use Rattle.cluster_core.specs.Follows.{Follows};
 ghost use Rattle.cluster_core.specs.Returned.{returned};
 ghost use Rattle.cluster_core.specs.Calls.{Absorbs, absorbed, FollowsSome, GoesOn, HurtBy, HurtIs, is_resting, IsFirst, KeepsPlace, ReadyFor, RestsIn, rests_of, StopsBy, WorkIs};
 
@@ -127,7 +127,7 @@ impl<D: PageDisk + Drop> Cluster<D> {
         requires valid { is_system (arc_value system.now) ≡ true }
         requires has { number.0 < (arc_value system.now).clusters }
         requires disk { is_some disk ≡ is_server (arc_value system.now) number }
-        ensures follows { IfOk result (λ c. c.failed ≡ None → IfSome disk (λ d. IsAhead (D.counts d)) → FollowsBuilt (arc_value system.now) [] c) }
+        ensures follows { IfOk result (λ c. c.failed ≡ None → IfSome disk (λ d. IsAhead (D.counts d)) → Follows (arc_value system.now) [] c) }
         ensures begins { IfOk result (IsFirst (arc_value system.now) number) }
         ensures disk { IfOk result (λ c. failing_in c.server ≡ option_map (λ d. (D.counts d).failing) disk) }
         ensures fails { IfOk result (λ c. IfSome c.failed (λ call. IsFailing c.server call × (c.here ≡ []))) }

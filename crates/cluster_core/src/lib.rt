@@ -6,6 +6,7 @@ mod booting;
 pub mod cluster;
 mod falling;
 mod families;
+pub mod heads;
 pub mod hearing;
 pub mod hurt;
 pub mod joined;

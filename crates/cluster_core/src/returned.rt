@@ -9,7 +9,7 @@ ghost use Rattle.bus_msg.specs.PlacedAfter.{what};
 ghost use Rattle.cert_sched.specs.Legal.{IsLegalBy, Stands};
 ghost use Rattle.cert_sched.specs.Schedule.{placement};
 ghost use Rattle.log_laws.specs.births.Unsynced.{unsynced_births};
-ghost use Rattle.cluster_core.specs.Follows.{FollowsBuilt};
+ghost use Rattle.cluster_core.specs.Follows.{Follows};
 ghost use Rattle.cluster_core.specs.Returned.{returned};
 
 /// A law and no code: a cluster that has come back follows the log up to its return, with the placement and the children that
@@ -17,5 +17,5 @@ ghost use Rattle.cluster_core.specs.Returned.{returned};
 pub fn returned_clusters_follow()
     ensures { (system : System) (log : List Entry) (e : Entry) (k : ClusterNo) (steps : ℕ) → is_system system ≡ true
         → IsLegalBy Stands system (log ++ e ∷ []) → what e ≡ Return k
-        → FollowsBuilt system (log ++ e ∷ []) (returned system k (placement system (log ++ e ∷ [])) (unsynced_births system (log ++ e ∷ [])) (length (log ++ e ∷ [])) steps) }
+        → Follows system (log ++ e ∷ []) (returned system k (placement system (log ++ e ∷ [])) (unsynced_births system (log ++ e ∷ [])) (length (log ++ e ∷ [])) steps) }
 {}

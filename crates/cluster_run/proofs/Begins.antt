@@ -15,7 +15,7 @@ use Rattle.bus_order.specs.Script.{off_at, place_of_loss, turns}
 use Rattle.bus_order.proofs.OffLaws.{off_taken}
 use Rattle.script_laws.specs.Off.{comes_back}
 use Rattle.script_laws.proofs.Alternating.{back_follows, off_behind, stood_at}
-use Rattle.script_laws.proofs.OffLosses.{built_stands}
+use Rattle.script_laws.proofs.OffLosses.{all_stand}
 use Rattle.script_laws.proofs.OffSince.{turns_parts}
 use Rattle.cluster_turns.specs.Along.{StaysAlive}
 use Rattle.cluster_turns.specs.Lives.{begin_of_life, begins_at, cause_in, end_cause, end_of_life}
@@ -148,7 +148,7 @@ module _ (system : System) (log : List Entry) (k : ClusterNo) (legal : IsLegalBy
         where
           by_test : (b : Bool) → comes_back k (what e) ≡ b → comes_back k (what e) ≡ false
           by_test true back =
-              let stood = stood_at Stands system log n e (built_stands system log legal) at in
+              let stood = stood_at Stands system log n e (all_stand system log legal) at in
               let off = (back_follows system (take n log) e k stood.0 stood.1 back).1 in
               absurd (true≢false (sym off ∙ ap is_some on))
           by_test false is = is

@@ -3,7 +3,7 @@ use Rattle.std.proofs.Common.{◌≡◌, ◌∙◌, ◌+◌, refl, subst, List, 
 use Rattle.std.specs.List.{list_any}
 use Rattle.cert_sched.specs.Losses.{was_lost_in}
 use Rattle.cluster_core.specs.View.{ClusterView}
-use Rattle.cluster_core.specs.Follows.{FollowsBuilt}
+use Rattle.cluster_core.specs.Follows.{Follows}
 use Rattle.bus_order.specs.View.{BusView}
 use Rattle.cluster_turns.specs.Along.{IsSound}
 use Rattle.cluster_turns.specs.Ends.{has_run_out}
@@ -26,7 +26,7 @@ module _ (b : BusView) (sound : IsSound b) (out : has_run_out b.system b.log ≡
       by_loss : (t : Bool) → was_lost_in (drop c.cursor b.log) c.number ≡ t → LeftAs b c
       by_loss true lost = (lost_gone b c (before_along b c sound along) lost).left
       by_loss false lives =
-          left_at_end b c (along.beside).lives lives along.system (along.beside).unfailed (subst (λ s. FollowsBuilt s (take c.cursor b.log) c) along.system (along.beside).follows) (none_sent c.number (drop c.cursor b.log) (along.beside).told_before)
+          left_at_end b c (along.beside).lives lives along.system (along.beside).unfailed (subst (λ s. Follows s (take c.cursor b.log) c) along.system (along.beside).follows) (none_sent c.number (drop c.cursor b.log) (along.beside).told_before)
           (caught ∙ over_end b (run_out_over b.system b.log sound.legal out)) along.passed (disk_uncalled b.script b.log c along.disk (((along.beside).follows).disk).1)
 
   one_quiet : (c : ClusterView) → HasCaught b c → list_any (is_told_by c.number) (drop (end_of_life b.log c.number c.cursor + 1) b.log) ≡ false

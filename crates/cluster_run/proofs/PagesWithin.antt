@@ -26,7 +26,7 @@ use Rattle.cert_sched.specs.Steps.{page_count}
 use Rattle.cert_sched.specs.Legal.{MayStand}
 use Rattle.cert_sched.specs.Legal.{IsLegalBy}
 use Rattle.cert_sched.proofs.KernelSums.{sum_of}
-use Rattle.log_laws.proofs.records.Standing.{built_stands}
+use Rattle.log_laws.proofs.records.Standing.{all_stand}
 use Rattle.log_laws.specs.pages.Left.{is_unasked, left_of_pages, unasked, unasked_of}
 use Rattle.log_laws.proofs.pages.PagesStay.{EachPages, page_count-most}
 use Rattle.checkpoint_laws.proofs.remaining.PlacedSums.{of_family, placed_few}
@@ -38,7 +38,7 @@ abbrev pub placed_count : System → ℕ
 placed_count system = sum_of (of_family (λ (s : SmallState). 1)) (boot system)
 
 pub few_placed : (system : System) (log : List Entry) → is_system system ≡ true → IsLegalBy MayStand system log → length (placement system log).placed ≤ placed_count system
-few_placed system log valid legal = placed_few system log valid (built_stands system log legal)
+few_placed system log valid legal = placed_few system log valid (all_stand system log legal)
 
 -- ---- how many pages each has
 

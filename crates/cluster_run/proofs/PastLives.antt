@@ -12,7 +12,7 @@ use Rattle.bus_msg.specs.PlacedAfter.{what}
 use Rattle.cert_sched.specs.Losses.{is_by_cluster, is_crash_of, is_disk_word, was_lost_in}
 use Rattle.cert_sched.specs.Scripted.{is_done}
 use Rattle.cluster_core.specs.View.{ClusterView}
-use Rattle.cluster_core.specs.Follows.{FollowsBuilt, StandsBetween}
+use Rattle.cluster_core.specs.Follows.{Follows, StandsBetween}
 use Rattle.bus_order.specs.View.{BusView}
 use Rattle.cluster_turns.specs.Ends.{is_cut_off}
 use Rattle.cluster_turns.specs.Gone.{IsGone, LeftAs, StoodAs, StoodBeside, StoodBetween}
@@ -67,7 +67,7 @@ module _ (b : BusView) (c : ClusterView) (left : LeftAs b c) where
   cut_undone true done cut = absurd (true≢false (sym cut ∙ done_whole done))
   cut_undone false undone cut = undone
 
-  by_way : StoodBeside b c ⊎ ((is_cut_off c.number b.system b.log c.cursor ≡ true) × StoodBetween b c) → FollowedUpto FollowsBuilt b.system b.log (life_in b.log c) ⊎ LeftBetween FollowsBuilt b.system b.log (life_in b.log c)
+  by_way : StoodBeside b c ⊎ ((is_cut_off c.number b.system b.log c.cursor ≡ true) × StoodBetween b c) → FollowedUpto Follows b.system b.log (life_in b.log c) ⊎ LeftBetween Follows b.system b.log (life_in b.log c)
   by_way (inl beside) = inl (record {
     follows = beside.follows;
     sent_before = any_front (is_by_cluster c.number) (drop c.cursor b.log) ((end_of_life b.log c.number from + 1) - c.cursor) beside.sent_before;
@@ -80,11 +80,11 @@ module _ (b : BusView) (c : ClusterView) (left : LeftAs b c) where
     sent_before = any_front (is_by_cluster c.number) (drop (c.cursor + 1) b.log) ((end_of_life b.log c.number from + 1) - (c.cursor + 1)) between.sent_before;
   })
 
-  by_stood : c.failed ≡ None → StoodAs b c → FollowedUpto FollowsBuilt b.system b.log (life_in b.log c) ⊎ LeftBetween FollowsBuilt b.system b.log (life_in b.log c)
+  by_stood : c.failed ≡ None → StoodAs b c → FollowedUpto Follows b.system b.log (life_in b.log c) ⊎ LeftBetween Follows b.system b.log (life_in b.log c)
   by_stood unfailed (inl (still, stood)) = by_way stood
   by_stood unfailed (inr (lost, stood)) = absurd (none_some (stood.disk).call (sym unfailed ∙ (stood.disk).failed))
 
-  pub life_holds : LifeHolds FollowsBuilt b.system b.script b.log (life_in b.log c)
+  pub life_holds : LifeHolds Follows b.system b.script b.log (life_in b.log c)
   life_holds = record {
     begins = begin_begins b.log c.number c.cursor;
     number = refl;
@@ -133,20 +133,20 @@ module _ (system : System) (script : List ScriptWord) (log more : List Entry) (l
   front : l.upto ≤ end → take l.upto (log ++ more) ≡ take l.upto log
   front within = take-append-le l.upto log more (let most = inside.1 in omega (arith, most, within))
 
-  followed_longer : l.upto ≤ end → FollowedUpto FollowsBuilt system log l ⊎ LeftBetween FollowsBuilt system log l → FollowedUpto FollowsBuilt system (log ++ more) l ⊎ LeftBetween FollowsBuilt system (log ++ more) l
+  followed_longer : l.upto ≤ end → FollowedUpto Follows system log l ⊎ LeftBetween Follows system log l → FollowedUpto Follows system (log ++ more) l ⊎ LeftBetween Follows system (log ++ more) l
   followed_longer within (inl followed) = inl (record {
-    follows = subst (λ xs. FollowsBuilt system xs l.value) (sym (front within)) followed.follows;
+    follows = subst (λ xs. Follows system xs l.value) (sym (front within)) followed.follows;
     sent_before = ap (λ n. has_sent (log ++ more) l.cluster l.upto (n + 1)) end_same ∙ sent_same l.upto (let most = inside.1 in omega (arith, most, within)) ∙ followed.sent_before;
   })
   followed_longer within (inr left) = inr (record {
     entry = left.entry;
     there = get_front log more l.upto (let most = inside.1 in omega (arith, most, within)) ∙ left.there;
     lost = still_undone;
-    between = subst (λ xs. StandsBetween FollowsBuilt system xs left.entry l.value) (sym (front within)) left.between;
+    between = subst (λ xs. StandsBetween Follows system xs left.entry l.value) (sym (front within)) left.between;
     sent_before = ap (λ n. has_sent (log ++ more) l.cluster (l.upto + 1) (n + 1)) end_same ∙ sent_same (l.upto + 1) (let most = inside.1 in omega (arith, most, within)) ∙ left.sent_before;
   })
 
-  pub holds_longer : LifeHolds FollowsBuilt system script log l → LifeHolds FollowsBuilt system script (log ++ more) l
+  pub holds_longer : LifeHolds Follows system script log l → LifeHolds Follows system script (log ++ more) l
   holds_longer holds = record {
     begins = begins_longer log more l.cluster l.from (let low = inside.0 in let most = inside.1 in omega (arith, low, most)) ∙ holds.begins;
     number = holds.number;
@@ -160,9 +160,9 @@ module _ (system : System) (script : List ScriptWord) (log more : List Entry) (l
 pub past_longer : (b after : BusView) (more : List Entry) (l : Life) → after.system ≡ b.system → after.script ≡ b.script → after.log ≡ b.log ++ more → IsPast b l → IsPast after l
 past_longer b after more l system script longer past =
     let low = lost_inside b.log l.cluster l.from past.lost in
-    let Holds : List Entry → Type 0 = λ log. LifeHolds FollowsBuilt after.system after.script log l in
+    let Holds : List Entry → Type 0 = λ log. LifeHolds Follows after.system after.script log l in
     let IsLost : List Entry → Type 0 = λ log. was_lost_in (drop l.from log) l.cluster ≡ true in
     record {
-      holds = subst Holds (sym longer) (subst (λ (s : System). LifeHolds FollowsBuilt s after.script (b.log ++ more) l) (sym system) (subst (λ (words : List ScriptWord). LifeHolds FollowsBuilt b.system words (b.log ++ more) l) (sym script) (holds_longer b.system b.script b.log more l past.lost past.holds)));
+      holds = subst Holds (sym longer) (subst (λ (s : System). LifeHolds Follows s after.script (b.log ++ more) l) (sym system) (subst (λ (words : List ScriptWord). LifeHolds Follows b.system words (b.log ++ more) l) (sym script) (holds_longer b.system b.script b.log more l past.lost past.holds)));
       lost = subst IsLost (sym longer) (ap (λ xs. was_lost_in xs l.cluster) (drop-append-le l.from b.log more (omega (arith, low.0, low.1))) ∙ list_any-append (λ (e : Entry). is_crash_of l.cluster (what e)) (drop l.from b.log) more ∙ ap (λ t. t || was_lost_in more l.cluster) past.lost);
     }

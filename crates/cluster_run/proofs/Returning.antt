@@ -21,7 +21,7 @@ use Rattle.cert_sched.specs.Schedule.{placement}
 use Rattle.cert_sched.specs.Scripted.{is_server}
 use Rattle.cert_sched.proofs.Induction.{legal_prefix}
 use Rattle.log_laws.specs.births.Unsynced.{unsynced_births}
-use Rattle.cluster_core.specs.Follows.{FollowsBuilt, IsOpen, StandsBetween}
+use Rattle.cluster_core.specs.Follows.{Follows, IsOpen, StandsBetween}
 use Rattle.cluster_core.specs.Known.{CanKnow, IsKnown}
 use Rattle.cluster_core.specs.Returned.{returned}
 use Rattle.cluster_core.specs.View.{ClusterView, after_sent}
@@ -31,7 +31,7 @@ use Rattle.bus_order.specs.View.{BusView}
 use Rattle.bus_order.proofs.LogParts.{take_one}
 use Rattle.script_laws.specs.Off.{comes_back, has_returned_in}
 use Rattle.script_laws.proofs.Alternating.{off_from, on_behind}
-use Rattle.script_laws.proofs.OffLosses.{built_stands}
+use Rattle.script_laws.proofs.OffLosses.{all_stand}
 use Rattle.cluster_turns.specs.Along.{IsAlong, IsSound, IsStopped}
 use Rattle.cluster_turns.specs.Disks.{calls_for}
 use Rattle.cluster_turns.specs.Gone.{StoodAs, is_told_by}
@@ -46,7 +46,7 @@ use Rattle.cluster_run.proofs.Begins.{no_return, on_after}
 abbrev pub FollowReturns : Type 0
 FollowReturns =
     (system : System) (log : List Entry) (e : Entry) (k : ClusterNo) (steps : ℕ) → is_system system ≡ true → IsLegalBy Stands system (log ++ e ∷ []) → what e ≡ Return k
-    → FollowsBuilt system (log ++ e ∷ []) (returned system k (placement system (log ++ e ∷ [])) (unsynced_births system (log ++ e ∷ [])) (length (log ++ e ∷ [])) steps)
+    → Follows system (log ++ e ∷ []) (returned system k (placement system (log ++ e ∷ [])) (unsynced_births system (log ++ e ∷ [])) (length (log ++ e ∷ [])) steps)
 
 -- ---- lists
 
@@ -94,7 +94,7 @@ sent_family : (c : ClusterView) (queue : List Post) → (after_sent c queue).fam
 sent_family c [] = refl
 sent_family c (post ∷ rest) = refl
 
-between_known : (system : System) (log : List Entry) (e : Entry) (c : ClusterView) → StandsBetween FollowsBuilt system log e c → IsKnown system log c.places c.family
+between_known : (system : System) (log : List Entry) (e : Entry) (c : ClusterView) → StandsBetween Follows system log e c → IsKnown system log c.places c.family
 between_known system log e c between =
     let was = between.before in
     let held = between.followed in
@@ -202,15 +202,15 @@ module _ (b : BusView) (sound : IsSound b) (goes_on : is_over b.system b.log ≡
         long = let n = length-take (at + 1) b.log in let most = return_within in omega (arith, n, most)
 
         legal : IsLegalBy Stands b.system (take at b.log ++ return.entry ∷ [])
-        legal = built_stands b.system (take at b.log ++ return.entry ∷ []) (subst (IsLegalBy MayStand b.system) next_is (legal_prefix MayStand b.system b.log (at + 1) sound.legal))
+        legal = all_stand b.system (take at b.log ++ return.entry ∷ []) (subst (IsLegalBy MayStand b.system) next_is (legal_prefix MayStand b.system b.log (at + 1) sound.legal))
 
-        whole : FollowsBuilt b.system (take (at + 1) b.log) (returned b.system c.number (placement b.system (take (at + 1) b.log)) (unsynced_births b.system (take (at + 1) b.log)) (length (take (at + 1) b.log)) c.steps)
+        whole : Follows b.system (take (at + 1) b.log) (returned b.system c.number (placement b.system (take (at + 1) b.log)) (unsynced_births b.system (take (at + 1) b.log)) (length (take (at + 1) b.log)) c.steps)
         whole =
-            let P : List Entry → Type 0 = λ l. FollowsBuilt b.system l (returned b.system c.number (placement b.system l) (unsynced_births b.system l) (length l) c.steps) in
+            let P : List Entry → Type 0 = λ l. Follows b.system l (returned b.system c.number (placement b.system l) (unsynced_births b.system l) (length l) c.steps) in
             subst P (sym next_is) (law b.system (take at b.log) return.entry c.number c.steps sound.valid legal (is_return (what return.entry) return.back))
 
-        follows : FollowsBuilt b.system (take (at + 1) b.log) (returned b.system c.number places family (at + 1) c.steps)
-        follows = subst (FollowsBuilt b.system (take (at + 1) b.log)) (λ i. returned b.system c.number (sym known.places_are i) (sym known.family_is i) (long i) c.steps) whole
+        follows : Follows b.system (take (at + 1) b.log) (returned b.system c.number places family (at + 1) c.steps)
+        follows = subst (Follows b.system (take (at + 1) b.log)) (λ i. returned b.system c.number (sym known.places_are i) (sym known.family_is i) (long i) c.steps) whole
 
         by_server : (t : Bool) → ◌≡◌ {A = Option (Option (List ℕ))} (cond (t && not true) (Some (Some (calls_for c.number b.script))) None) None
         by_server true = refl

@@ -39,7 +39,7 @@ use Rattle.cert_sched.specs.Steps.{at_record, emission_at, first_record, process
 use Rattle.cert_sched.specs.Appended.{entry_of}
 use Rattle.cert_sched.specs.Rests.{home_pids}
 use Rattle.cert_sched.specs.Rules.{is_over}
-use Rattle.cluster_core.specs.Sent.{SentMayFollow, is_sent}
+use Rattle.cluster_core.specs.Sent.{SentMayStand, is_sent}
 use Rattle.cert_sched.specs.Legal.{IsLegalBy, Stands, MayStand}
 use Rattle.cluster_turns.specs.Ends.{is_cut_off}
 use Rattle.cert_sched.proofs.KernelSums.{one_of_sum, sum_of}
@@ -49,7 +49,7 @@ use Rattle.cluster_core.specs.View.{ClusterView, after_head, after_sent, head_of
 use Rattle.residents.specs.Held.{Held, Runs, Rolls, Waits, held_of, renewed, renewed_held, with_renewed}
 use Rattle.cluster_core.specs.Holds.{IsHeldAs}
 use Rattle.cluster_core.specs.Calls.{FollowsSome}
-use Rattle.cluster_core.specs.Follows.{FollowsBuilt, IsOpen, QueuedIn}
+use Rattle.cluster_core.specs.Follows.{Follows, IsOpen, QueuedIn}
 use Rattle.cluster_core.specs.Renewing.{renewing_left}
 use Rattle.backup_mode.specs.Posts.{fresh_post}
 use Rattle.cluster_core.specs.Queue.{Nothing, One, IsQueueLegal, is_move_of, state_by, AreTogether, Queued, is_lone, move_of, posts_of, tells_steps}
@@ -64,7 +64,7 @@ use Rattle.bus_order.proofs.WordsLaws.{found_passes}
 use Rattle.cluster_turns.specs.Disks.{HasFailed}
 use Rattle.cluster_turns.specs.Gone.{IsGone, StoodAs, StoodBeside, StoodBetween}
 use Rattle.cluster_turns.specs.Along.{AllAlong, IsMember, IsOwned, IsSound}
-use Rattle.log_laws.proofs.records.Standing.{built_stands}
+use Rattle.log_laws.proofs.records.Standing.{all_stand}
 use Rattle.checkpoint_laws.specs.remaining.Left.{left_of_syncs, left_to_send, most_syncs}
 use Rattle.checkpoint_laws.specs.remaining.Load.{kernel_load, log_load}
 use Rattle.checkpoint_laws.proofs.remaining.Bounded.{syncs_within}
@@ -186,12 +186,12 @@ moved_within system log p steps t =
     same_option (Some s) = refl
 
 -- each post that is found in a legal queue is of a kind that clusters send
-queued_sent : (system : System) (log : List Entry) (queue : List Post) (test : Post → Bool) (post : Post) → IsQueueLegal SentMayFollow system log queue → find test queue ≡ Some post → is_sent post.what ≡ true
+queued_sent : (system : System) (log : List Entry) (queue : List Post) (test : Post → Bool) (post : Post) → IsQueueLegal SentMayStand system log queue → find test queue ≡ Some post → is_sent post.what ≡ true
 queued_sent system log [] test post legal found = cc
 queued_sent system log (first ∷ queue) test post legal found = by_test (test first) found (queued_sent system (log ++ entry_of system log first ∷ []) queue test post legal.1)
   where
     by_test : (b : Bool) → cond b (Some first) (find test queue) ≡ Some post → (find test queue ≡ Some post → is_sent post.what ≡ true) → is_sent post.what ≡ true
-    by_test true found more = let same : first ≡ post = cc in subst (λ (p : Post). is_sent p.what ≡ true) same (legal.0).built
+    by_test true found more = let same : first ≡ post = cc in subst (λ (p : Post). is_sent p.what ≡ true) same (legal.0).of_kind
     by_test false found more = more found
 
 -- one that moves a process tells of its steps
@@ -202,7 +202,7 @@ moves_tell p post moves = by_test (tells_steps post.what) refl moves
     by_test true is moves = is
     by_test false is moves = absurd (true≢false (sym moves))
 
-runs_within : (system : System) (log : List Entry) (queue : List Post) (p : Pid) (steps : ℕ) (t : ProcState) → IsQueueLegal SentMayFollow system log queue → (o : Option Post) → find (is_move_of p) queue ≡ o
+runs_within : (system : System) (log : List Entry) (queue : List Post) (p : Pid) (steps : ℕ) (t : ProcState) → IsQueueLegal SentMayStand system log queue → (o : Option Post) → find (is_move_of p) queue ≡ o
     → ((w : What) → option_map (λ (post : Post). post.what) o ≡ Some w → TakesRightly system log w) → state_by system log p steps (option_map (λ (post : Post). post.what) o) ≡ Some t → weight_with_children t.small ≤ boot_load system
 runs_within system log queue p steps t legal None found can is = silent_within system log p steps t is
 runs_within system log queue p steps t legal (Some post) found can is = moved_within system log p steps t post.what (queued_sent system log queue (is_move_of p) post legal found) (moves_tell p post (found_passes (is_move_of p) queue post found)) (can post.what refl) is
@@ -274,7 +274,7 @@ queued_rightly system log c p (inr (inr (inr (inr y)))) w is = of_renewal y.to y
     of_renewal (Some k) [] is = by_test k (same_pid y.pid p) is
     of_renewal to (i ∷ js) is = of_renewal to js is
 
-held_within : (system : System) (log : List Entry) (queue : List Post) (p : Pid) (h : Held) → IsQueueLegal SentMayFollow system log queue → ((w : What) → move_of p queue ≡ Some w → TakesRightly system log w) → IsHeldAs system log queue p h → held_load h ≤ most_held system
+held_within : (system : System) (log : List Entry) (queue : List Post) (p : Pid) (h : Held) → IsQueueLegal SentMayStand system log queue → ((w : What) → move_of p queue ≡ Some w → TakesRightly system log w) → IsHeldAs system log queue p h → held_load h ≤ most_held system
 held_within system log queue p (Runs process) legal can is =
     process_load_within system process (runs_within system log queue p (process.small).steps (state_of process) legal (find (is_move_of p) queue) refl can is)
 held_within system log queue p (Rolls process counts births) legal can held =
@@ -337,7 +337,7 @@ few_here system log c valid legal same =
 abbrev pub most_load : System → ℕ
 most_load system = placed_count system * most_held system
 
-load_within : (system : System) (log : List Entry) (c : ClusterView) → is_system system ≡ true → IsLegalBy MayStand system log → FollowsBuilt system log c → NoTwo (pids_in c.here) → load c ≤ most_load system
+load_within : (system : System) (log : List Entry) (c : ClusterView) → is_system system ≡ true → IsLegalBy MayStand system log → Follows system log c → NoTwo (pids_in c.here) → load c ≤ most_load system
 load_within system log c valid legal follows two =
     let each : All (λ (e : Pid × Held). held_load e.1 ≤ most_held system) c.here =
     each_held (λ h. held_load h ≤ most_held system) c.here two (λ p h at. held_within system log c.queue p h (follows.queue).legal (queued_rightly system log c p follows.queued) ((follows.processes).held p h at)) in
@@ -409,11 +409,11 @@ module _ (b : BusView) (c : ClusterView) (sound : IsSound b) (gone : IsGone b c)
     ],
   )
 
-  follows_then : (v : ClusterView) → v.system ≡ b.system → FollowsBuilt b.system (take c.cursor b.log) v → load v ≤ most_load b.system
+  follows_then : (v : ClusterView) → v.system ≡ b.system → Follows b.system (take c.cursor b.log) v → load v ≤ most_load b.system
   follows_then v system follows = some_within b v sound system (record {
     log = take c.cursor b.log;
     open_log = subst (λ s. IsOpen MayStand s (take c.cursor b.log)) (sym system) open_there;
-    follows = subst (λ s. FollowsBuilt s (take c.cursor b.log) v) (sym system) follows;
+    follows = subst (λ s. Follows s (take c.cursor b.log) v) (sym system) follows;
   })
 
   pub gone_within : load c ≤ most_load b.system
@@ -482,8 +482,8 @@ pub posts_within : (system : System) (log : List Entry) → is_system system ≡
 posts_within system log valid legal fits =
     let sent : left_to_send system log ≤ 3 * boot_load system + most_pages system + most_syncs system =
     all_parts (log_load system log) (boot_load system) (left_of_pages system log) (most_pages system) (left_of_syncs system log) (most_syncs system) (steps_within system log) (pages_within system log valid legal fits)
-    (syncs_within system log valid (built_stands system log legal)) in
-    let made = backups_within system log valid (built_stands system log legal) in
+    (syncs_within system log valid (all_stand system log legal)) in
+    let made = backups_within system log valid (all_stand system log legal) in
     omega (arith, sent, made)
   where
     all_parts : (a b c d m n : ℕ) → a ≤ b → c ≤ d → m ≤ n → 3 * a + c + m ≤ 3 * b + d + n

@@ -10,7 +10,7 @@ use Rattle.bus_msg.specs.Places.{same_cluster}
 use Rattle.cert_sched.specs.declared.script.ScriptWord.{ScriptWord}
 use Rattle.cert_sched.specs.Losses.{is_disk_word}
 use Rattle.cluster_core.specs.View.{ClusterView}
-use Rattle.cluster_core.specs.Follows.{Follows, FollowsBuilt, StandsBetween}
+use Rattle.cluster_core.specs.Follows.{Follows, StandsBetween}
 use Rattle.cluster_turns.specs.Lives.{EndsBy, begins_at, end_cause, end_of_life, ends_at_done, has_sent}
 use Rattle.cluster_run.specs.declared.life.Life.{Life}
 
@@ -72,7 +72,3 @@ pub record LivedBy (Follow : System → List Entry → ClusterView → Type 0) (
 -- the clusters of a run did its work
 abbrev pub Lived : System → List ScriptWord → List Entry → List Life → Type 0
 Lived system script log lives = LivedBy Follows system script log lives
-
--- the same of the lines and the entries that are built so far
-abbrev pub LivedBuilt : System → List ScriptWord → List Entry → List Life → Type 0
-LivedBuilt system script log lives = LivedBy FollowsBuilt system script log lives

@@ -6,7 +6,7 @@ use Rattle.bus_msg.specs.declared.entry.Entry.{Entry}
 use Rattle.bus_msg.specs.Places.{same_cluster}
 use Rattle.cert_sched.specs.Losses.{was_lost_in}
 use Rattle.cluster_core.specs.View.{ClusterView}
-use Rattle.cluster_core.specs.Follows.{FollowsBuilt}
+use Rattle.cluster_core.specs.Follows.{Follows}
 use Rattle.bus_order.specs.View.{BusView}
 use Rattle.cluster_turns.specs.Lives.{begin_of_life, begins_at}
 use Rattle.cluster_run.specs.declared.life.Life.{Life}
@@ -14,7 +14,7 @@ use Rattle.cluster_run.specs.Lived.{LifeHolds, are_distinct, is_life}
 
 -- a life that followed the log, and was lost
 pub record IsPast (b : BusView) (l : Life) : Type 0 where
-  pub holds : LifeHolds FollowsBuilt b.system b.script b.log l
+  pub holds : LifeHolds Follows b.system b.script b.log l
   pub lost : was_lost_in (drop l.from b.log) l.cluster ≡ true
 
 -- of a cluster just those lives are there that begin before the one that it is in

@@ -3,7 +3,7 @@ use Rattle.std.specs.Prelude.{ℕ, ◌≡◌, ◌⊎◌, List, [], length, slice
 use Rattle.sys_text.specs.declared.system.System.{System}
 use Rattle.cert_sched.specs.declared.script.ScriptWord.{ScriptWord}
 use Rattle.cluster_core.specs.View.{ClusterView}
-use Rattle.cluster_core.specs.Follows.{FollowsBuilt}
+use Rattle.cluster_core.specs.Follows.{Follows}
 use Rattle.cluster_core.specs.Calls.{IsFirst}
 use Rattle.cluster_turns.specs.Disks.{HasFailed, IsDiskOf}
 
@@ -12,7 +12,7 @@ pub record IsStarted (system : System) (script : List ScriptWord) (number : ℕ)
   pub number_is : (c.number).0 ≡ number
   pub first : IsFirst system c.number c
   pub disk : IsDiskOf script [] c
-  pub stands : ((c.failed ≡ None) × FollowsBuilt system [] c) ⊎ HasFailed script c
+  pub stands : ((c.failed ≡ None) × Follows system [] c) ⊎ HasFailed script c
 
 -- so many clusters, each at the place of its number
 pub record AllStarted (system : System) (script : List ScriptWord) (count : ℕ) (cs : List ClusterView) : Type 0 where

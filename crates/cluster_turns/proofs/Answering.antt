@@ -11,7 +11,7 @@ use Rattle.bus_msg.specs.declared.entry.By.TheVariants.{Cluster, Bus}
 use Rattle.bus_msg.specs.declared.entry.What.TheVariants.{Done}
 use Rattle.bus_msg.specs.declared.entry.Post.{Post}
 use Rattle.cert_sched.specs.Appended.{entry_of}
-use Rattle.cluster_core.specs.Sent.{SentMayFollow}
+use Rattle.cluster_core.specs.Sent.{SentMayStand}
 use Rattle.cert_sched.specs.Legal.{IsLegalBy, MayStand}
 use Rattle.cert_sched.specs.Losses.{is_from, least_calls, least_steps, capped, was_lost_in}
 use Rattle.cert_sched.specs.Rests.{IsRestOf}
@@ -19,7 +19,7 @@ use Rattle.cert_sched.specs.Rules.{is_over}
 use Rattle.cert_sched.specs.Schedule.{placement}
 use Rattle.cluster_turns.proofs.SentKinds.{may_sent}
 use Rattle.cluster_core.specs.View.{ClusterView, disk_calls, head_of}
-use Rattle.cluster_core.specs.Follows.{FollowsBuilt, IsOpen}
+use Rattle.cluster_core.specs.Follows.{Follows, IsOpen}
 use Rattle.cluster_core.specs.Calls.{OwesNoAnswer, WaitsForPages}
 use Rattle.cluster_turns.specs.Progress.{AwaitsPage, HasAnswered}
 use Rattle.cert_sched.specs.Moved.{waiting_fetches}
@@ -58,11 +58,11 @@ own_post k Bus from = absurd (true≢false (sym from))
 own_post k (Cluster j) from = λ i. Cluster (record { 0 = eqb-true j.0 k.0 from i })
 
 -- one that has seen all follows the whole log
-follows_all : (b : BusView) (c : ClusterView) → IsAlong b c → c.cursor ≡ length b.log → FollowsBuilt c.system b.log c
-follows_all b c along seen = subst (λ log. FollowsBuilt c.system log c) (take_all c.cursor b.log (omega (arith, seen))) (along.beside).follows
+follows_all : (b : BusView) (c : ClusterView) → IsAlong b c → c.cursor ≡ length b.log → Follows c.system b.log c
+follows_all b c along seen = subst (λ log. Follows c.system log c) (take_all c.cursor b.log (omega (arith, seen))) (along.beside).follows
 
 -- what holds in each log that it follows holds in that of the bus
-in_its_log : (P : System → List Entry → Type 0) (b : BusView) (c : ClusterView) → IsSound b → IsAlong b c → c.cursor ≡ length b.log → is_over b.system b.log ≡ false → ((log : List Entry) → IsOpen MayStand c.system log → FollowsBuilt c.system log c → P c.system log) → P b.system b.log
+in_its_log : (P : System → List Entry → Type 0) (b : BusView) (c : ClusterView) → IsSound b → IsAlong b c → c.cursor ≡ length b.log → is_over b.system b.log ≡ false → ((log : List Entry) → IsOpen MayStand c.system log → Follows c.system log c → P c.system log) → P b.system b.log
 in_its_log P b c sound along seen goes holds =
     subst (λ s. P s b.log) along.system
     (holds b.log (subst (λ s. IsLegalBy MayStand s b.log) (sym along.system) sound.legal, ap (λ s. is_over s b.log) along.system ∙ goes) (follows_all b c along seen))
@@ -90,8 +90,8 @@ may_be_sent b c post k n along head k_is n_is =
           own_post c.number post.by (and_parts (is_from c.number post.by) (list_all (λ (p : Post). is_from c.number p.by) (tail_of c.queue)) all).0;
       may = λ goes_on seen.
           let follows = follows_all b c along seen in
-          let queue = subst (λ q. IsQueueLegal SentMayFollow c.system b.log q) (head_first c.queue post head) (follows.queue).legal in
-          let may : SentMayFollow c.system b.log (entry_of c.system b.log post) = queue.0 in
+          let queue = subst (λ q. IsQueueLegal SentMayStand c.system b.log q) (head_first c.queue post head) (follows.queue).legal in
+          let may : SentMayStand c.system b.log (entry_of c.system b.log post) = queue.0 in
           subst (λ s. MayStand s b.log (entry_of s b.log post)) along.system (may_sent c.system b.log (entry_of c.system b.log post) may);
     }))
 

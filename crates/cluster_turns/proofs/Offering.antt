@@ -17,7 +17,7 @@ use Rattle.cert_sched.specs.Losses.{was_lost_in}
 use Rattle.cert_sched.specs.Scripted.{is_server}
 use Rattle.cert_sched.proofs.Induction.{is_over-snoc, legal_prefix}
 use Rattle.cluster_core.specs.View.{ClusterView, head_of, tried_once}
-use Rattle.cluster_core.specs.Follows.{FollowsBuilt}
+use Rattle.cluster_core.specs.Follows.{Follows}
 use Rattle.cluster_core.proofs.working.Working.{follows_tried}
 use Rattle.bus_lock.specs.Lists.{MayAdd}
 use Rattle.bus_order.specs.declared.marks.Mark.{Mark}
@@ -49,7 +49,7 @@ beside_longer log more after c beside longer others =
       within = omega (arith, long, beside.within);
       goes_on = ap (is_over c.system) front ∙ beside.goes_on;
       lives = ap (λ l. off_at l c.number) front ∙ beside.lives;
-      follows = subst (λ log. FollowsBuilt c.system log c) (sym front) beside.follows;
+      follows = subst (λ log. Follows c.system log c) (sym front) beside.follows;
       told_before = ap (list_any (is_told_by c.number)) back ∙ list_any-append (is_told_by c.number) (drop c.cursor log) more ∙ (λ i. beside.told_before i || others i);
       unfailed = beside.unfailed;
     }

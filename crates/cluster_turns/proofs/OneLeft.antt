@@ -4,7 +4,7 @@ use Rattle.std.specs.List.{list_any, list_all}
 use Rattle.bus_msg.specs.PlacedAfter.{what}
 use Rattle.cert_sched.specs.Losses.{is_by_cluster, was_lost_in}
 use Rattle.cluster_core.specs.View.{ClusterView, disk_calls}
-use Rattle.cluster_core.specs.Follows.{FollowsBuilt}
+use Rattle.cluster_core.specs.Follows.{Follows}
 use Rattle.bus_order.specs.Script.{is_unpassed, is_uncalled, off_at}
 use Rattle.bus_order.specs.View.{BusView}
 use Rattle.cluster_turns.specs.Gone.{LeftAs, StoodAs}
@@ -13,7 +13,7 @@ use Rattle.cluster_turns.proofs.CutOff.{cut_not}
 use Rattle.cluster_turns.proofs.LostLives.{ended_with_log, ends_with_log, loss_there, lost_cause, lost_inside}
 
 -- one that was not lost followed the log up to its last entry
-pub left_at_end : (b : BusView) (c : ClusterView) → off_at (take c.cursor b.log) c.number ≡ None → was_lost_in (drop c.cursor b.log) c.number ≡ false → c.system ≡ b.system → c.failed ≡ None → FollowsBuilt b.system (take c.cursor b.log) c
+pub left_at_end : (b : BusView) (c : ClusterView) → off_at (take c.cursor b.log) c.number ≡ None → was_lost_in (drop c.cursor b.log) c.number ≡ false → c.system ≡ b.system → c.failed ≡ None → Follows b.system (take c.cursor b.log) c
     → list_any (is_by_cluster c.number) (drop c.cursor b.log) ≡ false → c.cursor ≡ length b.log - 1 → list_all (is_unpassed c.number b.log c.steps) b.script ≡ true → list_all (is_uncalled c.number (disk_calls c)) b.script ≡ true → LeftAs b c
 left_at_end b c lives unlost system unfailed follows sent_before at_end passed uncalled =
     let ends : end_of_life b.log c.number c.cursor ≡ length b.log - 1 = ends_with_log b.log c.number c.cursor unlost in

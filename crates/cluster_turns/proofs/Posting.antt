@@ -12,7 +12,7 @@ use Rattle.cert_sched.specs.Losses.{was_lost_in}
 use Rattle.cert_sched.specs.Scripted.{is_server}
 use Rattle.cluster_core.specs.declared.worked.Worked.{Worked}
 use Rattle.cluster_core.specs.declared.worked.Worked.TheVariants.{Moved, Queued, Waits, Rests}
-use Rattle.cluster_core.specs.Follows.{FollowsBuilt}
+use Rattle.cluster_core.specs.Follows.{Follows}
 use Rattle.cluster_core.specs.Calls.{FollowsSome, GoesOn, KeepsPlace, WorkIs}
 use Rattle.cluster_core.specs.View.{ClusterView, after_sent, failing_in, head_of, tried_once}
 use Rattle.bus_order.specs.Script.{is_unpassed, off_at}
@@ -85,8 +85,8 @@ worked_along b c new sound along unnamed goes keeps failed failing =
         within = subst (λ n. n ≤ length b.log) (sym keeps.cursor) (along.beside).within;
         goes_on = (λ i. is_over (keeps.system i) (take (keeps.cursor i) b.log)) ∙ (along.beside).goes_on;
         lives = (λ i. off_at (take (keeps.cursor i) b.log) (keeps.number i)) ∙ (along.beside).lives;
-        follows = subst (λ s. FollowsBuilt s (take new.cursor b.log) new) (sym keeps.system)
-            (subst (λ n. FollowsBuilt c.system (take n b.log) new) (sym keeps.cursor) (goes (take c.cursor b.log) some.open_log some.follows));
+        follows = subst (λ s. Follows s (take new.cursor b.log) new) (sym keeps.system)
+            (subst (λ n. Follows c.system (take n b.log) new) (sym keeps.cursor) (goes (take c.cursor b.log) some.open_log some.follows));
         told_before = (λ i. list_any (is_told_by (keeps.number i)) (drop (keeps.cursor i) b.log)) ∙ (along.beside).told_before;
         unfailed = failed ∙ (along.beside).unfailed;
       };

@@ -11,10 +11,10 @@ use Rattle.bus_msg.specs.Places.{all_clusters, cluster_no, lives_in, servers_in}
 use Rattle.cert_sched.specs.Schedule.{placement}
 use Rattle.cert_sched.specs.Rules.{is_over}
 use Rattle.bus_order.specs.Script.{off_at}
-use Rattle.script_laws.proofs.OffLosses.{built_stands}
+use Rattle.script_laws.proofs.OffLosses.{all_stand}
 use Rattle.script_laws.proofs.OffSince.{lives_unless_off}
 use Rattle.cert_sched.proofs.Induction.{is_over-snoc}
-use Rattle.cert_sched.proofs.HomesLaws.{built_clusters-length}
+use Rattle.cert_sched.proofs.HomesLaws.{stand_clusters-length}
 use Rattle.cluster_core.specs.View.{ClusterView, load}
 use Rattle.bus_order.specs.declared.marks.Mark.{Mark}
 use Rattle.bus_order.specs.declared.marks.Idled.{Idled}
@@ -308,7 +308,7 @@ none_awaited b legal all = any_none (λ k. lives_in (placement b.system b.log) k
   where
     marked_or : (i : ℕ) → i < (b.system).clusters → HasMark b i ⊎ IsOff b i → (lives_in (placement b.system b.log) (cluster_no i) && is_none (mark_in b.marks (cluster_no i))) ≡ false
     marked_or i within (inl has) = not_none (lives_in (placement b.system b.log) (cluster_no i)) (mark_in b.marks (cluster_no i)) has
-    marked_or i within (inr off) = ap (λ t. t && is_none (mark_in b.marks (cluster_no i))) (lives_unless_off b.system b.log (cluster_no i) (built_stands b.system b.log legal) within ∙ by_off (off_at b.log (cluster_no i)) off)
+    marked_or i within (inr off) = ap (λ t. t && is_none (mark_in b.marks (cluster_no i))) (lives_unless_off b.system b.log (cluster_no i) (all_stand b.system b.log legal) within ∙ by_off (off_at b.log (cluster_no i)) off)
       where
         by_off : (o : Option ℕ) → is_some o ≡ true → is_none o ≡ false
         by_off None h = absurd (true≢false (sym h))
@@ -318,7 +318,7 @@ none_awaited b legal all = any_none (λ k. lives_in (placement b.system b.log) k
     one n k None at is = cc
     one n k (Some i) at is =
         let place = range_at 0 (length (placement b.system b.log).clusters) n i at in
-        let within : i < (b.system).clusters = omega (arith, place.0, place.1, built_clusters-length b.system b.log legal) in
+        let within : i < (b.system).clusters = omega (arith, place.0, place.1, stand_clusters-length b.system b.log legal) in
         let same : cluster_no i ≡ k = cc in
         subst (λ k. (lives_in (placement b.system b.log) k && is_none (mark_in b.marks k)) ≡ false) same (marked_or i within (all i within))
 

@@ -22,15 +22,15 @@ use Rattle.cert_sched.specs.Scripted.{closes}
 use Rattle.cert_sched.specs.Losses.{is_by_cluster, is_crash_of, is_from, was_lost_in}
 use Rattle.cert_sched.proofs.Induction.{is_over-snoc}
 use Rattle.cert_sched.proofs.LogLaws.{IsLegal-snoc}
-use Rattle.log_laws.proofs.records.Standing.{built_stands}
+use Rattle.log_laws.proofs.records.Standing.{all_stand}
 use Rattle.checkpoint_laws.specs.remaining.Left.{is_from_cluster}
 use Rattle.checkpoint_laws.proofs.remaining.Falling.{to_send_falls}
 use Rattle.checkpoint_laws.proofs.remaining.Renewing.{to_send_renewed}
 use Rattle.backup_laws.proofs.Fewer.{backups_less, backups_most}
-use Rattle.cluster_core.specs.Sent.{SentMayFollow}
+use Rattle.cluster_core.specs.Sent.{SentMayStand}
 use Rattle.cluster_core.specs.View.{ClusterView, after_sent, renewed_by_head, with_server}
 use Rattle.cluster_core.specs.Queue.{IsQueueLegal}
-use Rattle.cluster_core.specs.Follows.{FollowsBuilt, IsOpen, StandsBetween}
+use Rattle.cluster_core.specs.Follows.{Follows, IsOpen, StandsBetween}
 use Rattle.cluster_core.specs.Calls.{Absorbs, IsReady, ReadyFor, absorbed}
 use Rattle.bus_order.specs.Script.{is_unpassed, off_at, place_of_loss}
 use Rattle.bus_order.proofs.OffLaws.{off_at-snoc}
@@ -55,14 +55,14 @@ module _ (log : List Entry) (c : ClusterView) (post : Post) (after : BusView) (s
   abbrev pub next : Entry
   next = entry_of c.system log post
 
-  pub follows : FollowsBuilt c.system log c
-  follows = subst (λ l. FollowsBuilt c.system l c) (take_all c.cursor log (omega (arith, s.seen))) (s.beside).follows
+  pub follows : Follows c.system log c
+  follows = subst (λ l. Follows c.system l c) (take_all c.cursor log (omega (arith, s.seen))) (s.beside).follows
 
   queue_is : c.queue ≡ post ∷ tail_of c.queue
   queue_is = head_first c.queue post s.head
 
-  may : SentMayFollow c.system log next
-  may = let queue = subst (λ q. IsQueueLegal SentMayFollow c.system log q) queue_is (follows.queue).legal in queue.0
+  may : SentMayStand c.system log next
+  may = let queue = subst (λ q. IsQueueLegal SentMayStand c.system log q) queue_is (follows.queue).legal in queue.0
 
   pub own : is_from c.number post.by ≡ true
   own =
@@ -80,11 +80,11 @@ module _ (log : List Entry) (c : ClusterView) (post : Post) (after : BusView) (s
 
   -- the cluster is not off then
   pub sent_lives : off_at after.log c.number ≡ None
-  sent_lives = ap (λ l. off_at l c.number) s.longer ∙ off_at-snoc log next c.number ∙ ap (λ t. cond t (place_of_loss c.number (Some next)) (off_at log c.number)) (no_turn c.number (what next) may.built) ∙ lives_log
+  sent_lives = ap (λ l. off_at l c.number) s.longer ∙ off_at-snoc log next c.number ∙ ap (λ t. cond t (place_of_loss c.number (Some next)) (off_at log c.number)) (no_turn c.number (what next) may.of_kind) ∙ lives_log
 
   -- and was not lost by what it sent
   sent_no_loss : is_crash_of c.number (what next) ≡ false
-  sent_no_loss = no_loss c.number (what next) may.built
+  sent_no_loss = no_loss c.number (what next) may.of_kind
 
   pub sent_unlost : was_lost_in (drop c.cursor after.log) c.number ≡ false
   sent_unlost =
@@ -92,10 +92,10 @@ module _ (log : List Entry) (c : ClusterView) (post : Post) (after : BusView) (s
       ∙ ap (λ l. was_lost_in l c.number) (drop-append-le (length log) log (next ∷ []) (omega arith) ∙ ap (λ l. l ++ next ∷ []) (drop_whole log)) ∙ ap (λ t. t || false) sent_no_loss
 
   open_still : closes post.what ≡ false
-  open_still = closes_not c.number (placement c.system log) post.by post.what may.built own (may.stands).by_right
+  open_still = closes_not c.number (placement c.system log) post.by post.what may.of_kind own (may.stands).by_right
 
   goes_on_next : is_over c.system (log ++ next ∷ []) ≡ false
-  goes_on_next = is_over-snoc c.system log next ∙ ends_closed (placement c.system log) (what next) may.built ∙ open_still
+  goes_on_next = is_over-snoc c.system log next ∙ ends_closed (placement c.system log) (what next) may.of_kind ∙ open_still
 
   pub sent_goes_on : is_over after.system after.log ≡ false
   sent_goes_on = (λ i. is_over (sym s.system i) (s.longer i)) ∙ goes_on_next
@@ -104,19 +104,19 @@ module _ (log : List Entry) (c : ClusterView) (post : Post) (after : BusView) (s
   valid_system sound = ap is_system s.system ∙ sound.valid
 
   stands_next : IsLegalBy Stands c.system (log ++ next ∷ [])
-  stands_next = built_stands c.system (log ++ next ∷ []) legal_next
+  stands_next = all_stand c.system (log ++ next ∷ []) legal_next
 
   -- what a process sends, or is sent for its pages, leaves one such post less, and no more backups to be made
   tells_less : (w : What) → is_from_cluster w ≡ true → cluster_lost w ≡ None → what next ≡ w → IsSound after → left_of_posts c.system (log ++ next ∷ []) < left_of_posts c.system log
   tells_less w tells keeps is sound =
-      let less = to_send_falls c.system log next (valid_system sound) (built_stands c.system log s.legal) may.stands may.new_page (ap is_from_cluster is ∙ tells) in
+      let less = to_send_falls c.system log next (valid_system sound) (all_stand c.system log s.legal) may.stands may.new_page (ap is_from_cluster is ∙ tells) in
       let most = backups_most c.system log next (valid_system sound) stands_next (ap cluster_lost is ∙ keeps) in
       omega (arith, less, most)
 
   -- a new backup leaves one less to be made, and no more such posts
   renews_less : (to : ClusterNo) (fresh : Bool) (recs : List BackRec) → what next ≡ Rebackup to fresh recs → IsSound after → left_of_posts c.system (log ++ next ∷ []) < left_of_posts c.system log
   renews_less to fresh recs is sound =
-      let most = to_send_renewed c.system log next to fresh recs (valid_system sound) (built_stands c.system log s.legal) may.stands is in
+      let most = to_send_renewed c.system log next to fresh recs (valid_system sound) (all_stand c.system log s.legal) may.stands is in
       let less = backups_less c.system log next to fresh recs (valid_system sound) stands_next is in
       omega (arith, less, most)
 
@@ -126,7 +126,7 @@ module _ (log : List Entry) (c : ClusterView) (post : Post) (after : BusView) (s
       (λ at letter is still. tells_less (Mail at letter) refl refl is) (λ parent at child end is still. tells_less (Birth parent at child end) refl refl is) (λ pid at end is still. tells_less (Exit pid at end) refl refl is)
       (λ pid index is still. tells_less (Fetch pid index) refl refl is) (λ pid index bytes is still. tells_less (PageIs pid index bytes) refl refl is) (λ pid at index bytes is still. tells_less (Page pid at index bytes) refl refl is)
       (λ pid small read took is still. tells_less (Sync pid small read took) refl refl is) (λ to fresh recs is still. renews_less to fresh recs is) (λ rests is still. absurd (true≢false still)) (λ is still. absurd (true≢false still))
-      post.what may.built refl open_still sound
+      post.what may.of_kind refl open_still sound
 
   -- it leaves a post less to send, at least
   pub sent_spends : IsSound after → left_of_posts after.system after.log + length after.log ≤ left_of_posts c.system log + length log
@@ -148,7 +148,7 @@ module _ (log : List Entry) (c : ClusterView) (post : Post) (after : BusView) (s
   open_next : IsOpen MayStand c.system (log ++ next ∷ [])
   open_next = (legal_next, goes_on_next)
 
-  stands_between : StandsBetween FollowsBuilt c.system log next (cleared c)
+  stands_between : StandsBetween Follows c.system log next (cleared c)
   stands_between = record {
     before = c;
     followed = follows;
@@ -209,7 +209,7 @@ module _ (log : List Entry) (c : ClusterView) (post : Post) (after : BusView) (s
         let before : take c.cursor after.log ≡ take c.cursor log = ap (take c.cursor) s.longer ∙ take-append-le c.cursor log (next ∷ []) (omega (arith, s.seen)) in
         let unlost : was_lost_in (take (c.cursor + 1) after.log) c.number ≡ was_lost_in (take c.cursor log) c.number =
         ap (λ n. was_lost_in (take n after.log) c.number) (add-one c.cursor) ∙ lost_next after.log c.cursor next c.number at_cursor sent_no_loss ∙ ap (λ l. was_lost_in l c.number) before in
-        let P : ClusterView → Type 0 = λ v. FollowsBuilt c.system (log ++ next ∷ []) v → IsAlong after v in
+        let P : ClusterView → Type 0 = λ v. Follows c.system (log ++ next ∷ []) v → IsAlong after v in
         subst P (sym taken) (λ f. record {
           system = s.system;
           beside = record {
@@ -217,7 +217,7 @@ module _ (log : List Entry) (c : ClusterView) (post : Post) (after : BusView) (s
             within = omega (arith, all);
             goes_on = (λ i. is_over (s.system i) (take_all (c.cursor + 1) after.log (omega (arith, all)) i)) ∙ sent_goes_on;
             lives = ap (λ l. off_at l c.number) (take_all (c.cursor + 1) after.log (omega (arith, all))) ∙ sent_lives;
-            follows = subst (λ l. FollowsBuilt c.system l (with_server new.server (absorbed (cleared c) next))) (sym (take_all (c.cursor + 1) after.log (omega (arith, all)) ∙ s.longer)) f;
+            follows = subst (λ l. Follows c.system l (with_server new.server (absorbed (cleared c) next))) (sym (take_all (c.cursor + 1) after.log (omega (arith, all)) ∙ s.longer)) f;
             told_before = ap (λ n. list_any (is_told_by c.number) (drop n after.log)) (sym all) ∙ ap (list_any (is_told_by c.number)) (drop_whole after.log);
             unfailed = (s.beside).unfailed;
           };
@@ -238,7 +238,7 @@ module _ (log : List Entry) (c : ClusterView) (post : Post) (after : BusView) (s
       inr (record {
         entry = next;
         there = at_cursor;
-        between = subst (λ y. StandsBetween FollowsBuilt y (take c.cursor after.log) next (cleared c)) s.system (subst (λ l. StandsBetween FollowsBuilt c.system l next (cleared c)) (sym front) stands_between);
+        between = subst (λ y. StandsBetween Follows y (take c.cursor after.log) next (cleared c)) s.system (subst (λ l. StandsBetween Follows c.system l next (cleared c)) (sym front) stands_between);
         sent_before = ap (λ n. list_any (is_by_cluster c.number) (drop n after.log)) (sym long) ∙ ap (list_any (is_by_cluster c.number)) (drop_whole after.log);
       }),
     );

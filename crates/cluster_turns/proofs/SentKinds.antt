@@ -18,7 +18,7 @@ use Rattle.cert_sched.specs.Losses.{is_crash_of, is_from}
 use Rattle.cert_sched.specs.Rules.{ends_run, is_bus, is_by_right}
 use Rattle.cert_sched.specs.Scripted.{closes}
 use Rattle.bus_order.specs.Script.{turns}
-use Rattle.cluster_core.specs.Sent.{SentMayFollow, is_sent}
+use Rattle.cluster_core.specs.Sent.{SentMayStand, is_sent}
 
 pub by_sent : (P : What → Type 0) → ((at : ℕ) (letter : Letter) → P (Mail at letter)) → ((parent : Pid) (at : ℕ) (child : Pid) (end : ℕ) → P (Birth parent at child end)) → ((pid : Pid) (at : ℕ) (end : End) → P (Exit pid at end)) → ((pid : Pid) (index : ℕ) → P (Fetch pid index)) → ((pid : Pid) (index : ℕ) (bytes : List ℕ) → P (PageIs pid index bytes))
     → ((pid : Pid) (at index : ℕ) (bytes : List ℕ) → P (Page pid at index bytes)) → ((pid : Pid) (small : SmallState) (read : List ℕ) (took : Option ℕ) → P (Sync pid small read took)) → ((to : ClusterNo) (fresh : Bool) (recs : List BackRec) → P (Rebackup to fresh recs)) → ((rests : List (Pid × ℕ)) → P (Done rests)) → P Stop → (w : What) → is_sent w ≡ true → P w
@@ -58,5 +58,5 @@ closes_not k places by =
     (λ rests own right. absurd (not_bus k by own right)) (λ own right. absurd (not_bus k by own right))
 
 -- it may stand next by the rule that is in force
-pub may_sent : (system : System) (log : List Entry) (e : Entry) → SentMayFollow system log e → MayStand system log e
-may_sent system log e may = record { stands = may.stands; built = refl; limits = may.limits; new_page = may.new_page; pages = may.pages }
+pub may_sent : (system : System) (log : List Entry) (e : Entry) → SentMayStand system log e → MayStand system log e
+may_sent system log e may = record { stands = may.stands; of_kind = refl; limits = may.limits; new_page = may.new_page; pages = may.pages }

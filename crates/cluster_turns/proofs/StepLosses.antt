@@ -24,7 +24,7 @@ use Rattle.cert_sched.specs.Rules.{is_over}
 use Rattle.cert_sched.specs.Legal.{IsLegalBy, MayStand}
 use Rattle.cert_sched.specs.Losses.{capped, heard, is_by_cluster, is_crash_of, least_calls, least_steps, was_lost_in}
 use Rattle.cluster_core.specs.View.{ClusterView, after_sent}
-use Rattle.cluster_core.specs.Follows.{FollowsBuilt, StandsBetween}
+use Rattle.cluster_core.specs.Follows.{Follows, StandsBetween}
 use Rattle.bus_lock.specs.Lists.{MayAdd}
 use Rattle.bus_order.specs.Log.{author, author_of}
 use Rattle.bus_order.specs.Script.{has_unused, is_unpassed, is_word_for, off_at}
@@ -61,7 +61,7 @@ stood_longer b after c more system longer within others (inl beside) =
     let front : take c.cursor after.log ≡ take c.cursor b.log = ap (take c.cursor) longer ∙ take-append-le c.cursor b.log more within in
     let back : drop c.cursor after.log ≡ drop c.cursor b.log ++ more = ap (drop c.cursor) longer ∙ drop-append-le c.cursor b.log more within in
     inl (record {
-      follows = subst (λ l. FollowsBuilt after.system l c) (sym front) (subst (λ s. FollowsBuilt s (take c.cursor b.log) c) (sym system) beside.follows);
+      follows = subst (λ l. Follows after.system l c) (sym front) (subst (λ s. Follows s (take c.cursor b.log) c) (sym system) beside.follows);
       sent_before = ap (list_any (is_by_cluster c.number)) back ∙ list_any-append (is_by_cluster c.number) (drop c.cursor b.log) more ∙ (λ i. beside.sent_before i || others i);
     })
 stood_longer b after c more system longer within others (inr between) =
@@ -71,7 +71,7 @@ stood_longer b after c more system longer within others (inr between) =
     inr (record {
       entry = between.entry;
       there = ap (λ l. slice_get l c.cursor) longer ∙ get_front b.log more c.cursor inside ∙ between.there;
-      between = subst (λ l. StandsBetween FollowsBuilt after.system l between.entry c) (sym front) (subst (λ s. StandsBetween FollowsBuilt s (take c.cursor b.log) between.entry c) (sym system) between.between);
+      between = subst (λ l. StandsBetween Follows after.system l between.entry c) (sym front) (subst (λ s. StandsBetween Follows s (take c.cursor b.log) between.entry c) (sym system) between.between);
       sent_before = ap (list_any (is_by_cluster c.number)) back ∙ list_any-append (is_by_cluster c.number) (drop (c.cursor + 1) b.log) more ∙ (λ i. between.sent_before i || others i);
     })
 
@@ -150,7 +150,7 @@ before_along b c sound along =
       within = beside.within;
       goes_on = ap (λ s. is_over s (take c.cursor b.log)) (sym along.system) ∙ beside.goes_on;
       lives = beside.lives;
-      stands = inl (beside.unfailed, inl (record { follows = subst (λ s. FollowsBuilt s (take c.cursor b.log) c) along.system beside.follows; sent_before = none_sent c.number (drop c.cursor b.log) beside.told_before }));
+      stands = inl (beside.unfailed, inl (record { follows = subst (λ s. Follows s (take c.cursor b.log) c) along.system beside.follows; sent_before = none_sent c.number (drop c.cursor b.log) beside.told_before }));
       kept = none_own_told b.system b.log c.cursor c.number sound.legal beside.told_before;
       passed = along.passed;
     }

@@ -18,7 +18,7 @@ use Rattle.cert_sched.specs.declared.script.ScriptWord.{ScriptWord}
 use Rattle.cert_sched.specs.Scripted.{is_closed, is_server}
 use Rattle.page_server.specs.Account.{PagerState}
 use Rattle.cluster_core.specs.View.{ClusterView, with_server}
-use Rattle.cluster_core.specs.Follows.{FollowsBuilt, IsOpen}
+use Rattle.cluster_core.specs.Follows.{Follows, IsOpen}
 use Rattle.cluster_core.specs.Calls.{Absorbs, IsReady, ReadyFor, absorbed}
 use Rattle.cluster_core.specs.Queue.{left_queued}
 use Rattle.bus_order.specs.Log.{open_length}
@@ -105,8 +105,8 @@ module _ (log : List Entry) (c : ClusterView) (e : Entry) (beside : IsBeside log
 
   pub beside_taken : (new : ClusterView) (server : Option PagerState) → new ≡ with_server server (absorbed c e) → Absorbs e c new → IsBeside log new
   beside_taken new server taken absorbs =
-      let follows : FollowsBuilt c.system (take (c.cursor + 1) log) (with_server server (absorbed c e)) =
-      subst (λ l. FollowsBuilt c.system l (with_server server (absorbed c e))) (sym next_is) (subst (FollowsBuilt c.system (take c.cursor log ++ e ∷ [])) taken (absorbs (take c.cursor log) open_now open_next foreign)) in
+      let follows : Follows c.system (take (c.cursor + 1) log) (with_server server (absorbed c e)) =
+      subst (λ l. Follows c.system l (with_server server (absorbed c e))) (sym next_is) (subst (Follows c.system (take c.cursor log ++ e ∷ [])) taken (absorbs (take c.cursor log) open_now open_next foreign)) in
       let whole : IsBeside log (with_server server (absorbed c e)) = record {
         has = beside.has;
         within = let less = less_of (is_over c.system log) (length log) in omega (arith, less, next_within);

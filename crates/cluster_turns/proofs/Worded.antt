@@ -23,7 +23,7 @@ use Rattle.bus_lock.specs.Lists.{MayAdd, is_author}
 use Rattle.bus_order.specs.Log.{author, author_of}
 use Rattle.bus_order.specs.View.{BusView, HasLooked, IsLawful, after_words, look_once, looks, with_given, with_look}
 use Rattle.bus_order.proofs.Looking.{look_over, look_some}
-use Rattle.script_laws.proofs.OffLosses.{built_stands}
+use Rattle.script_laws.proofs.OffLosses.{all_stand}
 use Rattle.script_laws.proofs.SpreadLosses.{spread_log_closes}
 use Rattle.script_laws.proofs.WordLosses.{all_worded}
 use Rattle.script_laws.proofs.WordReturns.{none_returned}
@@ -118,4 +118,4 @@ sound_again old new sound system lawful = sound_of new (ap is_system system ∙ 
 
 -- where its script is spread its losses are covered, so its log is over only where it is closed
 pub spread_closes : (b : BusView) → is_system b.system ≡ true → IsLawful b → is_spread b.system b.script ≡ true → is_over b.system b.log ≡ true → is_closed b.log ≡ true
-spread_closes b valid lawful spread over = spread_log_closes b.system b.script b.log valid spread (built_stands b.system b.log lawful.legal) (all_worded b lawful.scripted) over
+spread_closes b valid lawful spread over = spread_log_closes b.system b.script b.log valid spread (all_stand b.system b.log lawful.legal) (all_worded b lawful.scripted) over

@@ -15,7 +15,7 @@ use Rattle.cert_sched.specs.Losses.{has_disk_left, has_step_left, is_crash_of, i
 use Rattle.cert_sched.specs.Scripted.{is_closed, is_finished}
 use Rattle.cluster_core.specs.View.{ClusterView, failing_in, with_server}
 use Rattle.script_laws.specs.Off.{has_returned_in}
-use Rattle.cluster_core.specs.Follows.{FollowsBuilt}
+use Rattle.cluster_core.specs.Follows.{Follows}
 use Rattle.cluster_core.specs.Calls.{Absorbs, FailsBy, ReadyFor, absorbed}
 use Rattle.bus_order.specs.Log.{open_length}
 use Rattle.bus_order.specs.Script.{is_unpassed, off_at}
@@ -45,7 +45,7 @@ pub record IsBeside (log : List Entry) (c : ClusterView) : Type 0 where
   pub within : c.cursor ≤ length log
   pub goes_on : is_over c.system (take c.cursor log) ≡ false
   pub lives : off_at (take c.cursor log) c.number ≡ None
-  pub follows : FollowsBuilt c.system (take c.cursor log) c
+  pub follows : Follows c.system (take c.cursor log) c
   pub told_before : list_any (is_told_by c.number) (drop c.cursor log) ≡ false
   pub unfailed : c.failed ≡ None
 

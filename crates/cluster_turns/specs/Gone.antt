@@ -13,7 +13,7 @@ use Rattle.bus_msg.specs.PlacedAfter.{what}
 use Rattle.cert_sched.specs.Rules.{is_over}
 use Rattle.cert_sched.specs.Losses.{capped, is_by_cluster, is_page_entry, least_calls, was_lost_in}
 use Rattle.cluster_core.specs.View.{ClusterView, disk_calls}
-use Rattle.cluster_core.specs.Follows.{FollowsBuilt, StandsBetween}
+use Rattle.cluster_core.specs.Follows.{Follows, StandsBetween}
 use Rattle.bus_lock.specs.Lists.{is_author}
 use Rattle.bus_order.specs.Log.{author_of}
 use Rattle.bus_order.specs.Script.{is_uncalled, is_unpassed, off_at}
@@ -40,14 +40,14 @@ is_own_loss k _ = false
 
 -- it followed the log up to its cursor, and sent nothing that stands later
 pub record StoodBeside (b : BusView) (c : ClusterView) : Type 0 where
-  pub follows : FollowsBuilt b.system (take c.cursor b.log) c
+  pub follows : Follows b.system (take c.cursor b.log) c
   pub sent_before : list_any (is_by_cluster c.number) (drop c.cursor b.log) ≡ false
 
 -- it has sent the entry at its cursor and not taken that in, and sent nothing that stands later
 pub record StoodBetween (b : BusView) (c : ClusterView) : Type 0 where
   pub entry : Entry
   pub there : slice_get b.log c.cursor ≡ Some entry
-  pub between : StandsBetween FollowsBuilt b.system (take c.cursor b.log) entry c
+  pub between : StandsBetween Follows b.system (take c.cursor b.log) entry c
   pub sent_before : list_any (is_by_cluster c.number) (drop (c.cursor + 1) b.log) ≡ false
 
 -- it has counted at least the disk calls that the log up to its cursor shows

@@ -37,7 +37,7 @@ use Rattle.cert_sched.proofs.BornLaws.{birth_from}
 use Rattle.cert_sched.proofs.FreshLaws.{numbered}
 use Rattle.cert_sched.proofs.ReplayLaws.{fork_after}
 use Rattle.log_laws.proofs.letters.LogReads.{silent_reads}
-use Rattle.log_laws.proofs.records.Standing.{built_stands}
+use Rattle.log_laws.proofs.records.Standing.{all_stand}
 use Rattle.checkpoint_laws.proofs.posts.BirthStands.{birth_stands}
 use Rattle.number_laws.proofs.Counts.{done_is}
 use Rattle.number_laws.proofs.NextPids.{pid_fits}
@@ -121,7 +121,7 @@ stands_before system log p s at q there later forks =
 limits_behind : (system : System) (log : List Entry) (front : FrontState) (limits : Limits) (p : Pid) (s : ProcState) (kept : Sender) (at : ℕ) (q : ProcState) (child : Pid) → is_system system ≡ true → IsLegalBy MayStand system log
     → KeepsSender front limits p s kept system log → Before system log p at q → keeps_limits system log p (fork_parent q child) ≡ is_within limits kept (fork_parent q child)
 limits_behind system log front limits p s kept at q child valid legal keeps b =
-    let from = silent_reads system log p (q.small).steps q valid (built_stands system log legal) b.reached b.runs in
+    let from = silent_reads system log p (q.small).steps q valid (all_stand system log legal) b.reached b.runs in
     let reads : reads_since system log p (fork_parent q child) ≡ length (saved_of system log p) - length q.mail = reads_left (saved_of system log p) q.mail from in
     λ i. leb (((fork_parent q child).small).steps - sym (keeps.process).begins i) (sym (keeps.limited).steps i)
     && leb ((reads ∙ ap (λ n. n - length q.mail) (sym (keeps.process).letters)) i) (sym (keeps.limited).reads i)
@@ -158,7 +158,7 @@ module _ (front : FrontState) (limits : Limits) (head : Head) (kept : Sender) (s
             post = record { by = Cluster home; what = Birth head.pid (before.count i) child (next_end q) };
             dests = to_all (sym (keeps.before).places i);
           })
-          (birth_stands system log (Cluster home) head.pid q child valid (built_stands system log legal) (record { goes_on = placed.2; by_home = by_home; reached = before.reached }) before.forks child_is)
+          (birth_stands system log (Cluster home) head.pid q child valid (all_stand system log legal) (record { goes_on = placed.2; by_home = by_home; reached = before.reached }) before.forks child_is)
 
       follows_log : MayStand system log e
       follows_log = record {

@@ -39,7 +39,7 @@ use Rattle.log_laws.specs.letters.Numbered.{are_below, are_in_order}
 use Rattle.log_laws.specs.letters.ReadsFrom.{ReadsFrom}
 use Rattle.log_laws.proofs.letters.LogReads.{all_saved_numbered, rolls_there, saved_from, silent_reads, taken_reads}
 use Rattle.log_laws.proofs.letters.RollingReads.{silent_next}
-use Rattle.log_laws.proofs.records.Standing.{built_stands}
+use Rattle.log_laws.proofs.records.Standing.{all_stand}
 use Rattle.checkpoint_laws.specs.posts.Sending.{MaySend, MaySync}
 use Rattle.checkpoint_laws.proofs.posts.Standing.{sync_stands}
 use Rattle.checkpoint_laws.proofs.posts.SyncMade.{sync_made}
@@ -95,7 +95,7 @@ module _ (front : FrontState) (limits : Limits) (head : Head) (kept : Sender) (s
     there = (sender.process).there
 
     stood : IsLegalBy Stands system log
-    stood = built_stands system log legal
+    stood = all_stand system log legal
 
     led_is : IsLed limits p kept pager system log at s t
     led_is = is_led front limits p s kept pager system log valid legal keeps.sender keeps.accounts goes_on unended at t led

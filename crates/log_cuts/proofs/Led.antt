@@ -18,7 +18,7 @@ use Rattle.page_server.specs.Account.{PagerState, account}
 use Rattle.page_accounts.specs.Keeps.{KeepsAccounts}
 use Rattle.log_audit.specs.Front.{FrontState}
 use Rattle.log_laws.proofs.letters.LogReads.{silent_reads}
-use Rattle.log_laws.proofs.records.Standing.{built_stands}
+use Rattle.log_laws.proofs.records.Standing.{all_stand}
 use Rattle.checkpoint_laws.specs.posts.Paged.{ArePaged}
 use Rattle.checkpoint_laws.proofs.posts.PagedAccounts.{both_paged}
 use Rattle.log_processes.specs.declared.sender.Limits.{Limits}
@@ -49,7 +49,7 @@ module _ (front : FrontState) (limits : Limits) (p : Pid) (s : ProcState) (kept 
   there = (sender.process).there
 
   stood : IsLegalBy Stands system log
-  stood = built_stands system log legal
+  stood = all_stand system log legal
 
   reached : silent_upto system log p at ≡ Some t
   reached = silent_then system log p s there at ∙ led

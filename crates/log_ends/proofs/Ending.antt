@@ -39,7 +39,7 @@ use Rattle.cert_sched.proofs.PidLaws.{apart_fewer, placed_pids}
 use Rattle.cert_sched.proofs.RisingLaws.{rising-any}
 use Rattle.cert_sched.proofs.RunsLaws.{rest_pids}
 use Rattle.cert_sched.proofs.ThereLaws.{unended_there}
-use Rattle.log_laws.proofs.records.Standing.{built_stands}
+use Rattle.log_laws.proofs.records.Standing.{all_stand}
 use Rattle.number_laws.proofs.Counts.{done_is}
 use Rattle.number_laws.proofs.InOrder.{has, rises_already, rises_apart, same_in_order}
 use Rattle.line_laws.proofs.Ends.{each_rests}
@@ -202,7 +202,7 @@ module _ (system : System) (log : List Entry) (es : List (ℕ × Process)) (vali
       (subst (Each (λ n s. (is_some (unended_at (placement system log) (pid_of n)) ≡ true) × (process_after system log (pid_of n) ≡ Some (state_of s)))) one.there all) in
       let there : has n (rest_pids rests) ≡ true =
       ap (has n) holds.named ∙ rising-any (λ m. eqb m n) (placed_pids (unended_in (placement system log))) ∙ sym (found_is (pid_of n) (placement system log).placed) ∙ own.0 in
-      let idle = each_rests system log e rests valid (built_stands system log legal) is holds in
+      let idle = each_rests system log e rests valid (all_stand system log legal) is holds in
       let once = among system log n rests there idle in
       never_idle system log (pid_of n) (state_of (one.entry).1) own.1 one.never once.count once.idle
 

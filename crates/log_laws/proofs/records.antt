@@ -8,6 +8,6 @@ pub mod RenewedRecords
 pub mod Brought
 pub mod KeptLaws
 pub mod LossLaws
-pub mod BuiltLaws
+pub mod Noted
 pub mod RisingRecords
 pub mod BootLaws

@@ -19,7 +19,7 @@ use Rattle.log_laws.proofs.births.FirstChild.{none_first}
 use Rattle.log_laws.proofs.births.NewBackups.{handed_on_stay, renewed_goes}
 use Rattle.log_laws.proofs.births.NewBirth.{birth_last, child_apart, stands_in_none}
 use Rattle.log_laws.proofs.births.OtherEntries.{ended_goes, others_leave, synced_goes}
-use Rattle.log_laws.proofs.records.Standing.{built_stands}
+use Rattle.log_laws.proofs.records.Standing.{all_stand}
 use Rattle.log_processes.specs.Families.{CanBear, KeepsFamily, SaysParent, family_after}
 
 -- a new backup after a process has run has its record alone
@@ -28,7 +28,7 @@ one_record rs r q o is = cc
 
 module _ (system : System) (log : List Entry) (e : Entry) (valid : is_system system ≡ true) (legal : IsLegalBy MayStand system log) (may : MayStand system log e) where
   follows : (w : What) → what e ≡ w → KindHolds system log e w → family_after w (unsynced_births system log) ≡ unsynced_births system (log ++ e ∷ [])
-  follows (Birth parent at child end) is kind = sym (birth_last system log e parent at child end valid (built_stands system log legal) may.stands is)
+  follows (Birth parent at child end) is kind = sym (birth_last system log e parent at child end valid (all_stand system log legal) may.stands is)
   follows (Exit pid at end) is kind = sym (ended_goes system log e pid at end is)
   follows (Sync pid small read took) is kind = sym (synced_goes system log e pid small read took is)
   follows (Rebackup to true []) is kind = absurd kind
@@ -42,7 +42,7 @@ module _ (system : System) (log : List Entry) (e : Entry) (valid : is_system sys
     where
       by_what : (w : What) → what e ≡ w → CanBear (unsynced_births system log) w
       by_what (Birth parent at child end) is =
-          let stand = built_stands system log legal in
+          let stand = all_stand system log legal in
           (child_apart system log e parent at child end valid stand may.stands is, stands_in_none system log e parent at child end valid stand may.stands is)
       by_what w is = tt
 

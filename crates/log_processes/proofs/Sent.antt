@@ -24,7 +24,7 @@ use Rattle.cert_sched.proofs.MailLaws.{sender_goes_on, silently_ends}
 use Rattle.cert_sched.proofs.StepLaws.{done_kernel, sent_from}
 use Rattle.log_laws.proofs.letters.LogReads.{silent_reads}
 use Rattle.log_laws.proofs.letters.StepReads.{sent_leaves}
-use Rattle.log_laws.proofs.records.Standing.{built_stands}
+use Rattle.log_laws.proofs.records.Standing.{all_stand}
 use Rattle.entry_lines.specs.declared.told.ToldBy.{ToldBy}
 use Rattle.entry_lines.specs.declared.told.ToldBy.TheVariants.{Cluster as ByCluster, Bus as ByBus}
 use Rattle.entry_lines.specs.Told.{told_by}
@@ -107,7 +107,7 @@ reads_then system log p at m t valid legal sends =
     let silent : silent_upto system log p (done f.kernel p + l.earlier) ≡ Some l.before = (λ i. option_and_then (silently (count i)) (there i)) ∙ l.silent in
     let goes_on : has_ended ((l.before).small).status ≡ false = silently_ends l.earlier f.was l.before l.silent ∙ sender_goes_on (at - done f.kernel p) f.was m t f.sends in
     let same : t.mail ≡ (l.before).mail = sent_leaves l.before t m l.last in
-    let from = silent_reads system log p (done f.kernel p + l.earlier) l.before valid (built_stands system log legal) silent goes_on in
+    let from = silent_reads system log p (done f.kernel p + l.earlier) l.before valid (all_stand system log legal) silent goes_on in
     ap (λ mail. length (numbers_read (saved_of system log p) mail)) same ∙ reads_left (saved_of system log p) (l.before).mail from ∙ ap (λ mail. length (saved_of system log p) - length mail) (sym same)
 
 -- so its own counts say whether it is within its limits

@@ -40,7 +40,7 @@ use Rattle.entry_lines.specs.Told.{pids_of, told_of, told_what}
 use Rattle.page_server.specs.Account.{PagerState, account}
 use Rattle.log_audit.specs.Front.{FrontState, IsFrontOf}
 use Rattle.log_audit.proofs.Losing.{next_passes, next_placed}
-use Rattle.log_laws.proofs.records.Standing.{built_stands}
+use Rattle.log_laws.proofs.records.Standing.{all_stand}
 use Rattle.checkpoint_laws.specs.posts.Sending.{MaySend}
 use Rattle.log_processes.specs.declared.sender.Head.{Head}
 use Rattle.log_processes.specs.declared.sender.Limits.{Limits}
@@ -132,7 +132,7 @@ module _ (front : FrontState) (limits : Limits) (head : Head) (others : List ℕ
         ∙ l.limited ∙ here.within in (
           λ j. record { place = head.place; by = sym (m.home_is).told j; what = ToldFresh (p.0 ∷ sym alone j) (here.count j) (cluster_is.1 j) },
           record {
-            stands = subst (Stands system log) same (fresh_stands system log home to p t valid (built_stands system log legal) sends renews);
+            stands = subst (Stands system log) same (fresh_stands system log home to p t valid (all_stand system log legal) sends renews);
             limits = within;
             new_page = refl;
             pages = sym (keeps.sender).whole ∙ m.whole;

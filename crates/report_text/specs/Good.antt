@@ -38,7 +38,3 @@ pub record IsGoodBy (May : System → List Entry → Entry → Type 0) (enough :
 -- a run that is what its system and its script allow
 abbrev pub IsGood : System → List ScriptWord → Run → Type 0
 IsGood system script r = IsGoodBy MayFollow has_counted system script r
-
--- the same of the entries that are built so far
-abbrev pub IsGoodBuilt : System → List ScriptWord → Run → Type 0
-IsGoodBuilt system script r = IsGoodBy MayStand has_counted system script r

@@ -27,7 +27,7 @@ use Rattle.bus_order.proofs.Keeping.{none_legal}
 use Rattle.script_laws.specs.Crashes.{is_loss, crashes}
 use Rattle.script_laws.proofs.Counts.{count-cons, count-snoc}
 use Rattle.script_laws.proofs.CrashLaws.{crashes_within}
-use Rattle.script_laws.proofs.OffLosses.{built_stands}
+use Rattle.script_laws.proofs.OffLosses.{all_stand}
 use Rattle.script_laws.proofs.SpreadLosses.{one_word_spread}
 
 -- ---- a log with no loss
@@ -52,7 +52,7 @@ none_lost script (e ∷ log) none =
 pub crashless_covered : (system : System) (log : List Entry) (k : ClusterNo) → is_system system ≡ true → IsLegalBy MayStand system log → crashes log ≡ 0 → is_covered (placement system log) k ≡ true
 crashless_covered system log k valid legal none =
     let script : List ScriptWord = CrashAt k 0 ∷ [] in
-    spread_covered system script log k valid (one_word_spread system script valid (omega arith)) (built_stands system log legal) (none_lost script log none) (ap (λ b. b || false) (eq-eqb k.0 k.0 refl))
+    spread_covered system script log k valid (one_word_spread system script valid (omega arith)) (all_stand system log legal) (none_lost script log none) (ap (λ b. b || false) (eq-eqb k.0 k.0 refl))
 
 -- ---- one loss at most
 

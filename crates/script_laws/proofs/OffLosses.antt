@@ -24,9 +24,9 @@ stands_from system log [] legal = tt
 stands_from system log (e ∷ rest) legal = ((legal.0).stands, stands_from system (log ++ e ∷ []) rest legal.1)
 
 -- each of its entries stands
-pub built_stands : (system : System) (log : List Entry) → IsLegalBy MayStand system log → IsLegalBy Stands system log
+pub all_stand : (system : System) (log : List Entry) → IsLegalBy MayStand system log → IsLegalBy Stands system log
 unfolding IsLegalBy
-built_stands system log legal = stands_from system [] log legal
+all_stand system log legal = stands_from system [] log legal
 
 -- ---- the parts of a log in which nothing brings the cluster back
 
@@ -53,7 +53,7 @@ not_off_not_lost log k none on = lost_off log k none ∙ ap is_some on
 
 -- a cluster of the system lives exactly where it was not lost
 pub lives_unless_lost : (system : System) (log : List Entry) (k : ClusterNo) → IsLegalBy MayStand system log → has_returned_in log k ≡ false → k.0 < system.clusters → lives_in (placement system log) k ≡ not (was_lost_in log k)
-lives_unless_lost system log k legal none within = lives_unless_off system log k (built_stands system log legal) within ∙ by_off (off_at log k) ∙ sym (ap not (lost_off log k none))
+lives_unless_lost system log k legal none within = lives_unless_off system log k (all_stand system log legal) within ∙ by_off (off_at log k) ∙ sym (ap not (lost_off log k none))
   where
     by_off : (o : Option ℕ) → is_none o ≡ not (is_some o)
     by_off None = refl
@@ -64,7 +64,7 @@ lives_unless_lost system log k legal none within = lives_unless_off system log k
 -- where a cluster is off it was lost there, and nowhere else
 pub off_is_its_loss : (system : System) (log : List Entry) (k : ClusterNo) (at : ℕ) → IsLegalBy MayStand system log → has_returned_in log k ≡ false → off_at log k ≡ Some at → IsItsLoss log k at
 off_is_its_loss system log k at legal none off =
-    let all = built_stands system log legal in
+    let all = all_stand system log legal in
     let since = off_since system log k at all off in
     let stood = stood_at Stands system log at since.entry all since.there in
     record {
@@ -81,4 +81,4 @@ off_is_its_loss system log k at legal none off =
 pub silent_once_lost : (system : System) (log : List Entry) (k : ClusterNo) (n : ℕ) → IsLegalBy MayStand system log → has_returned_in log k ≡ false → was_lost_in (take n log) k ≡ true → list_any (is_by_cluster k) (drop n log) ≡ false
 silent_once_lost system log k n legal none lost =
     let parts = back_parts log k n none in
-    silent_until_back system log k n (built_stands system log legal) (off_where_lost (take n log) k parts.0 ∙ lost) parts.1
+    silent_until_back system log k n (all_stand system log legal) (off_where_lost (take n log) k parts.0 ∙ lost) parts.1

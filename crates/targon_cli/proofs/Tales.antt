@@ -15,7 +15,7 @@ use Rattle.cert_sched.proofs.Applied.{finished_kernel_still}
 use Rattle.report_text.specs.declared.run.Run.{Run}
 use Rattle.report_text.specs.declared.run.Ended.{Ended}
 use Rattle.report_text.specs.declared.run.Ended.TheVariants.{Finished}
-use Rattle.report_text.specs.Good.{IsGoodBuilt, EndsAs}
+use Rattle.report_text.specs.Good.{IsGood, EndsAs}
 use Rattle.cluster_run.specs.declared.life.Ran.{Ran}
 use Rattle.cluster_run.specs.Completed.{IsCompleted}
 use Rattle.targon_cli.specs.declared.reply.Reply.{Reply}
@@ -27,7 +27,7 @@ ends_finished : (system : System) (r : Run) → r.ended ≡ Finished → EndsAs 
 ends_finished system r e h = subst (λ (k : Ended). EndsAs system r.log k) e h
 
 -- nothing can move in the kernel of a good run that is finished
-still : (system : System) (script : List ScriptWord) (r : Run) (kernel : Kernel) → IsGoodBuilt system script r → r.ended ≡ Finished → plain_run system r.items ≡ Some kernel → is_still kernel ≡ true
+still : (system : System) (script : List ScriptWord) (r : Run) (kernel : Kernel) → IsGood system script r → r.ended ≡ Finished → plain_run system r.items ≡ Some kernel → is_still kernel ≡ true
 still system script r kernel good ended runs =
     finished_kernel_still system r.log kernel good.legal (ends_finished system r ended good.ended) (ap (plain_run system) (sym good.items) ∙ runs)
 

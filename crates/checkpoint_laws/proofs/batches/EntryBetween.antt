@@ -35,7 +35,7 @@ use Rattle.cert_sched.specs.Steps.{numbers_read, page_count, saved_of, silent_up
 use Rattle.cert_sched.specs.Kinds.{ChildrenSynced, after_take}
 use Rattle.cert_sched.specs.Rules.{ends_run}
 use Rattle.cert_sched.specs.Legal.{IsLegalBy, Stands}
-use Rattle.cert_sched.proofs.BuiltCuts.{by_home_there}
+use Rattle.cert_sched.proofs.CutLaws.{by_home_there}
 use Rattle.cert_sched.proofs.CameLaws.{Came, went_on, was_cut, was_born, came}
 use Rattle.cert_sched.proofs.Induction.{is_over-snoc}
 use Rattle.cert_sched.proofs.LogLaws.{IsLegal-snoc}

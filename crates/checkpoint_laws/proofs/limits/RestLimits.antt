@@ -16,7 +16,7 @@ use Rattle.cert_sched.specs.Schedule.{placement}
 use Rattle.cert_sched.specs.Deeds.{letter_for}
 use Rattle.cert_sched.specs.Steps.{numbers_read, silent_upto}
 use Rattle.cert_sched.specs.Rules.{is_within_limits, keeps_limits}
-use Rattle.cert_sched.proofs.BuiltCuts.{by_home_there}
+use Rattle.cert_sched.proofs.CutLaws.{by_home_there}
 use Rattle.log_laws.proofs.letters.RollingReads.{silent_next}
 use Rattle.checkpoint_laws.proofs.posts.PageEntry.{page_saved, page_silent, page_start}
 use Rattle.checkpoint_laws.proofs.posts.TakeLeaves.{runs_before, takes_leave}

@@ -18,7 +18,7 @@ use Rattle.cert_sched.specs.Told.{told}
 use Rattle.cert_sched.specs.Moved.{any_since_moved}
 use Rattle.cert_sched.specs.Rules.{is_by_right}
 use Rattle.cert_sched.specs.Legal.{IsLegalBy, Stands}
-use Rattle.cert_sched.proofs.BuiltCuts.{by_home_there}
+use Rattle.cert_sched.proofs.CutLaws.{by_home_there}
 use Rattle.cert_sched.proofs.CameLaws.{same_of}
 use Rattle.cert_sched.proofs.FamilyLaws.{In}
 use Rattle.cert_sched.proofs.FreshLaws.{same_pids}

@@ -29,7 +29,7 @@ use Rattle.cert_sched.specs.Kinds.{next_child_at}
 use Rattle.cert_sched.specs.Legal.{IsLegalBy, Stands}
 use Rattle.cert_sched.proofs.AmongLaws.{all_alike}
 use Rattle.cert_sched.proofs.BootPids.{state_pids}
-use Rattle.cert_sched.proofs.BuiltCuts.{by_home_there}
+use Rattle.cert_sched.proofs.CutLaws.{by_home_there}
 use Rattle.cert_sched.proofs.FamilyLaws.{not_in}
 use Rattle.cert_sched.proofs.FreshLaws.{born_rightly, child_new, numbered}
 use Rattle.cert_sched.proofs.LogLaws.{plain_after-snoc}

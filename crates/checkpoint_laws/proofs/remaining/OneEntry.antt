@@ -22,7 +22,7 @@ use Rattle.cert_sched.specs.Legal.{IsLegalBy, Stands}
 use Rattle.cert_sched.specs.Deeds.{is_cut, is_birth_of, start_of}
 use Rattle.cert_sched.specs.Record.{has_state}
 use Rattle.cert_sched.proofs.BirthKind.{is_birth}
-use Rattle.cert_sched.proofs.BuiltCuts.{by_home_there}
+use Rattle.cert_sched.proofs.CutLaws.{by_home_there}
 use Rattle.cert_sched.proofs.LoadLaws.{load_entry}
 use Rattle.cert_sched.proofs.RecordLaws.{has_state-snoc}
 use Rattle.cert_sched.proofs.RunItems.{forkless_keep, items_forkless}

@@ -26,7 +26,7 @@ use Rattle.cert_sched.specs.Rules.{is_by_home, is_by_right}
 use Rattle.cert_sched.specs.Kinds.{KindHolds, SyncHolds, is_due}
 use Rattle.cert_sched.specs.Legal.{IsLegalBy, Stands}
 use Rattle.cert_sched.proofs.BirthKind.{is_birth}
-use Rattle.cert_sched.proofs.BuiltCuts.{by_home_there}
+use Rattle.cert_sched.proofs.CutLaws.{by_home_there}
 use Rattle.cert_sched.proofs.LogLaws.{placement-snoc}
 use Rattle.cert_sched.proofs.RecordLaws.{has_state-snoc, start_of-snoc}
 use Rattle.cert_sched.proofs.StepLaws.{done_kernel}

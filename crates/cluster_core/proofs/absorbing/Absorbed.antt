@@ -12,7 +12,7 @@ use Rattle.bus_msg.specs.declared.entry.Entry.{Entry}
 use Rattle.bus_msg.specs.PlacedAfter.{what}
 use Rattle.log_laws.specs.records.Kept.{changes_in_place}
 use Rattle.log_laws.proofs.records.KeptLaws.{records_kept}
-use Rattle.log_laws.proofs.records.Standing.{built_stands}
+use Rattle.log_laws.proofs.records.Standing.{all_stand}
 use Rattle.crash_notice.specs.Splitting.{moves_here}
 use Rattle.cert_sched.specs.Legal.{MayStand}
 use Rattle.cert_sched.specs.Losses.{is_by_cluster, is_crash_of}
@@ -29,11 +29,11 @@ use Rattle.cluster_core.specs.View.{ClusterView, with_server, held_at}
 use Rattle.residents.specs.Held.{Held, Runs, Waits, held_of}
 use Rattle.cluster_core.specs.Parts.{AllOwn}
 use Rattle.cluster_core.specs.Recovered.{moved_by, CanWait, with_all_waiting}
-use Rattle.cluster_core.specs.Follows.{FollowsBuilt, IsOpen, StandsBetween, QueuedIn}
+use Rattle.cluster_core.specs.Follows.{Follows, IsOpen, StandsBetween, QueuedIn}
 use Rattle.cluster_core.specs.Queue.{AreTogether, Queued, Nothing, One, falls, is_lone, is_rebackup, left_queued, posts_of, are_plain}
 use Rattle.cluster_core.specs.Calls.{Absorbs, IsReady, ReadyFor, absorbed, with_entry, here_after}
 use Rattle.cluster_core.proofs.absorbing.ByKind.{IsLoss, OneOf, by_kind, by_page, by_sync, is_of_page, is_of_sync}
-use Rattle.cluster_core.proofs.losses.Homes.{HomeHere, differ_built, home_here}
+use Rattle.cluster_core.proofs.losses.Homes.{HomeHere, pids_apart, home_here}
 use Rattle.cluster_core.proofs.losses.Losing.{follows_lost, can_wait, still_here}
 use Rattle.cluster_core.proofs.losses.LostQueue.{home_stays}
 use Rattle.cluster_core.proofs.paging.Paged.{page_at, was_paged}
@@ -44,7 +44,7 @@ use Rattle.cluster_core.specs.Serving.{Serves}
 use Rattle.page_server.specs.Account.{PagerState}
 use Rattle.cluster_core.proofs.here.Owning.{own_after, own_later, own_page}
 use Rattle.cluster_core.proofs.absorbing.Following.{Left, apart, follows_foreign, follows_own, found_stays, left_of, next_of, told_taken}
-use Rattle.cluster_core.proofs.here.Beside.{FollowsBeside, all_of, beside_of, built_of}
+use Rattle.cluster_core.proofs.here.Beside.{FollowsBeside, all_of, beside_of, sent_of}
 use Rattle.cluster_core.proofs.absorbing.AfterSent.{sent_is}
 use Rattle.cluster_core.proofs.absorbing.Fallen.{IsComing, NoneFalls, batch_left, empty_falls_none, fallen_comes, handed_is, left_falls_none, own_left, form_plain, handed_rest, plain_rest}
 use Rattle.cluster_core.proofs.absorbing.Renewed.{follows_renewed, renewal_taken, home_same as home_same_renewed}
@@ -88,7 +88,7 @@ beside_next which c log e server valid own order now later serves f foreign spar
     by_kind_of : OneOf (what e) → FollowsBeside which c.system (log ++ e ∷ []) (with_server server (with_entry c e))
     by_kind_of (inl tells) =
         let n = next_of c.system log e tells now later in
-        subst (λ v. FollowsBeside which c.system (log ++ e ∷ []) (with_server server v)) (sym (told_taken c e tells)) (follows_foreign which c log e n server valid (differ_built c.system log valid n.legal) own f foreign serves)
+        subst (λ v. FollowsBeside which c.system (log ++ e ∷ []) (with_server server v)) (sym (told_taken c e tells)) (follows_foreign which c log e n server valid (pids_apart c.system log valid n.legal) own f foreign serves)
     by_kind_of (inr (inl of)) = follows_page c.system valid log e of now later which c server serves f foreign
     by_kind_of (inr (inr (inl l))) =
         let moved : are_rising (filter (moves_here (placement c.system log) l.lost c.number) c.records) ≡ true =
@@ -97,14 +97,14 @@ beside_next which c log e server valid own order now later serves f foreign spar
     by_kind_of (inr (inr (inr (inl of)))) = follows_sync c.system valid log e of now later which c server own serves f foreign
     by_kind_of (inr (inr (inr (inr (inr (inl y)))))) = follows_renewed c.system valid log e y now later which c server own serves f foreign
     by_kind_of (inr (inr (inr (inr (inr (inr y)))))) = follows_returned c.system valid log e y.back y.same now later which c server own serves f foreign
-    by_kind_of (inr (inr (inr (inr (inl b))))) = follows_birth c.system valid log e b.parent b.at b.child b.end b.same now later which c server (records_kept c.system log e c.number c.records valid (built_stands c.system (log ++ e ∷ []) later.0) (ap changes_in_place b.same) f.records) own serves f foreign
+    by_kind_of (inr (inr (inr (inr (inl b))))) = follows_birth c.system valid log e b.parent b.at b.child b.end b.same now later which c server (records_kept c.system log e c.number c.records valid (all_stand c.system (log ++ e ∷ []) later.0) (ap changes_in_place b.same) f.records) own serves f foreign
 
 -- ---- beside a batch, or a birth
 
 module _ (c : ClusterView) (log : List Entry) (e : Entry) (p : Pid) (process : Process) (there : held_at c p ≡ Some (Runs process)) (valid : is_system c.system ≡ true) (now : IsOpen MayStand c.system log) (later : IsOpen MayStand c.system (log ++ e ∷ []))
-    (f : FollowsBuilt c.system log c) (foreign : is_by_cluster c.number e ≡ false) (spared : is_crash_of c.number (what e) ≡ false) (order : are_rising (moved_by c.places c.number (what e) (records_after c.number (what e) c.records)) ≡ true) where
+    (f : Follows c.system log c) (foreign : is_by_cluster c.number e ≡ false) (spared : is_crash_of c.number (what e) ≡ false) (order : are_rising (moved_by c.places c.number (what e) (records_after c.number (what e) c.records)) ≡ true) where
   home : HomeHere (placement c.system log) p c.number
-  home = home_here (placement c.system log) c.number (pids_in c.here) p (differ_built c.system log valid now.0) (f.processes).each_once (is_among c.here p (Runs process) there)
+  home = home_here (placement c.system log) c.number (pids_in c.here) p (pids_apart c.system log valid now.0) (f.processes).each_once (is_among c.here p (Runs process) there)
 
   home_is : home_at (placement c.system log) p ≡ Some c.number
   home_is = ap (option_map (λ (q : Placed). q.home)) home.found ∙ (λ i. Some (record { 0 = eqb-true ((home.placed).home).0 (c.number).0 home.home i }))
@@ -152,8 +152,8 @@ module _ (c : ClusterView) (log : List Entry) (e : Entry) (p : Pid) (process : P
 
 -- beside what is left of a renewal it follows the log with the entry, and so with that
 stays_renewing_here : (c : ClusterView) (log : List Entry) (e : Entry) (server : Option PagerState) → is_system c.system ≡ true → AllOwn c.cursor c.here → are_rising (moved_by c.places c.number (what e) (records_after c.number (what e) c.records)) ≡ true
-    → Serves (placement c.system log) e c.server server → IsOpen MayStand c.system log → IsOpen MayStand c.system (log ++ e ∷ []) → FollowsBuilt c.system log c → is_by_cluster c.number e ≡ false → is_crash_of c.number (what e) ≡ false
-    → (y : Renews c.system log c) (posts : List Post) → posts ≡ renewing_left c.number None y.pid (state_of y.process) y.indices → FollowsBuilt c.system (log ++ e ∷ []) (with_server server (record (with_entry c e) { queue = posts }))
+    → Serves (placement c.system log) e c.server server → IsOpen MayStand c.system log → IsOpen MayStand c.system (log ++ e ∷ []) → Follows c.system log c → is_by_cluster c.number e ≡ false → is_crash_of c.number (what e) ≡ false
+    → (y : Renews c.system log c) (posts : List Post) → posts ≡ renewing_left c.number None y.pid (state_of y.process) y.indices → Follows c.system (log ++ e ∷ []) (with_server server (record (with_entry c e) { queue = posts }))
 stays_renewing_here c log e server valid own order serves now later f other spared y posts queue =
     stays_renewing c log e y valid now later f other (with_server server (record (with_entry c e) { queue = posts })) refl refl queue
     (beside_next (all_but y.pid) (unqueued c) log e server valid own order now later serves (without_renewal c.system log c y valid now f) other spared (empty_falls_none (placement c.system log) (what e)))
@@ -172,9 +172,9 @@ follows_entry c e server valid own order serves left log now later ready = by_re
     unfallen : c.places ≡ placement c.system log → NoneFalls (placement c.system log) (what e) c.queue
     unfallen same = subst (λ before. NoneFalls before (what e) c.queue) same (left_falls_none c.places (what e) c.queue left)
 
-    foreign : (f : FollowsBuilt c.system log c) → is_by_cluster c.number e ≡ false → is_crash_of c.number (what e) ≡ false → QueuedIn c.system log c → FollowsBuilt c.system (log ++ e ∷ []) (with_server server (with_entry c e))
+    foreign : (f : Follows c.system log c) → is_by_cluster c.number e ≡ false → is_crash_of c.number (what e) ≡ false → QueuedIn c.system log c → Follows c.system (log ++ e ∷ []) (with_server server (with_entry c e))
     foreign f other spared (inl alone) =
-        built_of c.system (log ++ e ∷ []) (with_server server (with_entry c e)) (beside_next all_of c log e server valid own order now later (serves_there (f.log).places) (beside_of c.system log c f alone) other spared (unfallen (f.log).places))
+        sent_of c.system (log ++ e ∷ []) (with_server server (with_entry c e)) (beside_next all_of c log e server valid own order now later (serves_there (f.log).places) (beside_of c.system log c f alone) other spared (unfallen (f.log).places))
     foreign f other spared (inr (inr (inr (inr y)))) = stays_renewing_here c log e server valid own order (serves_there (f.log).places) now later f other spared y c.queue
         (sym left ∙ ap (left_queued c.places (what e)) y.posts ∙ renewal_falls c.number y.to y.pid (state_of y.process) c.places (what e) y.indices)
     foreign f other spared (inr (inr (inr (inl h)))) = let none : ◌≡◌ {A = List Post} [] (h.post ∷ []) = sym (hands_left c.places (what e) c h) ∙ left ∙ h.posts in cc
@@ -187,10 +187,10 @@ follows_entry c e server valid own order serves left log now later ready = by_re
         (beside_next (all_but y.pid) (unqueued c) log e server valid own order now later (serves_there (f.log).places) (without_batch c.system log c y valid now f) other spared (empty_falls_none (placement c.system log) (what e)))
         (same_home c log e y.pid y.process y.there valid now later f other spared order) (stays c log e y.pid y.process y.there valid now later f other spared order)
 
-    sent : (s : StandsBetween FollowsBuilt c.system log e c) → Left c log e → OneOf (what e) → FollowsBuilt c.system (log ++ e ∷ []) (with_server server (with_entry c e))
+    sent : (s : StandsBetween Follows c.system log e c) → Left c log e → OneOf (what e) → Follows c.system (log ++ e ∷ []) (with_server server (with_entry c e))
     sent s l (inl tells) =
         let n = next_of c.system log e tells now later in
-        subst (λ v. FollowsBuilt c.system (log ++ e ∷ []) (with_server server v)) (sym (told_taken c e tells)) (follows_own c log e n l server valid (differ_built c.system log valid n.legal) own (serves_there (places_of l)))
+        subst (λ v. Follows c.system (log ++ e ∷ []) (with_server server v)) (sym (told_taken c e tells)) (follows_own c log e n l server valid (pids_apart c.system log valid n.legal) own (serves_there (places_of l)))
       where
         places_of : (l : Left c log e) → c.places ≡ placement c.system log
         places_of l = ap (λ (d : ClusterView). d.places) l.same ∙ ((l.followed).log).places
@@ -201,10 +201,10 @@ follows_entry c e server valid own order serves left log now later ready = by_re
     sent s l (inr (inr (inr (inr (inr (inl y)))))) = absurd (true≢false (sym l.lone ∙ ap is_lone y.same))
     sent s l (inr (inr (inr (inr (inr (inr y)))))) = absurd (true≢false (sym l.lone ∙ ap is_lone y.same))
 
-    own_post : (s : StandsBetween FollowsBuilt c.system log e c) → QueuedIn c.system log s.before → FollowsBuilt c.system (log ++ e ∷ []) (with_server server (with_entry c e))
+    own_post : (s : StandsBetween Follows c.system log e c) → QueuedIn c.system log s.before → Follows c.system (log ++ e ∷ []) (with_server server (with_entry c e))
     own_post s (inl alone) = sent s (left_of c log e s alone) (one_of c.system log e later)
     own_post s (inr (inr (inr (inr y)))) =
-        subst (λ posts. FollowsBuilt c.system (log ++ e ∷ []) (with_server server (record (with_entry c e) { queue = posts }))) left
+        subst (λ posts. Follows c.system (log ++ e ∷ []) (with_server server (record (with_entry c e) { queue = posts }))) left
         (follows_own_renewal c log e server valid own now later s y (serves_there (ap (λ (d : ClusterView). d.places) (s.sent ∙ sent_is s.before (s.before).queue) ∙ ((s.followed).log).places)))
     own_post s (inr (inr (inr (inl h)))) = follows_own_standing c log e server valid own now later s h (serves_there (ap (λ (d : ClusterView). d.places) (s.sent ∙ sent_is s.before (s.before).queue) ∙ ((s.followed).log).places))
     own_post s (inr (inr (inl b))) = follows_own_birth c log e server valid own now later s b (serves_there (ap (λ (d : ClusterView). d.places) (s.sent ∙ sent_is s.before (s.before).queue) ∙ ((s.followed).log).places))
@@ -213,7 +213,7 @@ follows_entry c e server valid own order serves left log now later ready = by_re
         serves_log : Serves (placement c.system log) e c.server server
         serves_log = serves_there (ap (λ (d : ClusterView). d.places) (s.sent ∙ sent_is s.before (s.before).queue) ∙ ((s.followed).log).places)
 
-    by_ready : IsReady log e c → FollowsBuilt c.system (log ++ e ∷ []) (with_server server (with_entry c e))
+    by_ready : IsReady log e c → Follows c.system (log ++ e ∷ []) (with_server server (with_entry c e))
     by_ready (inl f) = foreign f.0 f.1 f.2 (f.0).queued
     by_ready (inr s) = own_post s (s.followed).queued
 
@@ -222,18 +222,18 @@ follows_entry c e server valid own order serves left log now later ready = by_re
 -- a cluster that takes in an entry at which the one post that it has queued falls
 follows_fallen : (c : ClusterView) (log : List Entry) (e : Entry) (server : Option PagerState) (post : Post) → c.queue ≡ post ∷ [] → (kind : IsComing post.what) → is_system c.system ≡ true → AllOwn c.cursor c.here
     → are_rising (moved_by c.places c.number (what e) (records_after c.number (what e) c.records)) ≡ true → Serves c.places e c.server server → IsOpen MayStand c.system log → IsOpen MayStand c.system (log ++ e ∷ [])
-    → FollowsBuilt c.system log c → is_by_cluster c.number e ≡ false → is_crash_of c.number (what e) ≡ false → FollowsBuilt c.system (log ++ e ∷ []) (with_server server (with_entry (unqueued c) e))
+    → Follows c.system log c → is_by_cluster c.number e ≡ false → is_crash_of c.number (what e) ≡ false → Follows c.system (log ++ e ∷ []) (with_server server (with_entry (unqueued c) e))
 follows_fallen c log e server post posts kind valid own order serves now later f other spared =
-    built_of c.system (log ++ e ∷ []) (with_server server (with_entry (unqueued c) e))
+    sent_of c.system (log ++ e ∷ []) (with_server server (with_entry (unqueued c) e))
     (beside_next all_of (unqueued c) log e server valid own order now later (subst (λ before. Serves before e c.server server) (f.log).places serves) (without_answer c.system log c post posts kind valid now f) other spared
     (empty_falls_none (placement c.system log) (what e)))
 
 -- so it is where that post is the new backup of a family
 follows_unhanded : (c : ClusterView) (log : List Entry) (e : Entry) (server : Option PagerState) → HandsOver c → is_system c.system ≡ true → AllOwn c.cursor c.here
     → are_rising (moved_by c.places c.number (what e) (records_after c.number (what e) c.records)) ≡ true → Serves c.places e c.server server → IsOpen MayStand c.system log → IsOpen MayStand c.system (log ++ e ∷ [])
-    → FollowsBuilt c.system log c → is_by_cluster c.number e ≡ false → is_crash_of c.number (what e) ≡ false → FollowsBuilt c.system (log ++ e ∷ []) (with_server server (with_entry (unqueued c) e))
+    → Follows c.system log c → is_by_cluster c.number e ≡ false → is_crash_of c.number (what e) ≡ false → Follows c.system (log ++ e ∷ []) (with_server server (with_entry (unqueued c) e))
 follows_unhanded c log e server h valid own order serves now later f other spared =
-    built_of c.system (log ++ e ∷ []) (with_server server (with_entry (unqueued c) e))
+    sent_of c.system (log ++ e ∷ []) (with_server server (with_entry (unqueued c) e))
     (beside_next all_of (unqueued c) log e server valid own order now later (subst (λ before. Serves before e c.server server) (f.log).places serves) (without_standing c.system log c h f) other spared
     (empty_falls_none (placement c.system log) (what e)))
 
@@ -245,40 +245,40 @@ absorbs c e server valid own order serves log now later ready = by_ready ready
     queued : List Post → ClusterView
     queued posts = with_server server (record (with_entry c e) { queue = posts })
 
-    whole : left_queued c.places (what e) c.queue ≡ c.queue → FollowsBuilt c.system (log ++ e ∷ []) (with_server server (absorbed c e))
-    whole left = subst (λ posts. FollowsBuilt c.system (log ++ e ∷ []) (queued posts)) (sym left) (follows_entry c e server valid own order serves left log now later ready)
+    whole : left_queued c.places (what e) c.queue ≡ c.queue → Follows c.system (log ++ e ∷ []) (with_server server (absorbed c e))
+    whole left = subst (λ posts. Follows c.system (log ++ e ∷ []) (queued posts)) (sym left) (follows_entry c e server valid own order serves left log now later ready)
 
-    by_post : (f : FollowsBuilt c.system log c) → is_by_cluster c.number e ≡ false → is_crash_of c.number (what e) ≡ false → (q : Queued) → c.queue ≡ posts_of q → AreTogether q → FollowsBuilt c.system (log ++ e ∷ []) (with_server server (absorbed c e))
+    by_post : (f : Follows c.system log c) → is_by_cluster c.number e ≡ false → is_crash_of c.number (what e) ≡ false → (q : Queued) → c.queue ≡ posts_of q → AreTogether q → Follows c.system (log ++ e ∷ []) (with_server server (absorbed c e))
     by_post f other spared Nothing posts together = whole (ap (left_queued c.places (what e)) posts ∙ sym posts)
     by_post f other spared (One post) posts together = by_test (falls c.places (what e) post.what) refl
       where
         left : left_queued c.places (what e) c.queue ≡ cond (falls c.places (what e) post.what) [] (post ∷ [])
         left = ap (left_queued c.places (what e)) posts
 
-        by_test : (b : Bool) → falls c.places (what e) post.what ≡ b → FollowsBuilt c.system (log ++ e ∷ []) (with_server server (absorbed c e))
+        by_test : (b : Bool) → falls c.places (what e) post.what ≡ b → Follows c.system (log ++ e ∷ []) (with_server server (absorbed c e))
         by_test false is = whole (left ∙ ap (λ b. cond b [] (post ∷ [])) is ∙ sym posts)
         by_test true is =
-            subst (λ ps. FollowsBuilt c.system (log ++ e ∷ []) (queued ps)) (sym (left ∙ ap (λ b. cond b [] (post ∷ [])) is))
+            subst (λ ps. Follows c.system (log ++ e ∷ []) (queued ps)) (sym (left ∙ ap (λ b. cond b [] (post ∷ [])) is))
             (follows_fallen c log e server post posts (fallen_comes c.places (what e) post.what together is) valid own order serves now later f other spared)
 
-    foreign : (f : FollowsBuilt c.system log c) → is_by_cluster c.number e ≡ false → is_crash_of c.number (what e) ≡ false → QueuedIn c.system log c → FollowsBuilt c.system (log ++ e ∷ []) (with_server server (absorbed c e))
+    foreign : (f : Follows c.system log c) → is_by_cluster c.number e ≡ false → is_crash_of c.number (what e) ≡ false → QueuedIn c.system log c → Follows c.system (log ++ e ∷ []) (with_server server (absorbed c e))
     foreign f other spared (inl alone) = by_post f other spared alone.queued alone.posts alone.together
     foreign f other spared (inr (inr (inr (inr y)))) =
         stays_renewing_here c log e server valid own order (subst (λ before. Serves before e c.server server) (f.log).places serves) now later f other spared y (left_queued c.places (what e) c.queue)
         (ap (left_queued c.places (what e)) y.posts ∙ renewal_falls c.number y.to y.pid (state_of y.process) c.places (what e) y.indices)
     foreign f other spared (inr (inr (inr (inl h)))) =
-        subst (λ ps. FollowsBuilt c.system (log ++ e ∷ []) (queued ps)) (sym (hands_left c.places (what e) c h)) (follows_unhanded c log e server h valid own order serves now later f other spared)
+        subst (λ ps. Follows c.system (log ++ e ∷ []) (queued ps)) (sym (hands_left c.places (what e) c h)) (follows_unhanded c log e server h valid own order serves now later f other spared)
     foreign f other spared (inr (inr (inl b))) = whole (ap (left_queued c.places (what e)) b.posts ∙ sym b.posts)
     foreign f other spared (inr (inl y)) = whole (ap (left_queued c.places (what e)) y.posts ∙ batch_left c.places (what e) c.number y.pid (state_of y.process) y.read y.took y.indices ∙ sym y.posts)
 
-    by_ready : IsReady log e c → FollowsBuilt c.system (log ++ e ∷ []) (with_server server (absorbed c e))
+    by_ready : IsReady log e c → Follows c.system (log ++ e ∷ []) (with_server server (absorbed c e))
     by_ready (inl f) = foreign f.0 f.1 f.2 (f.0).queued
     by_ready (inr s) = by_form (s.followed).queued
       where
-        plain_form : are_plain (s.before).queue ≡ true → FollowsBuilt c.system (log ++ e ∷ []) (with_server server (absorbed c e))
+        plain_form : are_plain (s.before).queue ≡ true → Follows c.system (log ++ e ∷ []) (with_server server (absorbed c e))
         plain_form plain = whole (own_left c log e s (plain_rest (s.before).queue plain))
 
-        by_form : QueuedIn c.system log s.before → FollowsBuilt c.system (log ++ e ∷ []) (with_server server (absorbed c e))
+        by_form : QueuedIn c.system log s.before → Follows c.system (log ++ e ∷ []) (with_server server (absorbed c e))
         by_form (inl alone) = plain_form (form_plain c.system log s.before (inl alone))
         by_form (inr (inl y)) = plain_form (form_plain c.system log s.before (inr (inl y)))
         by_form (inr (inr (inl b))) = plain_form (form_plain c.system log s.before (inr (inr b)))
@@ -326,7 +326,7 @@ may_come c e valid r = by_loss (one_of c.system r.log e r.open_next)
     came queue p i bytes is unended _ held = tt
 
     home : (p : Pid) (h : Held) → rising (pids_in c.here) ≡ rising (home_pids c.system r.log c.number) → held_at c p ≡ Some h → IsUnended c.system r.log p
-    home p h once there = ap is_some (home_here (placement c.system r.log) c.number (pids_in c.here) p (differ_built c.system r.log valid (r.open_log).0) once (is_among c.here p h there)).found
+    home p h once there = ap is_some (home_here (placement c.system r.log) c.number (pids_in c.here) p (pids_apart c.system r.log valid (r.open_log).0) once (is_among c.here p h there)).found
 
     by_ready : (p : Pid) (i : ℕ) (bytes : List ℕ) → what e ≡ PageIs p i bytes → IsReady r.log e c → (h : Held) → held_at c p ≡ Some h → CanComeTo i bytes h
     by_ready p i bytes is (inl f) h there = came c.queue p i bytes is (home p h ((f.0).processes).each_once there) h (((f.0).processes).held p h there)

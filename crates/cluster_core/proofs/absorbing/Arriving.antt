@@ -18,13 +18,11 @@ use Rattle.bus_msg.specs.declared.placed.Placed.{Placed}
 use Rattle.bus_msg.specs.Places.{Places, lives_in, same_pid}
 use Rattle.bus_msg.specs.PlacedAfter.{what}
 use Rattle.bus_msg.specs.Route.{backup_of, bits_of, letter_dests, route}
-use Rattle.cert_sched.specs.Legal.{MayStand}
 use Rattle.cert_sched.specs.Rules.{tells_or_closes}
 use Rattle.cert_sched.specs.Deeds.{is_end_of}
 use Rattle.cert_sched.specs.Parts.{rising}
 use Rattle.cert_sched.specs.Rests.{home_pids}
 use Rattle.cert_sched.specs.Schedule.{placement}
-use Rattle.cert_sched.proofs.LogLaws.{IsLegal-last}
 use Rattle.cluster_core.specs.Absorbing.{ComesHere, goes_to, is_letter_for}
 use Rattle.cluster_core.specs.Calls.{IsReady, ReadyFor, here_after}
 use Rattle.residents.specs.Residents.{pids_in}
@@ -36,7 +34,7 @@ use Rattle.cluster_core.proofs.syncs.Batching.{batch_head}
 use Rattle.cluster_core.proofs.absorbing.Following.{Next, left_of, next_of}
 use Rattle.cluster_core.proofs.here.Here.{is_among}
 use Rattle.residents.proofs.Changing.{pid_same, same_itself}
-use Rattle.cluster_core.proofs.losses.Homes.{HomeHere, differ_built, home_here, home_lives}
+use Rattle.cluster_core.proofs.losses.Homes.{HomeHere, pids_apart, home_here, home_lives}
 use Rattle.cluster_core.specs.Follows.{QueuedIn}
 use Rattle.cluster_core.proofs.renewing.RenewalPosts.{renewal_head, renewal_tells_not}
 use Rattle.cluster_core.proofs.absorbing.ByKind.{OneOf, by_kind, by_page, by_sync, kind_is}
@@ -93,11 +91,11 @@ entry_comes places k p w lives home =
 comes_of : (system : System) (log : List Entry) (e : Entry) (k : ClusterNo) (here : List (Pid × Held)) → is_system system ≡ true → Next system log e
     → rising (pids_in here) ≡ rising (home_pids system log k) → ComesHere k e here
 comes_of system log e k here valid n once p h there is =
-    let home = home_here (placement system log) k (pids_in here) p (differ_built system log valid n.legal) once (is_among here p h there) in
-    ap (λ dests. goes_to dests k) ((((n.may).stands).placed).1) ∙ entry_comes (placement system log) k p (what e) (home_lives system log p k valid n.legal n.before home) home (n.may).built is
+    let home = home_here (placement system log) k (pids_in here) p (pids_apart system log valid n.legal) once (is_among here p h there) in
+    ap (λ dests. goes_to dests k) ((((n.may).stands).placed).1) ∙ entry_comes (placement system log) k p (what e) (home_lives system log p k valid n.legal n.before home) home (n.may).of_kind is
 
 pub comes_here : (c : ClusterView) (e : Entry) → is_system c.system ≡ true → ReadyFor e c → ComesHere c.number e c.here
-comes_here c e valid r = by_loss (kind_is (what e) (IsLegal-last MayStand c.system r.log e r.open_next.0).built)
+comes_here c e valid r = by_loss (kind_is (what e))
   where
     by_case : Next c.system r.log e → IsReady r.log e c → ComesHere c.number e c.here
     by_case n (inl f) = comes_of c.system r.log e c.number c.here valid n ((f.0).processes).each_once
@@ -109,12 +107,12 @@ comes_here c e valid r = by_loss (kind_is (what e) (IsLegal-last MayStand c.syst
             let here_is : (l.before).here ≡ c.here = sym (ap (λ (d : ClusterView). d.here) l.same) in
             let number : (l.before).number ≡ c.number = sym (ap (λ (d : ClusterView). d.number) l.same) in
             comes_of c.system r.log e c.number c.here valid n (ap (λ hs. rising (pids_in hs)) (sym here_is) ∙ ((l.followed).processes).each_once ∙ ap (λ k. rising (home_pids c.system r.log k)) number)
-        by_queue (inr (inr (inr (inr y)))) = absurd (true≢false (sym (n.may).built ∙ renewal_tells_not (what e) (renewal_head c.system r.log e s.before y s.head)))
-        by_queue (inr (inr (inr (inl h)))) = absurd (true≢false (sym (n.may).built ∙ ap tells_or_closes (handed_is c.system r.log e s.before h s.head)))
-        by_queue (inr (inr (inl b))) = absurd (true≢false (sym (n.may).built ∙ ap tells_or_closes (birth_is c.system r.log e s.before b s.head)))
+        by_queue (inr (inr (inr (inr y)))) = absurd (true≢false (sym (n.may).of_kind ∙ renewal_tells_not (what e) (renewal_head c.system r.log e s.before y s.head)))
+        by_queue (inr (inr (inr (inl h)))) = absurd (true≢false (sym (n.may).of_kind ∙ ap tells_or_closes (handed_is c.system r.log e s.before h s.head)))
+        by_queue (inr (inr (inl b))) = absurd (true≢false (sym (n.may).of_kind ∙ ap tells_or_closes (birth_is c.system r.log e s.before b s.head)))
         by_queue (inr (inl y)) =
             let of = batch_head c.system r.log e s.before y s.head in
-            absurd (true≢false (sym (n.may).built ∙ by_sync (λ w. tells_or_closes w ≡ false) (λ pid at index bytes. refl) (λ pid small read took. refl) (what e) of))
+            absurd (true≢false (sym (n.may).of_kind ∙ by_sync (λ w. tells_or_closes w ≡ false) (λ pid at index bytes. refl) (λ pid small read took. refl) (what e) of))
 
     by_loss : OneOf (what e) → ComesHere c.number e c.here
     by_loss (inl tells) = by_case (next_of c.system r.log e tells r.open_log r.open_next) r.ready

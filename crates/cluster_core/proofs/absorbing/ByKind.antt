@@ -1,4 +1,4 @@
--- The kinds of entries that are built: those that tell of steps or close the log, those of pages, losses, those by which a process synchronises, births, and new backups; and returns. What holds of each of some kinds holds of every entry of them.
+-- The kinds of entries: those that tell of steps or close the log, those of pages, losses, those by which a process synchronises, births, and new backups; and returns. What holds of each of some kinds holds of every entry of them.
 use Rattle.std.proofs.Common.{◌≡◌, ◌⊎◌, ℕ, refl, sym, List, Bool, true, false, Option, true≢false, inl, inr}
 use Rattle.t32_base.specs.declared.process.Pid.{Pid}
 use Rattle.t32_base.specs.declared.process.End.{End}
@@ -13,17 +13,17 @@ use Rattle.sys_text.specs.declared.system.System.{System}
 use Rattle.bus_msg.specs.declared.entry.Entry.{Entry}
 use Rattle.bus_msg.specs.PlacedAfter.{what}
 use Rattle.cert_sched.specs.Rules.{tells_or_closes}
-use Rattle.cluster_core.specs.Sent.{TellingMayFollow}
-use Rattle.cluster_core.specs.Sent.{is_sent, SentMayFollow}
-use Rattle.cert_sched.proofs.UnlostLaws.{telling_sends_no_page}
+use Rattle.cluster_core.specs.Sent.{TellingMayStand}
+use Rattle.cluster_core.specs.Sent.{is_sent, SentMayStand}
+use Rattle.cert_sched.proofs.MayLaws.{telling_sends_no_page}
 use Rattle.cluster_core.specs.Queue.{is_lone}
 
 pub by_kind : (P : What → Type 0) → ((at : ℕ) (letter : Letter) → P (Mail at letter)) → ((pid : Pid) (at : ℕ) (end : End) → P (Exit pid at end)) → ((rests : List (Pid × ℕ)) → P (Done rests)) → P Stop → (w : What) → tells_or_closes w ≡ true → P w
-by_kind P mail exit done stop (Mail at letter) built = mail at letter
-by_kind P mail exit done stop (Exit pid at end) built = exit pid at end
-by_kind P mail exit done stop (Done rests) built = done rests
-by_kind P mail exit done stop Stop built = stop
-by_kind P mail exit done stop _ built = absurd (true≢false (sym built))
+by_kind P mail exit done stop (Mail at letter) of_kind = mail at letter
+by_kind P mail exit done stop (Exit pid at end) of_kind = exit pid at end
+by_kind P mail exit done stop (Done rests) of_kind = done rests
+by_kind P mail exit done stop Stop of_kind = stop
+by_kind P mail exit done stop _ of_kind = absurd (true≢false (sym of_kind))
 
 -- a page is asked for, or comes
 abbrev pub is_of_page : What → Bool
@@ -77,16 +77,16 @@ pub record IsReturn (w : What) : Type 0 where
 abbrev pub OneOf : What → Type 0
 OneOf w = (tells_or_closes w ≡ true) ⊎ (is_of_page w ≡ true) ⊎ IsLoss w ⊎ (is_of_sync w ≡ true) ⊎ IsBirth w ⊎ IsRenewal w ⊎ IsReturn w
 
-pub kind_is : (w : What) → is_built w ≡ true → OneOf w
-kind_is (Fetch pid index) built = inr (inl refl)
-kind_is (PageIs pid index bytes) built = inr (inl refl)
-kind_is (Crash k cause) built = inr (inr (inl (record { lost = k; cause = cause; same = refl })))
-kind_is (Birth parent at child end) built = inr (inr (inr (inr (inl (record { parent = parent; at = at; child = child; end = end; same = refl })))))
-kind_is (Page pid at index bytes) built = inr (inr (inr (inl refl)))
-kind_is (Sync pid small read took) built = inr (inr (inr (inl refl)))
-kind_is (Return k) built = inr (inr (inr (inr (inr (inr (record { back = k; same = refl }))))))
-kind_is (Rebackup to fresh recs) built = inr (inr (inr (inr (inr (inl (record { to = to; fresh = fresh; recs = recs; same = refl }))))))
-kind_is _ built = inl refl
+pub kind_is : (w : What) → OneOf w
+kind_is (Fetch pid index) = inr (inl refl)
+kind_is (PageIs pid index bytes) = inr (inl refl)
+kind_is (Crash k cause) = inr (inr (inl (record { lost = k; cause = cause; same = refl })))
+kind_is (Birth parent at child end) = inr (inr (inr (inr (inl (record { parent = parent; at = at; child = child; end = end; same = refl })))))
+kind_is (Page pid at index bytes) = inr (inr (inr (inl refl)))
+kind_is (Sync pid small read took) = inr (inr (inr (inl refl)))
+kind_is (Return k) = inr (inr (inr (inr (inr (inr (record { back = k; same = refl }))))))
+kind_is (Rebackup to fresh recs) = inr (inr (inr (inr (inr (inl (record { to = to; fresh = fresh; recs = recs; same = refl }))))))
+kind_is _ = inl refl
 
 -- what is sent alone tells, or is of a page
 pub lone_is : (w : What) → is_lone w ≡ true → (tells_or_closes w ≡ true) ⊎ (is_of_page w ≡ true)
@@ -101,8 +101,8 @@ pub telling_sent : (w : What) → tells_or_closes w ≡ true → is_sent w ≡ t
 telling_sent = by_kind (λ w. is_sent w ≡ true) (λ at letter. refl) (λ pid at end. refl) (λ rests. refl) refl
 
 -- a post that may follow and tells of steps, as one that tells
-pub told_may : (system : System) (log : List Entry) (e : Entry) → SentMayFollow system log e → tells_or_closes (what e) ≡ true → TellingMayFollow system log e
-told_may system log e may tells = record { stands = may.stands; built = tells; limits = may.limits; pages = may.pages }
+pub told_may : (system : System) (log : List Entry) (e : Entry) → SentMayStand system log e → tells_or_closes (what e) ≡ true → TellingMayStand system log e
+told_may system log e may tells = record { stands = may.stands; of_kind = tells; limits = may.limits; pages = may.pages }
 
-pub may_told : (system : System) (log : List Entry) (e : Entry) → TellingMayFollow system log e → SentMayFollow system log e
-may_told system log e may = record { stands = may.stands; built = telling_sent (what e) may.built; limits = may.limits; new_page = telling_sends_no_page system log (what e) may.built; pages = may.pages }
+pub may_told : (system : System) (log : List Entry) (e : Entry) → TellingMayStand system log e → SentMayStand system log e
+may_told system log e may = record { stands = may.stands; of_kind = telling_sent (what e) may.of_kind; limits = may.limits; new_page = telling_sends_no_page system log (what e) may.of_kind; pages = may.pages }

@@ -16,10 +16,10 @@ use Rattle.bus_msg.specs.declared.entry.Entry.{Entry}
 use Rattle.bus_msg.specs.Places.{Places}
 use Rattle.bus_msg.specs.PlacedAfter.{what}
 use Rattle.cert_sched.specs.Appended.{entry_of}
-use Rattle.cluster_core.specs.Sent.{SentMayFollow, is_sent}
+use Rattle.cluster_core.specs.Sent.{SentMayStand, is_sent}
 use Rattle.cert_sched.specs.Told.{cluster_lost}
 use Rattle.checkpoint_laws.specs.batches.Underway.{page_left, posts_left}
-use Rattle.cluster_core.specs.Follows.{FollowsBuilt, StandsBetween}
+use Rattle.cluster_core.specs.Follows.{Follows, StandsBetween}
 use Rattle.cluster_core.specs.Queue.{AreTogether, IsQueued, IsQueueLegal, Nothing, One, Queued, falls, is_lone, is_moved_from, is_rebackup, left_queued, posts_of, are_plain}
 use Rattle.cluster_core.specs.Bearing.{BearsChild}
 use Rattle.cluster_core.specs.HandingOn.{HandsOver}
@@ -137,15 +137,15 @@ pub handed_rest : (c : ClusterView) (h : HandsOver c) → are_plain (rest_of c.q
 handed_rest c h = ap (λ ps. are_plain (rest_of ps)) h.posts
 
 -- at the entry that the head became nothing falls of the rest, where that has no new backup
-pub own_left : (c : ClusterView) (log : List Entry) (e : Entry) (s : StandsBetween FollowsBuilt c.system log e c) → are_plain (rest_of (s.before).queue) ≡ true → left_queued c.places (what e) c.queue ≡ c.queue
+pub own_left : (c : ClusterView) (log : List Entry) (e : Entry) (s : StandsBetween Follows c.system log e c) → are_plain (rest_of (s.before).queue) ≡ true → left_queued c.places (what e) c.queue ≡ c.queue
 own_left c log e s plain = by_queue (s.before).queue ((s.followed).queue).legal s.head plain (ap (λ (d : ClusterView). d.queue) s.sent)
   where
-    by_queue : (queue : List Post) → IsQueueLegal SentMayFollow c.system log queue → option_map (entry_of c.system log) (head_of queue) ≡ Some e → are_plain (rest_of queue) ≡ true → c.queue ≡ (after_sent s.before queue).queue
+    by_queue : (queue : List Post) → IsQueueLegal SentMayStand c.system log queue → option_map (entry_of c.system log) (head_of queue) ≡ Some e → are_plain (rest_of queue) ≡ true → c.queue ≡ (after_sent s.before queue).queue
         → left_queued c.places (what e) c.queue ≡ c.queue
     by_queue [] legal head plain is = let none : ◌≡◌ {A = Option Entry} None (Some e) = head in cc
     by_queue (post ∷ rest) legal head plain is =
         let whole : entry_of c.system log post ≡ e = same_Some (entry_of c.system log post) e head in
-        let none : cluster_lost (what e) ≡ None = ap (λ (x : Entry). cluster_lost (what x)) (sym whole) ∙ sent_loses_none post.what (legal.0).built in
+        let none : cluster_lost (what e) ≡ None = ap (λ (x : Entry). cluster_lost (what x)) (sym whole) ∙ sent_loses_none post.what (legal.0).of_kind in
         ap (left_queued c.places (what e)) (is ∙ sent_queue post rest) ∙ plain_left c.places (what e) rest none plain ∙ sym (is ∙ sent_queue post rest)
       where
         sent_queue : (post : Post) (rest : List Post) → (after_sent s.before (post ∷ rest)).queue ≡ rest

@@ -35,14 +35,14 @@ use Rattle.cert_sched.specs.Steps.{process_of, silent_upto, emission_at, after_i
 use Rattle.cert_sched.specs.Rules.{is_over, is_by, is_living, home_at, is_by_home, is_by_right, has_its_pages, keeps_limits, tells_or_closes}
 use Rattle.cert_sched.specs.Kinds.{ChildrenSynced, IsSent, KindHolds}
 use Rattle.cert_sched.specs.Legal.{IsLegalBy, Stands, MayStand, KeepsWaits}
-use Rattle.cluster_core.specs.Sent.{TellingMayFollow}
-use Rattle.cluster_core.specs.Sent.{SentMayFollow, is_sent}
+use Rattle.cluster_core.specs.Sent.{TellingMayStand}
+use Rattle.cluster_core.specs.Sent.{SentMayStand, is_sent}
 use Rattle.cert_sched.specs.Losses.{is_from, is_by_cluster, is_crash_of, was_lost_in, least_steps, capped}
 use Rattle.cert_sched.specs.Appended.{entry_of}
 use Rattle.cert_sched.specs.Rests.{home_pids}
 use Rattle.cert_sched.proofs.ExitLaws.{unended_exit}
 use Rattle.cert_sched.proofs.LogLaws.{placement-snoc, IsLegal-last}
-use Rattle.log_laws.proofs.records.Standing.{built_stands as each_stands, legal_stands}
+use Rattle.log_laws.proofs.records.Standing.{all_stand as each_stands, legal_stands}
 use Rattle.checkpoint_laws.proofs.batches.ChildrenStay.{children_stay}
 use Rattle.cert_sched.proofs.RisingLaws.{rising-same}
 use Rattle.cert_sched.proofs.StepLaws.{Tells, sent_applies}
@@ -60,7 +60,7 @@ use Rattle.residents.specs.Residents.{pids_in}
 use Rattle.cluster_core.specs.Parts.{AllOwn}
 use Rattle.cluster_core.specs.Queue.{AreTogether, IsQueued, Queued, Nothing, One, posts_of, is_lone, IsQueueLegal, tells_steps, is_move_of, move_of, taken_by, state_by, state_now, with_queue}
 use Rattle.cluster_core.specs.Holds.{CarriesMarks, HoldsMarks, IsHeldAs, HoldsPages, MarkedIfThere, process_in, is_fetch_queued, unended_process, HoldsLimits}
-use Rattle.cluster_core.specs.Follows.{FollowsBuilt, IsOpen, StandsBetween}
+use Rattle.cluster_core.specs.Follows.{Follows, IsOpen, StandsBetween}
 use Rattle.cluster_core.specs.Calls.{with_entry, here_after}
 use Rattle.cluster_core.specs.Recovered.{left_by, moved_by, with_all_waiting}
 use Rattle.cluster_core.proofs.births.FamilyNext.{family_next}
@@ -73,7 +73,7 @@ use Rattle.cluster_core.proofs.absorbing.Posted.{no_end, moves_it}
 use Rattle.cluster_core.proofs.absorbing.Telling.{Telling, telling, not_closed, items_told, sends_still, silent_still, told_now}
 use Rattle.cluster_core.proofs.here.Owning.{own_at}
 use Rattle.replay_laws.proofs.rolling.KeepingBehind.{behind_standing}
-use Rattle.replay_laws.proofs.rolling.ByRule.{built_stands}
+use Rattle.replay_laws.proofs.rolling.ByRule.{standing}
 use Rattle.cluster_core.proofs.syncs.Marking.{arrival_marked, exit_other, marked_after, queue_tells, told_leaves, with_one}
 use Rattle.cluster_core.proofs.losses.Homes.{HomeHere, home_exit, home_here, pids_home, without}
 use Rattle.cluster_core.proofs.absorbing.ByKind.{by_kind, by_page, lone_is, may_told, is_of_page, told_may}
@@ -88,7 +88,7 @@ use Rattle.cluster_core.proofs.paging.HasPages.{pages_after, waits_after}
 use Rattle.cluster_core.proofs.paging.PagePosts.{page_post_stays}
 use Rattle.cluster_core.proofs.absorbing.Unmoved.{page_moves_none}
 use Rattle.cluster_core.proofs.paging.Waiting.{told_cuts_none, told_fetches_none, waits_told}
-use Rattle.cert_sched.proofs.BuiltCuts.{by_home_there}
+use Rattle.cert_sched.proofs.CutLaws.{by_home_there}
 use Rattle.cluster_core.proofs.working.KeptLimits.{arrival_brings, told_keeps, told_within}
 use Rattle.checkpoint_laws.proofs.limits.StayingLimits.{sent_stays}
 use Rattle.cluster_core.specs.Standing.{HoldsBackups, has_begun}
@@ -100,7 +100,7 @@ use Rattle.cluster_core.proofs.awaiting.Awaited.{awaited_after}
 pub record Next (system : System) (log : List Entry) (e : Entry) : Type 0 where
   pub legal : IsLegalBy MayStand system log
   pub more : IsLegalBy MayStand system (log ++ e ∷ [])
-  pub may : TellingMayFollow system log e
+  pub may : TellingMayStand system log e
   pub before : is_over system log ≡ false
   pub goes_on : is_over system (log ++ e ∷ []) ≡ false
   pub told : Telling system log e
@@ -108,8 +108,8 @@ pub record Next (system : System) (log : List Entry) (e : Entry) : Type 0 where
 pub next_of : (system : System) (log : List Entry) (e : Entry) → tells_or_closes (what e) ≡ true → IsOpen MayStand system log → IsOpen MayStand system (log ++ e ∷ []) → Next system log e
 next_of system log e tells now later =
     let last = IsLegal-last MayStand system log e later.0 in
-    let may : TellingMayFollow system log e = record { stands = last.stands; built = tells; limits = last.limits; pages = last.pages } in
-    record { legal = now.0; more = later.0; may = may; before = now.1; goes_on = later.1; told = telling system log e may (not_closed system log e may.built later.1) }
+    let may : TellingMayStand system log e = record { stands = last.stands; of_kind = tells; limits = last.limits; pages = last.pages } in
+    record { legal = now.0; more = later.0; may = may; before = now.1; goes_on = later.1; told = telling system log e may (not_closed system log e may.of_kind later.1) }
 
 -- ---- whose entry it is
 
@@ -139,7 +139,7 @@ told_keeps_clusters places = by_kind (λ w. (placed_after places w).clusters ≡
 
 -- the clusters stay
 clusters_stay : (system : System) (log : List Entry) (e : Entry) → Next system log e → (placement system (log ++ e ∷ [])).clusters ≡ (placement system log).clusters
-clusters_stay system log e n = ap (λ (places : Places). places.clusters) (placement-snoc system log e) ∙ told_keeps_clusters (placement system log) (what e) (n.may).built
+clusters_stay system log e n = ap (λ (places : Places). places.clusters) (placement-snoc system log e) ∙ told_keeps_clusters (placement system log) (what e) (n.may).of_kind
 
 living_stays : (system : System) (log : List Entry) (e : Entry) (by : By) → Next system log e → is_living (placement system (log ++ e ∷ [])) by ≡ is_living (placement system log) by
 living_stays system log e (Cluster k) n = ap (λ (cs : List ClusterPlace). option_map_or (λ (c : ClusterPlace). c.lives) (slice_get cs k.0) false) (clusters_stay system log e n)
@@ -173,12 +173,12 @@ page_queued p post of = ap (λ b. option_map (λ (post : Post). post.what) (cond
 
 -- a process at home that has not ended, where its cluster has one post, which tells of steps: after an entry of another process it is where it was, with the letter
 -- where that goes there
-now_arrives_told : (system : System) (log : List Entry) (e : Entry) (n : Next system log e) (k : ClusterNo) (post : Post) (p : Pid) (steps : ℕ) (s : ProcState) → is_from k post.by ≡ true → TellingMayFollow system log (entry_of system log post)
+now_arrives_told : (system : System) (log : List Entry) (e : Entry) (n : Next system log e) (k : ClusterNo) (post : Post) (p : Pid) (steps : ℕ) (s : ProcState) → is_from k post.by ≡ true → TellingMayStand system log (entry_of system log post)
     → p.0 ≢ ((n.told).pid).0 → is_some (unended_at (placement system log) p) ≡ true → state_now system log (post ∷ []) p steps ≡ Some s → state_now system (log ++ e ∷ []) (post ∷ []) p steps ≡ Some (with_arrival (n.told).emission p s)
 now_arrives_told system log e n k post p steps s own may apart placed was = by_move (is_move_of p post) refl was
   where
     u : Telling system log (entry_of system log post)
-    u = telling system log (entry_of system log post) may (no_end k (placement system log) post.by post.what may.built own (may.stands).by_right)
+    u = telling system log (entry_of system log post) may (no_end k (placement system log) post.by post.what may.of_kind own (may.stands).by_right)
 
     move_is : (b : Bool) → is_move_of p post ≡ b → move_of p (post ∷ []) ≡ cond b (Some post.what) None
     move_is b is = ap (λ c. option_map (λ (post : Post). post.what) (cond c (Some post) None)) is ∙ by_bool b
@@ -208,7 +208,7 @@ now_arrives_told system log e n k post p steps s own may apart placed was = by_m
 -- a process at home that has not ended, where its cluster has at most one post, which may follow: after an entry of another process it is
 -- where it was, with the letter where that goes there
 now_arrives : (system : System) (log : List Entry) (e : Entry) (n : Next system log e) (k : ClusterNo) (q : Queued) (p : Pid) (steps : ℕ) (s : ProcState) → AreTogether q → list_all (λ (post : Post). is_from k post.by) (posts_of q) ≡ true
-    → IsQueueLegal SentMayFollow system log (posts_of q) → p.0 ≢ ((n.told).pid).0 → is_some (unended_at (placement system log) p) ≡ true → state_now system log (posts_of q) p steps ≡ Some s
+    → IsQueueLegal SentMayStand system log (posts_of q) → p.0 ≢ ((n.told).pid).0 → is_some (unended_at (placement system log) p) ≡ true → state_now system log (posts_of q) p steps ≡ Some s
     → state_now system (log ++ e ∷ []) (posts_of q) p steps ≡ Some (with_arrival (n.told).emission p s)
 now_arrives system log e n k Nothing p steps s together own legal apart placed was = silent_still system log e n.told p steps s n.legal n.before apart placed was
 now_arrives system log e n k (One post) p steps s together own legal apart placed was = by_kind_of (lone_is post.what together)
@@ -271,15 +271,15 @@ may_end_still system log e f p at (Ended end) w valid legal stands none tells ki
 
 -- a post may follow that tells what its process sends, by the home of that, where the process is within the limits after it
 pub post_may : (system : System) (log : List Entry) (post : Post) (p : Pid) (at : ℕ) (m : Emission) (s : ProcState) → IsLegalBy MayStand system log → is_over system log ≡ false → tells_or_closes post.what ≡ true → Tells p at m post.what
-    → emission_at system log p at ≡ Some (m, s) → is_by_home (placement system log) post.by (Some p) ≡ true → keeps_limits system log p s ≡ true → KeepsWaits system log (entry_of system log post) → MayEnd system log p m → TellingMayFollow system log (entry_of system log post)
-post_may system log post p at m s legal goes_on built tells sends at_home keeps pages may_end = record {
+    → emission_at system log p at ≡ Some (m, s) → is_by_home (placement system log) post.by (Some p) ≡ true → keeps_limits system log p s ≡ true → KeepsWaits system log (entry_of system log post) → MayEnd system log p m → TellingMayStand system log (entry_of system log post)
+post_may system log post p at m s legal goes_on of_kind tells sends at_home keeps pages may_end = record {
   stands = record {
     placed = (refl, refl, goes_on);
     by_right = right_of m tells;
     applies = sent_applies system log (entry_of system log post) p at m s sends tells;
     kind = kind_of m tells (ap (option_map (λ (r : Emission × ProcState). r.0)) sends) may_end;
   };
-  built = built;
+  of_kind = of_kind;
   limits = told_keeps system log p at m s sends post.what tells keeps;
   pages = pages;
 }
@@ -316,17 +316,17 @@ no_deeds p q at m w tells other = by_emission m tells
 
 -- a post of a cluster may follow after one more entry of another
 post_stays : (system : System) (log : List Entry) (e : Entry) (n : Next system log e) (k : ClusterNo) (post : Post) → is_system system ≡ true → pids_differ (placement system log).placed ≡ true → is_by_cluster k e ≡ false → is_from k post.by ≡ true
-    → TellingMayFollow system log (entry_of system log post) → TellingMayFollow system (log ++ e ∷ []) (entry_of system (log ++ e ∷ []) post)
+    → TellingMayStand system log (entry_of system log post) → TellingMayStand system (log ++ e ∷ []) (entry_of system (log ++ e ∷ []) post)
 post_stays system log e n k post valid differ foreign own may =
-    post_may system more post u.pid u.at u.emission (with_arrival (n.told).emission u.pid u.after) n.more n.goes_on may.built u.tells sends at_home keeps
-    (waits_after system log e k post valid n.legal (n.may).stands differ (told_loses_none k (what e) (n.may).built) may.built (ap (is_by_home (placement system log) post.by) u.process ∙ u.by_home) own may.pages)
+    post_may system more post u.pid u.at u.emission (with_arrival (n.told).emission u.pid u.after) n.more n.goes_on may.of_kind u.tells sends at_home keeps
+    (waits_after system log e k post valid n.legal (n.may).stands differ (told_loses_none k (what e) (n.may).of_kind) may.of_kind (ap (is_by_home (placement system log) post.by) u.process ∙ u.by_home) own may.pages)
     (may_end_still system log e (entry_of system log post) u.pid u.at u.emission post.what valid (each_stands system log n.legal) (n.may).stands (no_deeds u.pid (n.told).pid (n.told).at (n.told).emission (what e) (n.told).tells other) u.tells (may.stands).kind)
   where
     more : List Entry
     more = log ++ e ∷ []
 
     u : Telling system log (entry_of system log post)
-    u = telling system log (entry_of system log post) may (no_end k (placement system log) post.by post.what may.built own (may.stands).by_right)
+    u = telling system log (entry_of system log post) may (no_end k (placement system log) post.by post.what may.of_kind own (may.stands).by_right)
 
     other : (u.pid).0 ≢ ((n.told).pid).0
     other is =
@@ -339,12 +339,12 @@ post_stays system log e n k post valid differ foreign own may =
 
     -- the entry starts it not anew
     quiet : starts u.pid e ≡ false
-    quiet = told_starts_none u.pid e (n.may).built
+    quiet = told_starts_none u.pid e (n.may).of_kind
 
     keeps : keeps_limits system more u.pid (with_arrival (n.told).emission u.pid u.after) ≡ true
     keeps =
         subst (λ s. keeps_limits system more u.pid s ≡ true) (sym (arrival_brings (what e) (n.told).pid (n.told).at (n.told).emission u.pid u.after (n.told).tells))
-        (sent_stays system log e u.pid u.at u.emission u.after valid (legal_stands MayStand built_stands system log n.legal) (by_home_there (placement system log) post.by u.pid u.by_home) quiet u.is (told_within system log u.pid u.at u.emission u.after u.is post.what u.tells may.limits))
+        (sent_stays system log e u.pid u.at u.emission u.after valid (legal_stands MayStand standing system log n.legal) (by_home_there (placement system log) post.by u.pid u.by_home) quiet u.is (told_within system log u.pid u.at u.emission u.after u.is post.what u.tells may.limits))
 
     found : home_at (placement system more) u.pid ≡ home_at (placement system log) u.pid
     found = ap (option_map (λ (q : Placed). q.home)) (found_stays system log e n.told u.pid other)
@@ -357,16 +357,16 @@ post_stays system log e n k post valid differ foreign own may =
 -- a process to which what an emission says has arrived is held as the log says
 held_arrived : (system : System) (log : List Entry) (queue posts : List Post) (w : What) (sender : Pid) (at : ℕ) (m : Emission) (p : Pid) (s : Process) → queue ≡ posts → tells_or_closes w ≡ true → Tells sender at m w
     → state_now system log posts p (s.small).steps ≡ Some (with_arrival m p (state_of s)) → IsHeldAs system log queue p (Runs (arrival_in w p s))
-held_arrived system log queue posts w sender at m p s same built tells is =
-    (λ i. state_now system log (same i) p (arrival_small w p s built i).steps) ∙ is ∙ ap Some (sym (arrival_state w sender at m p s tells))
+held_arrived system log queue posts w sender at m p s same of_kind tells is =
+    (λ i. state_now system log (same i) p (arrival_small w p s of_kind i).steps) ∙ is ∙ ap Some (sym (arrival_state w sender at m p s tells))
 
 -- so is one that rolls forward, to which an entry brings its letters, where nothing of it is queued and the entry tells of another
 rolls_arrived : (system : System) (log : List Entry) (e : Entry) (n : Next system log e) (queue : List Post) (p : Pid) (s : Process) (counts : Counts) (births : List Pid) → is_system system ≡ true → IsUnended system log p → p.0 ≢ ((n.told).pid).0
     → move_of p queue ≡ None → RollsBehind system log p (state_of s) counts births → IsHeldAs system (log ++ e ∷ []) queue p (Rolls (arrival_in (what e) p s) counts births)
 rolls_arrived system log e n queue p s counts births valid unended other none rolls = (
   none,
-  subst (λ t. RollsBehind system (log ++ e ∷ []) p t counts births) (sym (arrival_letters (what e) p s (n.may).built))
-      (behind_standing system log e p MayStand built_stands (state_of s) counts births valid n.more unended (told_cuts_none p (what e) (n.may).built) (no_deeds p (n.told).pid (n.told).at (n.told).emission (what e) (n.told).tells other) rolls),
+  subst (λ t. RollsBehind system (log ++ e ∷ []) p t counts births) (sym (arrival_letters (what e) p s (n.may).of_kind))
+      (behind_standing system log e p MayStand standing (state_of s) counts births valid n.more unended (told_cuts_none p (what e) (n.may).of_kind) (no_deeds p (n.told).pid (n.told).at (n.told).emission (what e) (n.told).tells other) rolls),
 )
 
 -- a cluster with an entry taken in that is no loss
@@ -386,7 +386,7 @@ held_foreign : (which : Pid → Bool) (c : ClusterView) (log : List Entry) (e : 
 held_foreign which c log e n q queue_is together valid differ own f foreign p h at = by_held before.was before.there before.same
   where
     before : WasHere (what e) c.here p h
-    before = was_here (what e) c.here p h (n.may).built at
+    before = was_here (what e) c.here p h (n.may).of_kind at
 
     home : HomeHere (placement c.system log) p c.number
     home = home_here (placement c.system log) c.number (pids_in c.here) p differ (f.processes).each_once (is_among c.here p before.was before.there)
@@ -395,21 +395,21 @@ held_foreign which c log e n q queue_is together valid differ own f foreign p h 
     other = apart c.system log e n.told c.number p home foreign
 
     by_held : (was : Held) → held_at c p ≡ Some was → h ≡ arrival_at (what e) p was → HeldOf which c.system (log ++ e ∷ []) c.queue p h
-    by_held (Runs s) there is = subst (λ h. HeldOf which c.system (log ++ e ∷ []) c.queue p h) (sym (is ∙ runs_after (what e) p s (n.may).built)) (λ passes.
+    by_held (Runs s) there is = subst (λ h. HeldOf which c.system (log ++ e ∷ []) c.queue p h) (sym (is ∙ runs_after (what e) p s (n.may).of_kind)) (λ passes.
         let posted = subst (λ ps. list_all (λ (post : Post). is_from c.number post.by) ps ≡ true) queue_is (f.queue).own in
-        let legal = subst (IsQueueLegal SentMayFollow c.system log) queue_is (f.queue).legal in
+        let legal = subst (IsQueueLegal SentMayStand c.system log) queue_is (f.queue).legal in
         let old : state_now c.system log (posts_of q) p (s.small).steps ≡ Some (state_of s) = ap (λ ps. state_now c.system log ps p (s.small).steps) (sym queue_is) ∙ (f.processes).held p (Runs s) there passes in
         let moved = now_arrives c.system log e n c.number q p (s.small).steps (state_of s) together posted legal other (ap is_some home.found) old in
-        held_arrived c.system (log ++ e ∷ []) c.queue (posts_of q) (what e) (n.told).pid (n.told).at (n.told).emission p s queue_is (n.may).built (n.told).tells moved)
+        held_arrived c.system (log ++ e ∷ []) c.queue (posts_of q) (what e) (n.told).pid (n.told).at (n.told).emission p s queue_is (n.may).of_kind (n.told).tells moved)
     by_held (Rolls s counts births) there is =
         let old : (move_of p c.queue ≡ None) × RollsBehind c.system log p (state_of s) counts births = (f.processes).held p (Rolls s counts births) there in
-        subst (λ h. HeldOf which c.system (log ++ e ∷ []) c.queue p h) (sym (is ∙ rolls_after (what e) p s counts births (n.may).built)) (rolls_arrived c.system log e n c.queue p s counts births valid (ap is_some home.found) other old.0 old.1)
+        subst (λ h. HeldOf which c.system (log ++ e ∷ []) c.queue p h) (sym (is ∙ rolls_after (what e) p s counts births (n.may).of_kind)) (rolls_arrived c.system log e n c.queue p s counts births valid (ap is_some home.found) other old.0 old.1)
     by_held (Waits waiting) there is =
         let mine = own_at c.cursor c.here p (Waits waiting) own there in
         let old : (move_of p c.queue ≡ None) × WaitsSo c.system log p (is_fetch_queued p c.queue) waiting = (f.processes).held p (Waits waiting) there in
         subst (λ h. HeldOf which c.system (log ++ e ∷ []) c.queue p h) (sym is)
         (any_of which c.system (log ++ e ∷ []) c.queue p (arrival_at (what e) p (Waits waiting))
-        (waits_told c.system log e c.queue c.queue p waiting valid n.more (ap is_some home.found) (n.may).built mine.pid_is (no_deeds p (n.told).pid (n.told).at (n.told).emission (what e) (n.told).tells other) old.0 (λ i. refl) old.1))
+        (waits_told c.system log e c.queue c.queue p waiting valid n.more (ap is_some home.found) (n.may).of_kind mine.pid_is (no_deeds p (n.told).pid (n.told).at (n.told).emission (what e) (n.told).tells other) old.0 (λ i. refl) old.1))
 
 -- who runs or rolls forward then did so before
 pub ran_before : (w : What) (p : Pid) (was : Held) → tells_or_closes w ≡ true → is_some (process_in (arrival_at w p was)) ≡ is_some (process_in was)
@@ -427,10 +427,10 @@ ran_before w p was = by_kind (λ w. is_some (process_in (arrival_at w p was)) �
 pub pages_told : (c : ClusterView) (log : List Entry) (e : Entry) (n : Next c.system log e) → is_system c.system ≡ true → pids_differ (placement c.system log).placed ≡ true → rising (pids_in c.here) ≡ rising (home_pids c.system log c.number) → HoldsPages c.system log c
     → HoldsPages c.system (log ++ e ∷ []) (taken_in c e)
 pages_told c log e n valid differ once pages p h at runs =
-    let before = was_here (what e) c.here p h (n.may).built at in
+    let before = was_here (what e) c.here p h (n.may).of_kind at in
     let home = home_here (placement c.system log) c.number (pids_in c.here) p differ once (is_among c.here p before.was before.there) in
-    pages_after c.system log e p c.number valid n.legal (n.may).stands differ home (told_loses_none c.number (what e) (n.may).built)
-    (pages p before.was before.there (sym (ran_before (what e) p before.was (n.may).built) ∙ ap (λ h. is_some (process_in h)) (sym before.same) ∙ runs))
+    pages_after c.system log e p c.number valid n.legal (n.may).stands differ home (told_loses_none c.number (what e) (n.may).of_kind)
+    (pages p before.was before.there (sym (ran_before (what e) p before.was (n.may).of_kind) ∙ ap (λ h. is_some (process_in h)) (sym before.same) ∙ runs))
 
 -- who has begun then had before
 begun_before : (w : What) (p : Pid) (was : Held) → tells_or_closes w ≡ true → has_begun (arrival_at w p was) ≡ has_begun was
@@ -449,10 +449,10 @@ begun_before w p was = by_kind (λ w. has_begun (arrival_at w p was) ≡ has_beg
 backups_told : (c : ClusterView) (log : List Entry) (e : Entry) (n : Next c.system log e) → is_system c.system ≡ true → pids_differ (placement c.system log).placed ≡ true → rising (pids_in c.here) ≡ rising (home_pids c.system log c.number) → HoldsBackups c.system log c
     → HoldsBackups c.system (log ++ e ∷ []) (taken_in c e)
 backups_told c log e n valid differ once backups p h at begun =
-    let before = was_here (what e) c.here p h (n.may).built at in
+    let before = was_here (what e) c.here p h (n.may).of_kind at in
     let home = home_here (placement c.system log) c.number (pids_in c.here) p differ once (is_among c.here p before.was before.there) in
-    awaited_after c.system log e p c.number valid n.legal (n.may).stands differ home (told_loses_none c.number (what e) (n.may).built)
-    (backups p before.was before.there (sym (begun_before (what e) p before.was (n.may).built) ∙ ap has_begun (sym before.same) ∙ begun))
+    awaited_after c.system log e p c.number valid n.legal (n.may).stands differ home (told_loses_none c.number (what e) (n.may).of_kind)
+    (backups p before.was before.there (sym (begun_before (what e) p before.was (n.may).of_kind) ∙ ap has_begun (sym before.same) ∙ begun))
 
 -- and is within its limits still
 limits_told : (c : ClusterView) (e : Entry) → tells_or_closes (what e) ≡ true → HoldsLimits c.system c → HoldsLimits c.system (taken_in c e)
@@ -461,16 +461,16 @@ limits_told c e tells limits p h at =
     subst (IsHeldWithin (limits_of c.system)) (sym before.same) (arrival_within (limits_of c.system) (what e) p before.was tells (limits p before.was before.there))
 
 queue_foreign : (c : ClusterView) (log : List Entry) (e : Entry) (n : Next c.system log e) (q : Queued) → AreTogether q → is_system c.system ≡ true → pids_differ (placement c.system log).placed ≡ true → is_by_cluster c.number e ≡ false
-    → list_all (λ (post : Post). is_from c.number post.by) (posts_of q) ≡ true → IsQueueLegal SentMayFollow c.system log (posts_of q) → IsQueueLegal SentMayFollow c.system (log ++ e ∷ []) (posts_of q)
+    → list_all (λ (post : Post). is_from c.number post.by) (posts_of q) ≡ true → IsQueueLegal SentMayStand c.system log (posts_of q) → IsQueueLegal SentMayStand c.system (log ++ e ∷ []) (posts_of q)
 queue_foreign c log e n Nothing together valid differ foreign own legal = tt
 queue_foreign c log e n (One post) together valid differ foreign own legal = (by_kind_of (lone_is post.what together), tt)
   where
     from : is_from c.number post.by ≡ true
     from = (and_parts (is_from c.number post.by) true own).0
 
-    by_kind_of : (tells_or_closes post.what ≡ true) ⊎ (is_of_page post.what ≡ true) → SentMayFollow c.system (log ++ e ∷ []) (entry_of c.system (log ++ e ∷ []) post)
+    by_kind_of : (tells_or_closes post.what ≡ true) ⊎ (is_of_page post.what ≡ true) → SentMayStand c.system (log ++ e ∷ []) (entry_of c.system (log ++ e ∷ []) post)
     by_kind_of (inl tells) = may_told c.system (log ++ e ∷ []) (entry_of c.system (log ++ e ∷ []) post) (post_stays c.system log e n c.number post valid differ foreign from (told_may c.system log (entry_of c.system log post) legal.0 tells))
-    by_kind_of (inr of) = page_post_stays c.system valid log e c.number post (n.legal, n.before) (n.more, n.goes_on) foreign (told_loses_none c.number (what e) (n.may).built) from of (page_stays_queued (placement c.system log) (what e) post.what of (told_loses (what e) (n.may).built)) legal.0
+    by_kind_of (inr of) = page_post_stays c.system valid log e c.number post (n.legal, n.before) (n.more, n.goes_on) foreign (told_loses_none c.number (what e) (n.may).of_kind) from of (page_stays_queued (placement c.system log) (what e) post.what of (told_loses (what e) (n.may).of_kind)) legal.0
 
 -- each process that is here then has its marks still
 marks_foreign : (which : Pid → Bool) (c : ClusterView) (log : List Entry) (e : Entry) (n : Next c.system log e) → is_system c.system ≡ true → pids_differ (placement c.system log).placed ≡ true → AllOwn c.cursor c.here
@@ -479,11 +479,11 @@ marks_foreign which c log e n valid differ own f foreign p h at among =
     let m0 : MarkedIfThere CarriesMarks c.system (with_queue c.system log (posts_of q)) p (unended_process before.was) =
     subst (λ ps. MarkedIfThere CarriesMarks c.system (with_queue c.system log ps) p (unended_process before.was)) queue_is (f.marks p before.was before.there among) in
     subst (λ ps. MarkedIfThere CarriesMarks c.system (with_queue c.system later ps) p (unended_process h)) (sym queue_is)
-    (marked_after c.system log e p q before.was h valid (legal_stands MayStand built_stands c.system later n.more) (ap is_some home.found) (ap is_some (found_stays c.system log e n.told p other ∙ home.found)) (f.queued).together
+    (marked_after c.system log e p q before.was h valid (legal_stands MayStand standing c.system later n.more) (ap is_some home.found) (ap is_some (found_stays c.system log e n.told p other ∙ home.found)) (f.queued).together
     (queue_tells c.system log c.number q posts_own posts_legal) (queue_tells c.system later c.number q posts_own legal_still)
     (subst (λ ps. IsHeldAs c.system log ps p before.was) queue_is (one_of_them which c.system log c.queue p before.was among ((f.processes).held p before.was before.there)))
     (subst (λ ps. IsHeldAs c.system later ps p h) queue_is (one_of_them which c.system later c.queue p h among (held_foreign which c log e n q queue_is (f.queued).together valid differ own f foreign p h at)))
-    (told_leaves c.system log p (what e) (n.may).built) (exit_other p (n.told).pid (n.told).at (n.told).emission (what e) (n.told).tells other) comes m0)
+    (told_leaves c.system log p (what e) (n.may).of_kind) (exit_other p (n.told).pid (n.told).at (n.told).emission (what e) (n.told).tells other) comes m0)
   where
     later : List Entry
     later = log ++ e ∷ []
@@ -497,14 +497,14 @@ marks_foreign which c log e n valid differ own f foreign p h at among =
     posts_own : list_all (λ (post : Post). is_from c.number post.by) (posts_of q) ≡ true
     posts_own = subst (λ ps. list_all (λ (post : Post). is_from c.number post.by) ps ≡ true) queue_is (f.queue).own
 
-    posts_legal : IsQueueLegal SentMayFollow c.system log (posts_of q)
-    posts_legal = subst (IsQueueLegal SentMayFollow c.system log) queue_is (f.queue).legal
+    posts_legal : IsQueueLegal SentMayStand c.system log (posts_of q)
+    posts_legal = subst (IsQueueLegal SentMayStand c.system log) queue_is (f.queue).legal
 
-    legal_still : IsQueueLegal SentMayFollow c.system later (posts_of q)
+    legal_still : IsQueueLegal SentMayStand c.system later (posts_of q)
     legal_still = queue_foreign c log e n q (f.queued).together valid differ foreign posts_own posts_legal
 
     before : WasHere (what e) c.here p h
-    before = was_here (what e) c.here p h (n.may).built at
+    before = was_here (what e) c.here p h (n.may).of_kind at
 
     home : HomeHere (placement c.system log) p c.number
     home = home_here (placement c.system log) c.number (pids_in c.here) p differ (f.processes).each_once (is_among c.here p before.was before.there)
@@ -513,7 +513,7 @@ marks_foreign which c log e n valid differ own f foreign p h at among =
     other = apart c.system log e n.told c.number p home foreign
 
     comes : MarkedIfThere CarriesMarks c.system later p (unended_process before.was) → MarkedIfThere CarriesMarks c.system later p (unended_process h)
-    comes m = subst (λ x. MarkedIfThere CarriesMarks c.system later p (unended_process x)) (sym before.same) (arrival_marked c.system later (what e) p before.was (n.may).built m)
+    comes m = subst (λ x. MarkedIfThere CarriesMarks c.system later p (unended_process x)) (sym before.same) (arrival_marked c.system later (what e) p before.was (n.may).of_kind m)
 
 pub counted_foreign : (c : ClusterView) (log : List Entry) (e : Entry) → is_by_cluster c.number e ≡ false → capped (least_steps log log c.number + cond c.tried 1 0) ≤ c.steps
     → capped (least_steps (log ++ e ∷ []) (log ++ e ∷ []) c.number + cond c.tried 1 0) ≤ next_count c.steps
@@ -526,7 +526,7 @@ counted_foreign c log e foreign h =
 records_after_entry : (system : System) (log : List Entry) (e : Entry) (n : Next system log e) (k : ClusterNo) (recs : List BackRec) → is_system system ≡ true → KeepsRecords system log k recs → KeepsRecords system (log ++ e ∷ []) k (records_after k (what e) recs)
 records_after_entry system log e n k recs valid keeps =
     records_kept system log e k recs valid (legal_stands MayStand (λ system log e may. may.stands) system (log ++ e ∷ []) n.more)
-    (by_kind (λ w. changes_in_place w ≡ true) (λ at letter. refl) (λ pid at end. refl) (λ rests. refl) refl (what e) (n.may).built) keeps
+    (by_kind (λ w. changes_in_place w ≡ true) (λ at letter. refl) (λ pid at end. refl) (λ rests. refl) refl (what e) (n.may).of_kind) keeps
 
 pub follows_foreign : (which : Pid → Bool) (c : ClusterView) (log : List Entry) (e : Entry) (n : Next c.system log e) (server : Option PagerState) → is_system c.system ≡ true
     → pids_differ (placement c.system log).placed ≡ true → AllOwn c.cursor c.here → FollowsBeside which c.system log c → is_by_cluster c.number e ≡ false → Serves (placement c.system log) e c.server server
@@ -546,13 +546,13 @@ follows_foreign which c log e n server valid differ own f foreign serves = recor
   };
   queued = f.queued;
   steps = record { counted = λ kept. counted_foreign c log e foreign ((f.steps).counted (lost_before log e c.number kept)) };
-  limits = limits_told c e (n.may).built f.limits;
+  limits = limits_told c e (n.may).of_kind f.limits;
   pages = pages_told c log e n valid differ (f.processes).each_once f.pages;
   marks = marks_foreign which c log e n valid differ own f foreign;
   family = family_next c.system log e c.family valid (n.legal, n.before) (n.more, n.goes_on) f.family;
-  owed = owed_next c.system log e c.number c.places c.owed valid (n.more, n.goes_on) (f.log).places (told_spares c.number (what e) (n.may).built) f.owed;
+  owed = owed_next c.system log e c.number c.places c.owed valid (n.more, n.goes_on) (f.log).places (told_spares c.number (what e) (n.may).of_kind) f.owed;
   backups = backups_told c log e n valid differ (f.processes).each_once f.backups;
-  forks = forks_told (what e) c.family c.here (n.may).built f.forks;
+  forks = forks_told (what e) c.family c.here (n.may).of_kind f.forks;
   records = records_after_entry c.system log e n c.number c.records valid f.records;
   accounts =
       accounts_next c.system log e c (with_server server (taken_in c e)) q (foreign_no_answer c.number e foreign) serves refl queue_is queue_is (f.queued).together f.accounts;
@@ -565,27 +565,27 @@ follows_foreign which c log e n server valid differ own f foreign serves = recor
     queue_is : c.queue ≡ posts_of q
     queue_is = (f.queued).posts
 
-    posts_legal : IsQueueLegal SentMayFollow c.system log (posts_of q)
-    posts_legal = subst (IsQueueLegal SentMayFollow c.system log) queue_is (f.queue).legal
+    posts_legal : IsQueueLegal SentMayStand c.system log (posts_of q)
+    posts_legal = subst (IsQueueLegal SentMayStand c.system log) queue_is (f.queue).legal
 
-    legal_still : IsQueueLegal SentMayFollow c.system (log ++ e ∷ []) c.queue
-    legal_still = subst (IsQueueLegal SentMayFollow c.system (log ++ e ∷ [])) (sym queue_is)
+    legal_still : IsQueueLegal SentMayStand c.system (log ++ e ∷ []) c.queue
+    legal_still = subst (IsQueueLegal SentMayStand c.system (log ++ e ∷ [])) (sym queue_is)
         (queue_foreign c log e n q (f.queued).together valid differ foreign (subst (λ ps. list_all (λ (post : Post). is_from c.number post.by) ps ≡ true) queue_is (f.queue).own) posts_legal)
 
 -- ---- for the cluster's own entry
 
 -- what a cluster sent is no loss
-pub own_sent : (c : ClusterView) (log : List Entry) (e : Entry) → StandsBetween FollowsBuilt c.system log e c → is_sent (what e) ≡ true
+pub own_sent : (c : ClusterView) (log : List Entry) (e : Entry) → StandsBetween Follows c.system log e c → is_sent (what e) ≡ true
 own_sent c log e s = by_queue (s.before).queue s.head ((s.followed).queue).legal
   where
-    by_queue : (ps : List Post) → option_map (entry_of c.system log) (head_of ps) ≡ Some e → IsQueueLegal SentMayFollow c.system log ps → is_sent (what e) ≡ true
+    by_queue : (ps : List Post) → option_map (entry_of c.system log) (head_of ps) ≡ Some e → IsQueueLegal SentMayStand c.system log ps → is_sent (what e) ≡ true
     by_queue [] head legal = cc
-    by_queue (post ∷ rest) head legal = let whole : entry_of c.system log post ≡ e = cc in ap (λ (x : Entry). is_sent (what x)) (sym whole) ∙ (legal.0).built
+    by_queue (post ∷ rest) head legal = let whole : entry_of c.system log post ≡ e = cc in ap (λ (x : Entry). is_sent (what x)) (sym whole) ∙ (legal.0).of_kind
 
 -- what is left of a cluster that has sent its only post
 pub record Left (c : ClusterView) (log : List Entry) (e : Entry) : Type 0 where
   pub before : ClusterView
-  pub followed : FollowsBuilt c.system log before
+  pub followed : Follows c.system log before
   pub posts : before.queue ≡ e.post ∷ []
   pub entry : entry_of c.system log e.post ≡ e
   pub lone : is_lone (what e) ≡ true
@@ -599,7 +599,7 @@ lone_head c w lone = by_kind_of (lone_is w lone)
     by_kind_of (inl tells) = by_kind (λ w. after_head c w ≡ c) (λ at letter. refl) (λ pid at end. refl) (λ rests. refl) refl w tells
     by_kind_of (inr of) = by_page (λ w. after_head c w ≡ c) (λ pid index. refl) (λ pid index bytes. refl) w of
 
-pub left_of : (c : ClusterView) (log : List Entry) (e : Entry) (s : StandsBetween FollowsBuilt c.system log e c) → IsQueued (s.before).queue → Left c log e
+pub left_of : (c : ClusterView) (log : List Entry) (e : Entry) (s : StandsBetween Follows c.system log e c) → IsQueued (s.before).queue → Left c log e
 left_of c log e s alone = by_queue alone.queued alone.posts alone.together
   where
     head_is : (q : Queued) → (s.before).queue ≡ posts_of q → option_map (entry_of c.system log) (head_of (posts_of q)) ≡ Some e
@@ -663,7 +663,7 @@ held_own : (c : ClusterView) (log : List Entry) (e : Entry) (n : Next c.system l
 held_own c log e n l valid differ own once p h at = by_held before.was before.there before.same
   where
     before : WasHere (what e) c.here p h
-    before = was_here (what e) c.here p h (n.may).built at
+    before = was_here (what e) c.here p h (n.may).of_kind at
 
     home : HomeHere (placement c.system log) p c.number
     home = home_here (placement c.system log) c.number (pids_in c.here) p differ once (is_among c.here p before.was before.there)
@@ -674,18 +674,18 @@ held_own c log e n l valid differ own once p h at = by_held before.was before.th
     by_held : (was : Held) → held_at c p ≡ Some was → h ≡ arrival_at (what e) p was → IsHeldAs c.system (log ++ e ∷ []) [] p h
     by_held (Runs s) there is =
         let told = now_told c.system log e n p (s.small).steps (state_of s) refl (ap is_some home.found) (old (Runs s) there) in
-        subst (λ h. IsHeldAs c.system (log ++ e ∷ []) [] p h) (sym (is ∙ runs_after (what e) p s (n.may).built))
-        (held_arrived c.system (log ++ e ∷ []) [] [] (what e) (n.told).pid (n.told).at (n.told).emission p s refl (n.may).built (n.told).tells told)
+        subst (λ h. IsHeldAs c.system (log ++ e ∷ []) [] p h) (sym (is ∙ runs_after (what e) p s (n.may).of_kind))
+        (held_arrived c.system (log ++ e ∷ []) [] [] (what e) (n.told).pid (n.told).at (n.told).emission p s refl (n.may).of_kind (n.told).tells told)
     by_held (Rolls s counts births) there is =
         let was : (move_of p (e.post ∷ []) ≡ None) × RollsBehind c.system log p (state_of s) counts births = old (Rolls s counts births) there in
-        subst (λ h. IsHeldAs c.system (log ++ e ∷ []) [] p h) (sym (is ∙ rolls_after (what e) p s counts births (n.may).built))
+        subst (λ h. IsHeldAs c.system (log ++ e ∷ []) [] p h) (sym (is ∙ rolls_after (what e) p s counts births (n.may).of_kind))
         (rolls_arrived c.system log e n [] p s counts births valid (ap is_some home.found) (not_told c.system log e n p was.0) refl was.1)
     by_held (Waits waiting) there is =
         let mine = own_at c.cursor c.here p (Waits waiting) own there in
         let was : (move_of p (e.post ∷ []) ≡ None) × WaitsSo c.system log p (is_fetch_queued p (e.post ∷ [])) waiting = old (Waits waiting) there in
         subst (λ h. IsHeldAs c.system (log ++ e ∷ []) [] p h) (sym is)
-        (waits_told c.system log e (e.post ∷ []) [] p waiting valid n.more (ap is_some home.found) (n.may).built mine.pid_is (no_deeds p (n.told).pid (n.told).at (n.told).emission (what e) (n.told).tells (not_told c.system log e n p was.0)) refl
-        (λ i. ap (λ b. b || false) (told_fetches_none p i (what e) (n.may).built)) was.1)
+        (waits_told c.system log e (e.post ∷ []) [] p waiting valid n.more (ap is_some home.found) (n.may).of_kind mine.pid_is (no_deeds p (n.told).pid (n.told).at (n.told).emission (what e) (n.told).tells (not_told c.system log e n p was.0)) refl
+        (λ i. ap (λ b. b || false) (told_fetches_none p i (what e) (n.may).of_kind)) was.1)
 
 pub counted_own : (system : System) (log : List Entry) (e : Entry) (k : ClusterNo) (tried : Bool) (steps : ℕ) → tried ≡ true → capped (least_steps log log k + cond tried 1 0) ≤ steps
     → capped (least_steps (log ++ e ∷ []) (log ++ e ∷ []) k + 0) ≤ next_count steps
@@ -715,13 +715,13 @@ marked_own c log e l lone p was there =
 
 marks_own : (c : ClusterView) (log : List Entry) (e : Entry) (n : Next c.system log e) (l : Left c log e) → is_lone (what e) ≡ true → c.queue ≡ [] → HoldsMarks CarriesMarks c.system (log ++ e ∷ []) (taken_in c e)
 marks_own c log e n l lone empty p h at =
-    let before = was_here (what e) c.here p h (n.may).built at in
+    let before = was_here (what e) c.here p h (n.may).of_kind at in
     subst (λ ps. MarkedIfThere CarriesMarks c.system (with_queue c.system (log ++ e ∷ []) ps) p (unended_process h)) (sym empty)
     (subst (λ x. MarkedIfThere CarriesMarks c.system (log ++ e ∷ []) p (unended_process x)) (sym before.same)
-    (arrival_marked c.system (log ++ e ∷ []) (what e) p before.was (n.may).built (marked_own c log e l lone p before.was before.there)))
+    (arrival_marked c.system (log ++ e ∷ []) (what e) p before.was (n.may).of_kind (marked_own c log e l lone p before.was before.there)))
 
 pub follows_own : (c : ClusterView) (log : List Entry) (e : Entry) (n : Next c.system log e) (l : Left c log e) (server : Option PagerState) → is_system c.system ≡ true → pids_differ (placement c.system log).placed ≡ true → AllOwn c.cursor c.here
-    → Serves (placement c.system log) e c.server server → FollowsBuilt c.system (log ++ e ∷ []) (with_server server (taken_in c e))
+    → Serves (placement c.system log) e c.server server → Follows c.system (log ++ e ∷ []) (with_server server (taken_in c e))
 follows_own c log e n l server valid differ own serves =
     let f = l.followed in
     let empty : c.queue ≡ [] = ap (λ (d : ClusterView). d.queue) l.same in
@@ -739,18 +739,18 @@ follows_own c log e n l server valid differ own serves =
       };
       queue = record {
         own = ap (λ ps. list_all (λ (post : Post). is_from c.number post.by) ps) empty;
-        legal = subst (IsQueueLegal SentMayFollow c.system (log ++ e ∷ [])) (sym empty) tt;
+        legal = subst (IsQueueLegal SentMayStand c.system (log ++ e ∷ [])) (sym empty) tt;
       };
       queued = inl (record { queued = Nothing; posts = empty; together = tt });
       steps = record { counted = counted_left c log e l };
-      limits = limits_told c e (n.may).built (subst (λ hs. (p : Pid) (h : Held) → held_of hs p ≡ Some h → IsHeldWithin (limits_of c.system) h) here f.limits);
+      limits = limits_told c e (n.may).of_kind (subst (λ hs. (p : Pid) (h : Held) → held_of hs p ≡ Some h → IsHeldWithin (limits_of c.system) h) here f.limits);
       pages = pages_told c log e n valid differ once (subst (λ hs. (p : Pid) (h : Held) → held_of hs p ≡ Some h → is_some (process_in h) ≡ true → has_its_pages c.system log p ≡ true) here f.pages);
       marks = marks_own c log e n l l.lone empty;
       family = family_next c.system log e c.family valid (n.legal, n.before) (n.more, n.goes_on) (ap (λ (d : ClusterView). d.family) l.same ∙ f.family);
-      owed = owed_next c.system log e c.number c.places c.owed valid (n.more, n.goes_on) (ap (λ (d : ClusterView). d.places) l.same ∙ (f.log).places) (told_spares c.number (what e) (n.may).built)
+      owed = owed_next c.system log e c.number c.places c.owed valid (n.more, n.goes_on) (ap (λ (d : ClusterView). d.places) l.same ∙ (f.log).places) (told_spares c.number (what e) (n.may).of_kind)
           (subst (HoldsOwed c.system log) (sym l.same) f.owed);
       backups = backups_told c log e n valid differ once (subst (HoldsBackups c.system log) (sym l.same) f.backups);
-      forks = forks_told (what e) c.family c.here (n.may).built (subst HoldsForks (sym l.same) f.forks);
+      forks = forks_told (what e) c.family c.here (n.may).of_kind (subst HoldsForks (sym l.same) f.forks);
       records = records_after_entry c.system log e n c.number c.records valid
           (subst (λ recs. KeepsRecords c.system log c.number recs) (sym (ap (λ (d : ClusterView). d.records) l.same))
           (subst (λ k. KeepsRecords c.system log k (l.before).records) number f.records));

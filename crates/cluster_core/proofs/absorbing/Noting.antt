@@ -32,8 +32,8 @@ use Rattle.cert_sched.specs.Schedule.{placement}
 use Rattle.cert_sched.specs.Record.{backup_record}
 use Rattle.backup_records.specs.Records.{CanNote, record_in, record_after, record_of_child, records_after, is_receiver, after_birth, records_renewed, with_child_of, with_record, with_records, with_saved, with_counted, with_cut}
 use Rattle.log_laws.specs.records.Kept.{KeepsRecords, has_backup_in}
-use Rattle.log_laws.proofs.records.BuiltLaws.{built_can_note}
-use Rattle.log_laws.proofs.records.Standing.{built_stands}
+use Rattle.log_laws.proofs.records.Noted.{can_note}
+use Rattle.log_laws.proofs.records.Standing.{all_stand}
 use Rattle.backup_laws.proofs.ReturnedEmpty.{backups_live, renewed_lives}
 use Rattle.cert_sched.proofs.LogLaws.{IsLegal-last}
 use Rattle.cluster_core.specs.View.{ClusterView}
@@ -282,17 +282,17 @@ kept_of c log e (inr s) =
 pub can_note_next : (c : ClusterView) (e : Entry) → is_system c.system ≡ true → ReadyFor e c → c.cursor < 2 ^ 64 - 1 → CanNote (what e) c.records
 can_note_next c e valid r room =
     let kept = kept_of c r.log e r.ready in
-    built_can_note c.system r.log e c.number c.records valid (r.open_next).0 (subst (λ m. m < 2 ^ 64 - 1) kept.cursor room) kept.records
+    can_note c.system r.log e c.number c.records valid (r.open_next).0 (subst (λ m. m < 2 ^ 64 - 1) kept.cursor room) kept.records
 
 -- and where it does not go to the cluster, it leaves the records as they are
 pub noted_next : (c : ClusterView) (e : Entry) → is_system c.system ≡ true → ReadyFor e c → IsNotedHere c.number e c.records
-noted_next c e valid r elsewhere = by_loss (kind_is (what e) may.built)
+noted_next c e valid r elsewhere = by_loss (kind_is (what e))
   where
     may : MayStand c.system r.log e
     may = IsLegal-last MayStand c.system r.log e (r.open_next).0
 
     live : BackupsLive (placement c.system r.log)
-    live p q b found is = backups_live c.system r.log p q b valid (built_stands c.system r.log (r.open_log).0) found is
+    live p q b found is = backups_live c.system r.log p q b valid (all_stand c.system r.log (r.open_log).0) found is
 
     by_loss : OneOf (what e) → records_after c.number (what e) c.records ≡ c.records
     by_loss (inl tells) = noted_here c.system r.log e c.number c.records (((may.stands).placed).1) tells live (kept_of c r.log e r.ready).records elsewhere

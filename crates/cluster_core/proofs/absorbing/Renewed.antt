@@ -37,7 +37,7 @@ use Rattle.backup_records.specs.Records.{record_after, records_after}
 use Rattle.checkpoint_laws.specs.marks.Beside.{is_some_page}
 use Rattle.log_laws.specs.records.Kept.{changes_in_place}
 use Rattle.log_laws.proofs.records.KeptLaws.{records_kept}
-use Rattle.log_laws.proofs.records.Standing.{built_stands}
+use Rattle.log_laws.proofs.records.Standing.{all_stand}
 use Rattle.page_server.specs.Account.{PagerState}
 use Rattle.cluster_core.specs.Calls.{with_entry, here_after}
 use Rattle.cluster_core.specs.Families.{family_after}
@@ -46,7 +46,7 @@ use Rattle.cluster_core.specs.Follows.{IsOpen}
 use Rattle.cluster_core.specs.ForksAgain.{ForksLeft}
 use Rattle.cluster_core.specs.Parts.{AllOwn}
 use Rattle.cluster_core.specs.Queue.{IsQueueLegal}
-use Rattle.cluster_core.specs.Sent.{SentMayFollow}
+use Rattle.cluster_core.specs.Sent.{SentMayStand}
 use Rattle.cluster_core.specs.Recovered.{left_by, moved_by, with_all_waiting}
 use Rattle.cluster_core.specs.Serving.{Serves}
 use Rattle.cluster_core.specs.View.{ClusterView, next_count, with_server}
@@ -223,13 +223,13 @@ module _ (system : System) (valid : is_system system ≡ true) (log : List Entry
       → (was_lost_in later c.number ≡ false → capped (least_steps later later c.number + cond c.tried 1 0) ≤ next_count c.steps) → FollowsBeside all_of system later (with_server server (with_entry c e))
   follows_handed c server recs is own serves f empty counted =
       follows_passed_so system valid log e now next brings_nothing all_of c server (renewal_taken c e r.to r.fresh r.recs r.same) (λ p home. spares_standing recs is p) (pids_same c.number)
-      (records_kept system log e c.number c.records valid (built_stands system later next.0) (ap changes_in_place r.same) f.records)
+      (records_kept system log e c.number c.records valid (all_stand system later next.0) (ap changes_in_place r.same) f.records)
       (subst (λ w. ForksLeft (family_after w c.family) c.here) (sym r.same) (forks_renewed r.to r.fresh r.recs c.family c.here f.forks)) own serves f
-      (ap (λ w. is_page_is_entry w && is_by_cluster c.number e) is) (subst (IsQueueLegal SentMayFollow system later) (sym empty ∙ (f.queued).posts) tt) counted
+      (ap (λ w. is_page_is_entry w && is_by_cluster c.number e) is) (subst (IsQueueLegal SentMayStand system later) (sym empty ∙ (f.queued).posts) tt) counted
 
   pub follows_renewed : (which : Pid → Bool) (c : ClusterView) (server : Option PagerState) → AllOwn c.cursor c.here → Serves places e c.server server → FollowsBeside which system log c → is_by_cluster c.number e ≡ false
       → FollowsBeside which system later (with_server server (with_entry c e))
   follows_renewed which c server own serves f foreign =
       follows_passed system valid log e now next brings_nothing which c server (renewal_taken c e r.to r.fresh r.recs r.same) (spares_renewed c.number foreign) (pids_same c.number)
-      (records_kept system log e c.number c.records valid (built_stands system later next.0) (ap changes_in_place r.same) f.records)
+      (records_kept system log e c.number c.records valid (all_stand system later next.0) (ap changes_in_place r.same) f.records)
       (subst (λ w. ForksLeft (family_after w c.family) c.here) (sym r.same) (forks_renewed r.to r.fresh r.recs c.family c.here f.forks)) own serves f foreign

@@ -26,7 +26,7 @@ use Rattle.backup_records.specs.Records.{record_after, records_after}
 use Rattle.checkpoint_laws.specs.marks.Beside.{is_some_page}
 use Rattle.log_laws.specs.records.Kept.{changes_in_place}
 use Rattle.log_laws.proofs.records.KeptLaws.{records_kept}
-use Rattle.log_laws.proofs.records.Standing.{built_stands}
+use Rattle.log_laws.proofs.records.Standing.{all_stand}
 use Rattle.page_server.specs.Account.{PagerState}
 use Rattle.cluster_core.specs.Calls.{here_after, with_entry}
 use Rattle.cluster_core.specs.Families.{family_after}
@@ -107,5 +107,5 @@ module _ (system : System) (valid : is_system system ≡ true) (log : List Entry
   follows_returned which c server own serves f foreign =
       follows_passed system valid log e now next (brings_nothing system log e back is) which c server (return_taken c e back is) (λ p home. spares_each system log e back is p)
       (ap (λ (places : Places). pids_home c.number places.placed) (there system log e back is))
-      (records_kept system log e c.number c.records valid (built_stands system (log ++ e ∷ []) next.0) (ap changes_in_place is) f.records)
+      (records_kept system log e c.number c.records valid (all_stand system (log ++ e ∷ []) next.0) (ap changes_in_place is) f.records)
       (subst (λ w. ForksLeft (family_after w c.family) c.here) (sym is) f.forks) own serves f foreign

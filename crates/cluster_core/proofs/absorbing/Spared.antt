@@ -23,8 +23,8 @@ use Rattle.bus_msg.specs.Places.{Places, unended_at, same_cluster}
 use Rattle.bus_msg.specs.PlacedAfter.{placed_after, what}
 use Rattle.channel_table.specs.Changes.{pids_differ}
 use Rattle.cert_sched.specs.Appended.{entry_of}
-use Rattle.cluster_core.specs.Sent.{TellingMayFollow}
-use Rattle.cluster_core.specs.Sent.{SentMayFollow}
+use Rattle.cluster_core.specs.Sent.{TellingMayStand}
+use Rattle.cluster_core.specs.Sent.{SentMayStand}
 use Rattle.cert_sched.specs.Deeds.{deeds_in, is_cut, letter_for, is_birth_of}
 use Rattle.cert_sched.specs.Legal.{Stands, MayStand}
 use Rattle.cert_sched.specs.Losses.{capped, is_by_cluster, is_from, is_crash_of, least_steps, was_lost_in}
@@ -37,9 +37,9 @@ use Rattle.cert_sched.specs.Steps.{after_items, emission_at, process_of, silent_
 use Rattle.cert_sched.proofs.LogLaws.{IsLegal-last, placement-snoc}
 use Rattle.backup_records.specs.Records.{record_after, records_after}
 use Rattle.log_laws.specs.records.Kept.{KeepsRecords}
-use Rattle.log_laws.proofs.records.Standing.{built_stands}
+use Rattle.log_laws.proofs.records.Standing.{all_stand}
 use Rattle.replay_laws.specs.rolling.Behind.{RollsBehind}
-use Rattle.replay_laws.proofs.rolling.ByRule.{built_stands as standing}
+use Rattle.replay_laws.proofs.rolling.ByRule.{standing}
 use Rattle.replay_laws.proofs.rolling.KeepingBehind.{behind_standing}
 use Rattle.page_server.specs.Account.{PagerState}
 use Rattle.page_waits.specs.Waiting.{WaitingState}
@@ -69,7 +69,7 @@ use Rattle.cluster_core.proofs.absorbing.Posted.{moves_it, no_end}
 use Rattle.cluster_core.proofs.syncs.Marking.{marked_after, queue_tells}
 use Rattle.cluster_core.proofs.paging.HasPages.{home_of_sender, pages_after, waits_after}
 use Rattle.cluster_core.proofs.here.Here.{is_among}
-use Rattle.cluster_core.proofs.losses.Homes.{HomeHere, differ_built, home_here, pids_home}
+use Rattle.cluster_core.proofs.losses.Homes.{HomeHere, pids_apart, home_here, pids_home}
 use Rattle.cluster_core.proofs.losses.NotMoved.{home_not_moved}
 use Rattle.cluster_core.proofs.here.Owning.{own_at}
 use Rattle.cluster_core.proofs.paging.PagePosts.{page_post_stays}
@@ -80,7 +80,7 @@ use Rattle.cert_sched.specs.Account.{is_exit_of}
 use Rattle.cert_sched.specs.Told.{cluster_lost, is_moved}
 use Rattle.checkpoint_laws.specs.marks.Beside.{is_some_page}
 use Rattle.cert_sched.specs.Simulation.{IsUnended}
-use Rattle.cert_sched.proofs.BuiltCuts.{by_home_there}
+use Rattle.cert_sched.proofs.CutLaws.{by_home_there}
 use Rattle.cluster_core.proofs.working.KeptLimits.{told_within}
 use Rattle.checkpoint_laws.proofs.limits.StayingLimits.{sent_stays}
 
@@ -130,7 +130,7 @@ module _ (system : System) (valid : is_system system ≡ true) (log : List Entry
   stands = (IsLegal-last MayStand system log e next.0).stands
 
   differ : pids_differ places.placed ≡ true
-  differ = differ_built system log valid now.0
+  differ = pids_apart system log valid now.0
 
   loses_none : (k : ClusterNo) → is_crash_of k (what e) ≡ false
   loses_none k = ap (λ o. option_map_or (λ j. same_cluster j k) o false) n.no_loss
@@ -156,14 +156,14 @@ module _ (system : System) (valid : is_system system ≡ true) (log : List Entry
       (λ i. n.living by parts.0 i && is_by by (home i)) ∙ parts.1
 
   -- a post of a cluster that tells of such a process may follow after it
-  post_stays : (k : ClusterNo) (post : Post) → ((p : Pid) → HomeHere places p k → Spares system log e p) → is_from k post.by ≡ true → TellingMayFollow system log (entry_of system log post) → TellingMayFollow system later (entry_of system later post)
+  post_stays : (k : ClusterNo) (post : Post) → ((p : Pid) → HomeHere places p k → Spares system log e p) → is_from k post.by ≡ true → TellingMayStand system log (entry_of system log post) → TellingMayStand system later (entry_of system later post)
   post_stays k post spares own may =
-      post_may system later post u.pid u.at u.emission u.after next.0 next.1 may.built u.tells (s.emission u.at ∙ u.is) (still_by_home post.by u.pid (s.home) u.by_home) keeps
-      (waits_after system log e k post valid now.0 stands differ (loses_none k) may.built (ap (is_by_home places post.by) u.process ∙ u.by_home) own may.pages)
-      (may_end_still system log e (entry_of system log post) u.pid u.at u.emission post.what valid (built_stands system log now.0) stands s.no_deed u.tells (may.stands).kind)
+      post_may system later post u.pid u.at u.emission u.after next.0 next.1 may.of_kind u.tells (s.emission u.at ∙ u.is) (still_by_home post.by u.pid (s.home) u.by_home) keeps
+      (waits_after system log e k post valid now.0 stands differ (loses_none k) may.of_kind (ap (is_by_home places post.by) u.process ∙ u.by_home) own may.pages)
+      (may_end_still system log e (entry_of system log post) u.pid u.at u.emission post.what valid (all_stand system log now.0) stands s.no_deed u.tells (may.stands).kind)
     where
       u : Telling system log (entry_of system log post)
-      u = telling system log (entry_of system log post) may (no_end k places post.by post.what may.built own (may.stands).by_right)
+      u = telling system log (entry_of system log post) may (no_end k places post.by post.what may.of_kind own (may.stands).by_right)
 
       s : Spares system log e u.pid
       s = spares u.pid (home_of_sender places k post.by u.pid own u.by_home)
@@ -171,18 +171,18 @@ module _ (system : System) (valid : is_system system ≡ true) (log : List Entry
       keeps : keeps_limits system later u.pid u.after ≡ true
       keeps =
           subst (λ t. keeps_limits system later u.pid t ≡ true) (no_letter u.pid u.after)
-          (sent_stays system log e u.pid u.at u.emission u.after valid (built_stands system log now.0) (by_home_there places post.by u.pid u.by_home) (λ i. s.no_cut i || s.no_birth i) u.is
+          (sent_stays system log e u.pid u.at u.emission u.after valid (all_stand system log now.0) (by_home_there places post.by u.pid u.by_home) (λ i. s.no_cut i || s.no_birth i) u.is
           (told_within system log u.pid u.at u.emission u.after u.is post.what u.tells may.limits))
 
-  queue_stays : (k : ClusterNo) (q : Queued) → ((p : Pid) → HomeHere places p k → Spares system log e p) → AreTogether q → is_by_cluster k e ≡ false → list_all (λ (post : Post). is_from k post.by) (posts_of q) ≡ true → IsQueueLegal SentMayFollow system log (posts_of q)
-      → IsQueueLegal SentMayFollow system later (posts_of q)
+  queue_stays : (k : ClusterNo) (q : Queued) → ((p : Pid) → HomeHere places p k → Spares system log e p) → AreTogether q → is_by_cluster k e ≡ false → list_all (λ (post : Post). is_from k post.by) (posts_of q) ≡ true → IsQueueLegal SentMayStand system log (posts_of q)
+      → IsQueueLegal SentMayStand system later (posts_of q)
   queue_stays k Nothing spares together foreign own legal = tt
   queue_stays k (One post) spares together foreign own legal = (by_kind_of (lone_is post.what together), tt)
     where
       from : is_from k post.by ≡ true
       from = (and_parts (is_from k post.by) true own).0
 
-      by_kind_of : (tells_or_closes post.what ≡ true) ⊎ (is_of_page post.what ≡ true) → SentMayFollow system later (entry_of system later post)
+      by_kind_of : (tells_or_closes post.what ≡ true) ⊎ (is_of_page post.what ≡ true) → SentMayStand system later (entry_of system later post)
       by_kind_of (inl tells) = may_told system later (entry_of system later post) (post_stays k post spares from (told_may system log (entry_of system log post) legal.0 tells))
       by_kind_of (inr page) = page_post_stays system valid log e k post now next foreign (loses_none k) from page (page_stays_queued places (what e) post.what page n.no_loss) legal.0
 
@@ -236,7 +236,7 @@ module _ (system : System) (valid : is_system system ≡ true) (log : List Entry
   -- where what is queued may follow still, and the kernel steps are enough
   pub follows_passed_so : (which : Pid → Bool) (c : ClusterView) (server : Option PagerState) → with_entry c e ≡ passed c e → ((p : Pid) → HomeHere places p c.number → Spares system log e p)
       → pids_home c.number (placement system later).placed ≡ pids_home c.number places.placed → KeepsRecords system later c.number (records_after c.number (what e) c.records) → ForksLeft (family_after (what e) c.family) c.here → AllOwn c.cursor c.here → Serves places e c.server server → (f : FollowsBeside which system log c)
-      → answers c.number e ≡ false → IsQueueLegal SentMayFollow system later (posts_of (f.queued).queued) → (was_lost_in later c.number ≡ false → capped (least_steps later later c.number + cond c.tried 1 0) ≤ next_count c.steps)
+      → answers c.number e ≡ false → IsQueueLegal SentMayStand system later (posts_of (f.queued).queued) → (was_lost_in later c.number ≡ false → capped (least_steps later later c.number + cond c.tried 1 0) ≤ next_count c.steps)
       → FollowsBeside which system later (with_server server (with_entry c e))
   follows_passed_so which c server taken spares pids records forks own serves f unanswered posts_still counted = subst (λ v. FollowsBeside which system later (with_server server v)) (sym taken) (record {
     log = record {
@@ -274,11 +274,11 @@ module _ (system : System) (valid : is_system system ≡ true) (log : List Entry
       posts_own : list_all (λ (post : Post). is_from c.number post.by) (posts_of q) ≡ true
       posts_own = subst (λ ps. list_all (λ (post : Post). is_from c.number post.by) ps ≡ true) queue_is (f.queue).own
 
-      posts_legal : IsQueueLegal SentMayFollow system log (posts_of q)
-      posts_legal = subst (IsQueueLegal SentMayFollow system log) queue_is (f.queue).legal
+      posts_legal : IsQueueLegal SentMayStand system log (posts_of q)
+      posts_legal = subst (IsQueueLegal SentMayStand system log) queue_is (f.queue).legal
 
-      legal_still : IsQueueLegal SentMayFollow system later c.queue
-      legal_still = subst (IsQueueLegal SentMayFollow system later) (sym queue_is) posts_still
+      legal_still : IsQueueLegal SentMayStand system later c.queue
+      legal_still = subst (IsQueueLegal SentMayStand system later) (sym queue_is) posts_still
 
       home_of : (p : Pid) (h : Held) → held_of c.here p ≡ Some h → HomeHere places p c.number
       home_of p h there = home_here places c.number (pids_in c.here) p differ once (is_among c.here p h there)
@@ -298,7 +298,7 @@ module _ (system : System) (valid : is_system system ≡ true) (log : List Entry
           let home = home_of p h there in
           let s = spares p home in
           subst (λ ps. MarkedIfThere CarriesMarks system (with_queue system later ps) p (unended_process h)) (sym queue_is)
-          (marked_after system log e p q h h valid (built_stands system later next.0) (ap is_some home.found) (unended_later p s (ap is_some home.found)) (f.queued).together
+          (marked_after system log e p q h h valid (all_stand system later next.0) (ap is_some home.found) (unended_later p s (ap is_some home.found)) (f.queued).together
           (queue_tells system log c.number q posts_own posts_legal) (queue_tells system later c.number q posts_own posts_still)
           (subst (λ ps. IsHeldAs system log ps p h) queue_is (one_of_them which system log c.queue p h among ((f.processes).held p h there)))
           (subst (λ ps. IsHeldAs system later ps p h) queue_is (one_of_them which system later c.queue p h among (held p h there)))
@@ -312,5 +312,5 @@ module _ (system : System) (valid : is_system system ≡ true) (log : List Entry
   follows_passed which c server taken spares pids records forks own serves f foreign =
       follows_passed_so which c server taken spares pids records forks own serves f (foreign_no_answer c.number e foreign)
       (queue_stays c.number (f.queued).queued spares (f.queued).together foreign (subst (λ ps. list_all (λ (post : Post). is_from c.number post.by) ps ≡ true) (f.queued).posts (f.queue).own)
-      (subst (IsQueueLegal SentMayFollow system log) (f.queued).posts (f.queue).legal))
+      (subst (IsQueueLegal SentMayStand system log) (f.queued).posts (f.queue).legal))
       (λ kept. counted_foreign c log e foreign ((f.steps).counted (lost_before log e c.number kept)))

@@ -1,4 +1,4 @@
--- What one more entry of the kinds that are built does to each process.
+-- What one more entry does to each process.
 use Rattle.std.proofs.Common.{◌≡◌, ℕ, ◌-◌, refl, sym, ◌∙◌, ap, arith, List, [], ◌∷◌, ◌++◌, Bool, true, false, cond, Option, Some, None, true≢false}
 use Rattle.std.specs.Prelude.{◌≢◌, is_some, option_map, option_and_then}
 use Rattle.std.specs.Option.{option_map_or}
@@ -23,7 +23,7 @@ use Rattle.cert_sched.specs.Steps.{process_of, silent_upto, emission_at, after_i
 use Rattle.cert_sched.specs.Kinds.{KindHolds}
 use Rattle.cert_sched.specs.Rules.{is_by_home, is_by_right, is_over, ends_run, tells_or_closes}
 use Rattle.cert_sched.specs.Legal.{IsLegalBy, MayStand}
-use Rattle.cluster_core.specs.Sent.{TellingMayFollow}
+use Rattle.cluster_core.specs.Sent.{TellingMayStand}
 use Rattle.cert_sched.specs.Scripted.{closes}
 use Rattle.cert_sched.proofs.Induction.{is_over-snoc}
 use Rattle.cert_sched.proofs.StepLaws.{Tells, SentTo, is_sent}
@@ -73,20 +73,20 @@ telling_exit system log e pid at end same sent by = record {
   items = ap (after_items system log) same ∙ ap (option_map (λ (r : Emission × ProcState). r.1)) sent.is;
 }
 
--- each entry that is built, but for the end and a stop
-pub telling : (system : System) (log : List Entry) (e : Entry) → TellingMayFollow system log e → closes (what e) ≡ false → Telling system log e
+-- each entry, but for the end and a stop
+pub telling : (system : System) (log : List Entry) (e : Entry) → TellingMayStand system log e → closes (what e) ≡ false → Telling system log e
 telling system log e may other =
     by_kind (λ w. what e ≡ w → KindHolds system log e w → closes w ≡ false → Telling system log e)
     (λ at letter same kind other. telling_letter system log e at letter same (is_sent system log letter.from at (Sent letter) kind) (may.stands).by_right)
     (λ pid at end same kind other. telling_exit system log e pid at end same (is_sent system log pid at (Ended end) kind.0) (may.stands).by_right)
     (λ rests same kind other. absurd (true≢false other))
     (λ same kind other. absurd (true≢false other))
-    (what e) may.built refl (may.stands).kind other
+    (what e) may.of_kind refl (may.stands).kind other
 
 -- an entry after which the log is not over is neither the end nor a stop
 pub not_closed : (system : System) (log : List Entry) (e : Entry) → tells_or_closes (what e) ≡ true → is_over system (log ++ e ∷ []) ≡ false → closes (what e) ≡ false
-not_closed system log e built goes_on =
-    by_kind (λ w. what e ≡ w → closes w ≡ false) (λ at letter same. refl) (λ pid at end same. refl) (λ rests same. ends (Done rests) same refl) (λ same. ends Stop same refl) (what e) built refl
+not_closed system log e of_kind goes_on =
+    by_kind (λ w. what e ≡ w → closes w ≡ false) (λ at letter same. refl) (λ pid at end same. refl) (λ rests same. ends (Done rests) same refl) (λ same. ends Stop same refl) (what e) of_kind refl
   where
     ends : (w : What) → what e ≡ w → ends_run (placement system log) w ≡ true → true ≡ false
     ends w same over = sym over ∙ ap (ends_run (placement system log)) (sym same) ∙ sym (is_over-snoc system log e) ∙ goes_on

@@ -29,7 +29,7 @@ use Rattle.cert_sched.proofs.FreshLaws.{BornRightly, born_rightly, child_new, nu
 use Rattle.cert_sched.proofs.ThereLaws.{unended_not_born}
 use Rattle.cert_sched.proofs.UnplacedLaws.{never_moved}
 use Rattle.log_laws.proofs.letters.LogReads.{itself}
-use Rattle.log_laws.proofs.records.Standing.{built_stands}
+use Rattle.log_laws.proofs.records.Standing.{all_stand}
 use Rattle.log_laws.proofs.pages.Waiting.{came_waited, waited_lacks}
 use Rattle.replay_laws.specs.pages.Waits.{WaitsAs}
 use Rattle.replay_laws.specs.forks.ForkWaits.{WaitsSo}
@@ -80,7 +80,7 @@ come_asked system log e p i bytes queued w valid legal is waits = first i w.aske
     waits_for = page_for system log e p i bytes queued w legal is waits
 
     stands : IsLegalBy Stands system (log ++ e ∷ [])
-    stands = built_stands system (log ++ e ∷ []) legal
+    stands = all_stand system (log ++ e ∷ []) legal
 
     fetched : any_since_moved system log p (is_fetch p i) ≡ true
     fetched =

@@ -17,7 +17,7 @@ use Rattle.cluster_core.specs.Bearing.{BearsChild}
 use Rattle.cluster_core.proofs.absorbing.Fallen.{handed_is}
 use Rattle.residents.specs.Bearing.{CanBear, CanForkNow}
 use Rattle.cluster_core.specs.Calls.{IsReady, ReadyFor}
-use Rattle.cluster_core.specs.Follows.{FollowsBuilt, StandsBetween, QueuedIn}
+use Rattle.cluster_core.specs.Follows.{Follows, StandsBetween, QueuedIn}
 use Rattle.cluster_core.specs.Queue.{is_lone, is_rebackup}
 use Rattle.cluster_core.proofs.syncs.Batching.{batch_head}
 use Rattle.cluster_core.proofs.births.BirthQueued.{birth_head, birth_is}
@@ -37,7 +37,7 @@ module _ (c : ClusterView) (e : Entry) (valid : is_system c.system ≡ true) (mi
   )
 
   -- that of its own birth stands before its fork
-  own : (b : IsBirth (what e)) (s : StandsBetween FollowsBuilt c.system r.log e c) → BearsChild c.system r.log s.before → CanBear b.parent b.child c.here
+  own : (b : IsBirth (what e)) (s : StandsBetween Follows c.system r.log e c) → BearsChild c.system r.log s.before → CanBear b.parent b.child c.here
   own b s x = (λ h there. subst CanForkNow (sym (held_is h there)) (forks_can (state_of x.process) x.stands), λ h there. fresh)
     where
       both : Birth b.parent b.at b.child b.end ≡ what e
@@ -62,7 +62,7 @@ module _ (c : ClusterView) (e : Entry) (valid : is_system c.system ≡ true) (mi
           (λ i. list_any (λ (d : Pid × Held). same_pid d.0 (child_is i)) (here_is i))
           ∙ absent c.system valid r.log s.before s.followed s.tried (subst (λ (d : ClusterView). AllOwn d.cursor d.here) (s.sent ∙ ap (after_sent s.before) x.posts) mine) x e (birth_head c.system r.log e s.before x s.head) r.open_log r.open_next
 
-  by_queue : (b : IsBirth (what e)) (s : StandsBetween FollowsBuilt c.system r.log e c) → QueuedIn c.system r.log s.before → CanBear b.parent b.child c.here
+  by_queue : (b : IsBirth (what e)) (s : StandsBetween Follows c.system r.log e c) → QueuedIn c.system r.log s.before → CanBear b.parent b.child c.here
   by_queue b s (inl alone) = absurd (true≢false (sym (left_of c r.log e s alone).lone ∙ ap is_lone b.same))
   by_queue b s (inr (inl y)) = absurd (true≢false (sym (batch_head c.system r.log e s.before y s.head) ∙ ap is_of_sync b.same))
   by_queue b s (inr (inr (inl x))) = own b s x

@@ -15,7 +15,7 @@ use Rattle.cert_sched.specs.Schedule.{placement, done_after}
 use Rattle.cert_sched.specs.Steps.{silent_upto}
 use Rattle.cert_sched.specs.Legal.{MayStand}
 use Rattle.cert_sched.specs.Losses.{capped, least_calls, least_steps}
-use Rattle.log_laws.proofs.records.Standing.{built_stands}
+use Rattle.log_laws.proofs.records.Standing.{all_stand}
 use Rattle.residents.specs.declared.quantum.Forking.{Forking}
 use Rattle.cluster_core.specs.View.{ClusterView, disk_calls, held_at, limits_of, next_count}
 use Rattle.residents.specs.Held.{Held, Runs}
@@ -23,7 +23,7 @@ use Rattle.residents.specs.Changed.{with_changed}
 use Rattle.cluster_core.specs.Queue.{Nothing, with_queue}
 use Rattle.cluster_core.specs.Holds.{CarriesMarks, IsHeldAs, MarkedIfThere, process_in, unended_process}
 use Rattle.cluster_core.specs.Bearing.{BearsChild, birth_post}
-use Rattle.cluster_core.specs.Follows.{FollowsBuilt, IsOpen}
+use Rattle.cluster_core.specs.Follows.{Follows, IsOpen}
 use Rattle.residents.specs.Quantum.{ComesToFork}
 use Rattle.residents.proofs.Changing.{changed_there, pids_changed}
 use Rattle.cluster_core.proofs.syncs.Batching.{unqueued}
@@ -60,7 +60,7 @@ ahead_moved system log p s t n is silent =
 -- ---- a process of a cluster that follows a log, where nothing is queued, and which comes to its fork
 
 module _ (c : ClusterView) (p : Pid) (made : ℕ) (was : Held) (forking : Forking) (new : Held) (k : ComesToFork (limits_of c.system) 64 made was forking new) (child : Pid) (valid : is_system c.system ≡ true) (empty : c.queue ≡ []) (there : held_at c p ≡ Some was)
-    (log : List Entry) (go : IsOpen MayStand c.system log) (f : FollowsBuilt c.system log c) where
+    (log : List Entry) (go : IsOpen MayStand c.system log) (f : Follows c.system log c) where
   -- the cluster with the birth queued
   abbrev pub bearing : ClusterView
   bearing = record c { here = with_changed p (Runs k.now) c.here; queue = birth_post c.number p (state_of k.now) child ∷ []; steps = next_count c.steps }
@@ -74,7 +74,7 @@ module _ (c : ClusterView) (p : Pid) (made : ℕ) (was : Held) (forking : Forkin
 
   marked : MarkedIfThere CarriesMarks c.system log p (unended_process (Runs k.now))
   marked =
-      marked_ran c.system log p valid (built_stands c.system log go.0) (ap is_some (home_of_it c p was empty there valid log go f).found) k.silent k.between k.now
+      marked_ran c.system log p valid (all_stand c.system log go.0) (ap is_some (home_of_it c p was empty there valid log go f).found) k.silent k.between k.now
       (held_there c p (Runs k.between) empty runs_there valid log go f) k.runs (marked_now c p (Runs k.between) empty runs_there valid log go f)
 
   -- Beside the birth the cluster follows the log.

@@ -16,7 +16,7 @@ use Rattle.bus_msg.specs.declared.entry.Post.{Post}
 use Rattle.bus_msg.specs.declared.entry.Entry.{Entry}
 use Rattle.bus_msg.specs.PlacedAfter.{what}
 use Rattle.cert_sched.specs.Appended.{entry_of}
-use Rattle.cluster_core.specs.Sent.{SentMayFollow}
+use Rattle.cluster_core.specs.Sent.{SentMayStand}
 use Rattle.cert_sched.specs.Deeds.{arrived_count}
 use Rattle.cert_sched.specs.Legal.{IsLegalBy, Stands, MayStand}
 use Rattle.cert_sched.specs.Losses.{capped, is_by_cluster, is_from, is_page_is_entry, least_calls}
@@ -27,7 +27,7 @@ use Rattle.cert_sched.specs.Schedule.{placement}
 use Rattle.cert_sched.specs.Simulation.{IsUnended}
 use Rattle.cert_sched.specs.Steps.{silent_upto}
 use Rattle.log_laws.proofs.pages.OneEntry.{any_since-goes_on}
-use Rattle.log_laws.proofs.records.Standing.{built_stands}
+use Rattle.log_laws.proofs.records.Standing.{all_stand}
 use Rattle.checkpoint_laws.specs.posts.Running.{RunsMarked}
 use Rattle.checkpoint_laws.specs.posts.Sending.{MaySend}
 use Rattle.checkpoint_laws.proofs.posts.BirthStands.{birth_stands}
@@ -43,12 +43,12 @@ use Rattle.residents.specs.Held.{Held, Runs}
 use Rattle.residents.specs.Residents.{pids_in}
 use Rattle.cluster_core.specs.Queue.{Nothing, IsQueueLegal, with_queue}
 use Rattle.cluster_core.specs.Holds.{CarriesMarks, IsHeldAs, MarkedIfThere, unended_process}
-use Rattle.cluster_core.specs.Follows.{FollowsBuilt, IsOpen}
+use Rattle.cluster_core.specs.Follows.{Follows, IsOpen}
 use Rattle.cluster_core.proofs.syncs.Batching.{held_alike, unqueued}
 use Rattle.cluster_core.proofs.here.Beside.{FollowsBeside, all_of, any_of, one_of_them}
 use Rattle.cluster_core.proofs.absorbing.Counted.{count_by-snoc}
 use Rattle.cluster_core.proofs.here.Here.{is_among}
-use Rattle.cluster_core.proofs.losses.Homes.{HomeHere, differ_built, home_here, home_lives}
+use Rattle.cluster_core.proofs.losses.Homes.{HomeHere, pids_apart, home_here, home_lives}
 use Rattle.cluster_core.proofs.syncs.Marking.{came_to}
 use Rattle.cluster_core.proofs.here.Within.{carried, runs_marked}
 use Rattle.cluster_core.proofs.working.Working.{home_by}
@@ -85,10 +85,10 @@ module _ (system : System) (log : List Entry) (c : ClusterView) (b : BearsChild 
   birth = entry_of system log post
 
   legal : IsLegalBy Stands system log
-  legal = built_stands system log open_log.0
+  legal = all_stand system log open_log.0
 
   home_of : (q : Pid) (h : Held) → rising (pids_in c.here) ≡ rising (home_pids system log c.number) → held_at c q ≡ Some h → HomeHere (placement system log) q c.number
-  home_of q h once there = home_here (placement system log) c.number (pids_in c.here) q (differ_built system log valid open_log.0) once (is_among c.here q h there)
+  home_of q h once there = home_here (placement system log) c.number (pids_in c.here) q (pids_apart system log valid open_log.0) once (is_among c.here q h there)
 
   -- it is no call of a disk
   calls : least_calls system log (with_queue system log c.queue) c.number ≡ least_calls system log log c.number
@@ -141,10 +141,10 @@ module _ (system : System) (log : List Entry) (c : ClusterView) (b : BearsChild 
     may_send : MaySend system log (Cluster c.number) p s
     may_send = record { goes_on = open_log.1; by_home = home_by (placement system log) c.number p (home_lives system log p c.number valid open_log.0 open_log.1 home) home; reached = reached }
 
-    pub birth_may : SentMayFollow system log (entry_of system log (birth_post c.number b.pid (state_of b.process) b.child))
+    pub birth_may : SentMayStand system log (entry_of system log (birth_post c.number b.pid (state_of b.process) b.child))
     birth_may = record {
       stands = birth_stands system log (Cluster c.number) p s b.child valid legal may_send b.stands b.next;
-      built = refl;
+      of_kind = refl;
       limits = birth_keeps system log p b.child (next_end s) b.process marked b.undue b.stands;
       new_page = refl;
       pages = f.pages p (Runs b.process) b.there refl;
@@ -152,13 +152,13 @@ module _ (system : System) (log : List Entry) (c : ClusterView) (b : BearsChild 
 
     -- ---- with the birth
 
-    pub with_birth : FollowsBuilt system log c
+    pub with_birth : Follows system log c
     with_birth = record {
       log = record { cursor = (f.log).cursor; places = (f.log).places };
       processes = record { held = held; each_once = (f.processes).each_once };
       queue = record {
         own = ap (λ ps. list_all (λ (post : Post). is_from c.number post.by) ps) b.posts ∙ ap (λ own. own && true) (eq-eqb (c.number).0 (c.number).0 refl);
-        legal = subst (IsQueueLegal SentMayFollow system log) (sym b.posts) (birth_may, tt);
+        legal = subst (IsQueueLegal SentMayStand system log) (sym b.posts) (birth_may, tt);
       };
       queued = inr (inr (inl b));
       steps = record { counted = (f.steps).counted };
@@ -185,7 +185,7 @@ module _ (system : System) (log : List Entry) (c : ClusterView) (b : BearsChild 
 
   -- ---- beside the birth
 
-  pub without_birth : FollowsBuilt system log c → FollowsBeside all_of system log (unqueued c)
+  pub without_birth : Follows system log c → FollowsBeside all_of system log (unqueued c)
   without_birth f = record {
     log = record { cursor = (f.log).cursor; places = (f.log).places };
     processes = record { held = λ q h there. any_of all_of system log [] q h (held q h there); each_once = (f.processes).each_once };
@@ -204,8 +204,8 @@ module _ (system : System) (log : List Entry) (c : ClusterView) (b : BearsChild 
     disk = f.disk;
   }
     where
-      may : SentMayFollow system log birth
-      may = (subst (IsQueueLegal SentMayFollow system log) b.posts (f.queue).legal).0
+      may : SentMayStand system log birth
+      may = (subst (IsQueueLegal SentMayStand system log) b.posts (f.queue).legal).0
 
       held : (q : Pid) (h : Held) → held_at c q ≡ Some h → IsHeldAs system log [] q h
       held q h there = held_alike system log (post ∷ []) [] q h refl refl (λ i. refl) (subst (λ ps. IsHeldAs system log ps q h) b.posts ((f.processes).held q h there))

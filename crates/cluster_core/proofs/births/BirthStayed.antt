@@ -44,9 +44,9 @@ use Rattle.cluster_core.specs.Follows.{IsOpen}
 use Rattle.cluster_core.proofs.absorbing.Following.{by_home_of, by_one}
 use Rattle.cluster_core.proofs.here.Here.{is_among}
 use Rattle.cluster_core.proofs.losses.HeldAtHome.{held_there, home_found, home_listed}
-use Rattle.cluster_core.proofs.losses.Homes.{HomeHere, differ_built, home_here}
+use Rattle.cluster_core.proofs.losses.Homes.{HomeHere, pids_apart, home_here}
 use Rattle.cluster_core.proofs.losses.Asked.{asked_kept}
-use Rattle.cluster_core.proofs.losses.NotMoved.{by_built}
+use Rattle.cluster_core.proofs.losses.NotMoved.{by_each}
 use Rattle.cluster_core.proofs.syncs.Stayed.{RunsStill}
 use Rattle.cert_sched.specs.Deeds.{letter_for}
 use Rattle.sync_point.specs.Due.{is_due_by}
@@ -121,7 +121,7 @@ module _ (system : System) (valid : is_system system ≡ true) (log : List Entry
   may_e = IsLegal-last MayStand system log e next.0
 
   differ : pids_differ places.placed ≡ true
-  differ = differ_built system log valid now.0
+  differ = pids_apart system log valid now.0
 
   -- who sends a birth is the home of the parent
   sent_elsewhere : (parent : Pid) (q : Placed) → unended_at places parent ≡ Some q → is_by_home places (e.post).by (Some parent) ≡ true → (b : Bool) → same_cluster q.home k ≡ b → b ≡ false
@@ -142,10 +142,10 @@ module _ (system : System) (valid : is_system system ≡ true) (log : List Entry
   pub serial_after : next_serial_in (placement system later) k ≡ next_serial_in places k
   serial_after =
       ap (λ places. next_serial_in places k) (placement-snoc system log e)
-      ∙ by_built (λ w. is_by_right places (e.post).by w ≡ true → KindHolds system log e w → next_serial_in (placed_after places w) k ≡ next_serial_in places k)
+      ∙ by_each (λ w. is_by_right places (e.post).by w ≡ true → KindHolds system log e w → next_serial_in (placed_after places w) k ≡ next_serial_in places k)
       (λ at letter right kind. refl) (λ parent at child end right kind. serial_born places child k (placed_at places parent) (parent_away parent child right kind.child_is)) (λ r at end right kind. refl) (λ r index right kind. refl) (λ r index bytes right kind. refl)
       (λ lost cause right kind. asked_kept (λ (c : ClusterPlace). c.next_serial) 0 lost_cluster (λ c. refl) places.clusters lost.0 k.0) (λ r at index bytes right kind. refl) (λ r small read took right kind. refl) (λ to fresh recs right kind. refl)
-      (λ j right kind. asked_kept (λ (c : ClusterPlace). c.next_serial) 0 returned_cluster (λ c. refl) places.clusters j.0 k.0) (λ rests right kind. refl) (λ right kind. refl) (what e) may_e.built (may_e.stands).by_right (may_e.stands).kind
+      (λ j right kind. asked_kept (λ (c : ClusterPlace). c.next_serial) 0 returned_cluster (λ c. refl) places.clusters j.0 k.0) (λ rests right kind. refl) (λ right kind. refl) (what e) (may_e.stands).by_right (may_e.stands).kind
 
   -- so the next child of a process at home here has the pid that it had, where the process stays at home
   pub child_after : (p child : Pid) → HomeHere places p k → home_at (placement system later) p ≡ home_at places p → option_map (next_child_at places) (unended_at places p) ≡ Some child → option_map (next_child_at (placement system later)) (unended_at (placement system later) p) ≡ Some child
@@ -184,7 +184,7 @@ bears_still c log e b valid now next here_now foreign away new system_is number 
 }
   where
     home_now : HomeHere (placement c.system log) b.pid c.number
-    home_now = home_here (placement c.system log) c.number (pids_in c.here) b.pid (differ_built c.system log valid now.0) here_now (is_among c.here b.pid (Runs b.process) b.there)
+    home_now = home_here (placement c.system log) c.number (pids_in c.here) b.pid (pids_apart c.system log valid now.0) here_now (is_among c.here b.pid (Runs b.process) b.there)
 
     home_then : HomeHere (placement c.system (log ++ e ∷ [])) b.pid c.number
     home_then = home_found (placement c.system (log ++ e ∷ [])) b.pid c.number (home_now.placed).home (same_home ∙ ap (option_map (λ (q : Placed). q.home)) home_now.found) home_now.home

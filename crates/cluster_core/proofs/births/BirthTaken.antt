@@ -28,7 +28,7 @@ use Rattle.cert_sched.proofs.RisingLaws.{put_all-none, put_all-put, rising-appen
 use Rattle.backup_records.specs.Records.{records_after}
 use Rattle.log_laws.specs.records.Kept.{changes_in_place}
 use Rattle.log_laws.proofs.records.KeptLaws.{records_kept}
-use Rattle.log_laws.proofs.records.Standing.{built_stands}
+use Rattle.log_laws.proofs.records.Standing.{all_stand}
 use Rattle.cluster_core.specs.Families.{family_after}
 use Rattle.cluster_core.specs.Owed.{owed_after}
 use Rattle.cluster_core.proofs.awaiting.OwedNext.{owed_next}
@@ -43,7 +43,7 @@ use Rattle.residents.specs.Residents.{pids_in}
 use Rattle.cluster_core.specs.Parts.{AllOwn}
 use Rattle.cluster_core.specs.Queue.{Nothing, with_queue}
 use Rattle.cluster_core.specs.Holds.{CarriesMarks, IsHeldAs, MarkedIfThere, process_in, unended_process}
-use Rattle.cluster_core.specs.Follows.{FollowsBuilt, IsOpen, StandsBetween}
+use Rattle.cluster_core.specs.Follows.{Follows, IsOpen, StandsBetween}
 use Rattle.cluster_core.specs.Bearing.{BearsChild, birth_post}
 use Rattle.residents.specs.Bearing.{forked, newborn, with_born}
 use Rattle.cluster_core.specs.Recovered.{left_by, moved_by, with_all_waiting}
@@ -59,7 +59,7 @@ use Rattle.cluster_core.proofs.absorbing.Counted.{count_by-snoc, lost_before}
 use Rattle.cluster_core.proofs.absorbing.Following.{counted_own}
 use Rattle.cluster_core.proofs.here.Here.{is_among}
 use Rattle.residents.proofs.Changing.{pid_same, any_pids}
-use Rattle.cluster_core.proofs.losses.Homes.{HomeHere, differ_built, home_here, pids_home}
+use Rattle.cluster_core.proofs.losses.Homes.{HomeHere, pids_apart, home_here, pids_home}
 use Rattle.cluster_core.proofs.births.OwnBirth.{child_held, child_marked, child_pages, child_within, other_held, other_marked, other_pages, parent_held, parent_marked, parent_pages, parent_within}
 use Rattle.cluster_core.proofs.absorbing.Served.{accounts_on, ahead_after, brought}
 use Rattle.cluster_core.proofs.syncs.Stayed.{RunsStill}
@@ -69,9 +69,9 @@ use Rattle.cluster_core.proofs.awaiting.Awaited.{awaited_after, born_awaited}
 
 -- ---- an entry of another cluster
 
-pub follows_beside_birth : (c : ClusterView) (log : List Entry) (e : Entry) (b : BearsChild c.system log c) → is_system c.system ≡ true → IsOpen MayStand c.system log → IsOpen MayStand c.system (log ++ e ∷ []) → FollowsBuilt c.system log c
+pub follows_beside_birth : (c : ClusterView) (log : List Entry) (e : Entry) (b : BearsChild c.system log c) → is_system c.system ≡ true → IsOpen MayStand c.system log → IsOpen MayStand c.system (log ++ e ∷ []) → Follows c.system log c
     → is_by_cluster c.number e ≡ false → is_crash_of c.number (what e) ≡ false → (server : Option PagerState) → FollowsBeside all_of c.system (log ++ e ∷ []) (with_server server (with_entry (unqueued c) e))
-    → home_at (placement c.system (log ++ e ∷ [])) b.pid ≡ home_at (placement c.system log) b.pid → ((h : Held) → held_at (with_entry c e) b.pid ≡ Some h → RunsStill (letter_for b.pid (what e)) b.process h) → FollowsBuilt c.system (log ++ e ∷ []) (with_server server (with_entry c e))
+    → home_at (placement c.system (log ++ e ∷ [])) b.pid ≡ home_at (placement c.system log) b.pid → ((h : Held) → held_at (with_entry c e) b.pid ≡ Some h → RunsStill (letter_for b.pid (what e)) b.process h) → Follows c.system (log ++ e ∷ []) (with_server server (with_entry c e))
 follows_beside_birth c log e b valid now later f other spared server beside same_home stays =
     let new : ClusterView = with_server server (with_entry c e) in
     with_birth c.system (log ++ e ∷ []) new (bears_still c log e b valid now later (f.processes).each_once other spared new refl refl refl (beside.processes).each_once same_home stays) valid later beside
@@ -82,7 +82,7 @@ follows_beside_birth c log e b valid now later f other spared server beside same
 rising-last : (xs : List ℕ) (n : ℕ) → rising (xs ++ n ∷ []) ≡ put_rising n (rising xs)
 rising-last xs n = rising-append xs (n ∷ []) ∙ put_all-put xs n [] ∙ ap (put_rising n) (put_all-none xs)
 
-module _ (system : System) (valid : is_system system ≡ true) (log : List Entry) (v : ClusterView) (g : FollowsBuilt system log v) (tried : v.tried ≡ true) (own : AllOwn v.cursor v.here) (b : BearsChild system log v) (e : Entry)
+module _ (system : System) (valid : is_system system ≡ true) (log : List Entry) (v : ClusterView) (g : Follows system log v) (tried : v.tried ≡ true) (own : AllOwn v.cursor v.here) (b : BearsChild system log v) (e : Entry)
     (whole : entry_of system log (birth_post v.number b.pid (state_of b.process) b.child) ≡ e) (now : IsOpen MayStand system log) (next : IsOpen MayStand system (log ++ e ∷ [])) where
   abbrev later : List Entry
   later = log ++ e ∷ []
@@ -103,7 +103,7 @@ module _ (system : System) (valid : is_system system ≡ true) (log : List Entry
   f = without_birth system log v b valid now g
 
   differ : pids_differ places.placed ≡ true
-  differ = differ_built system log valid now.0
+  differ = pids_apart system log valid now.0
 
   home : HomeHere places p v.number
   home = home_here places v.number (pids_in v.here) p differ (g.processes).each_once (is_among v.here p (Runs b.process) b.there)
@@ -160,13 +160,13 @@ module _ (system : System) (valid : is_system system ≡ true) (log : List Entry
   forks_after : ForksLeft (family_after (what e) v.family) (with_born p child v.here)
   forks_after =
       let new = subst (λ births. list_any (stands_in child) births ≡ false) (sym g.family)
-      (stands_in_none system log e p (((b.process).small).steps + 1) child (next_end (state_of b.process)) valid (built_stands system log now.0) (IsLegal-last MayStand system log e next.0).stands is) in
+      (stands_in_none system log e p (((b.process).small).steps + 1) child (next_end (state_of b.process)) valid (all_stand system log now.0) (IsLegal-last MayStand system log e next.0).stands is) in
       subst (λ w. ForksLeft (family_after w v.family) (with_born p child v.here)) (sym is) (forks_born v.family v.here p child b.process b.there absent new g.forks)
 
   still_awaited : (q : Pid) → HomeHere places q v.number → has_awaited_backup system log q ≡ true → has_awaited_backup system later q ≡ true
   still_awaited q home has = awaited_after system log e q v.number valid now.0 (IsLegal-last MayStand system log e next.0).stands differ home (ap (is_crash_of v.number) is) has
 
-  pub follows_born : (server : Option PagerState) → Serves places e v.server server → FollowsBuilt system later (with_server server born_view)
+  pub follows_born : (server : Option PagerState) → Serves places e v.server server → Follows system later (with_server server born_view)
   follows_born server serves = record {
     log = record {
       cursor = ap (λ m. m + 1) (g.log).cursor ∙ sym (length-append log (e ∷ []));
@@ -187,10 +187,10 @@ module _ (system : System) (valid : is_system system ≡ true) (log : List Entry
     family = family_next system log e v.family valid now next g.family;
     owed = owed_next system log e v.number v.places v.owed valid next (g.log).places (ap (is_crash_of v.number) is) g.owed;
     backups = each (λ q h. has_begun h ≡ true → has_awaited_backup system later q ≡ true) (λ begun. still_awaited p home (g.backups p (Runs b.process) b.there refl))
-        (λ begun. born_awaited system log e p (((b.process).small).steps + 1) child (next_end (state_of b.process)) valid (built_stands system later next.0) is)
+        (λ begun. born_awaited system log e p (((b.process).small).steps + 1) child (next_end (state_of b.process)) valid (all_stand system later next.0) is)
         (λ q h at other begun. still_awaited q (home_here places v.number (pids_in v.here) q differ (g.processes).each_once (is_among v.here q h at)) (g.backups q h at begun));
     forks = forks_after;
-    records = records_kept system log e v.number v.records valid (built_stands system later next.0) (ap changes_in_place is) g.records;
+    records = records_kept system log e v.number v.records valid (all_stand system later next.0) (ap changes_in_place is) g.records;
     accounts = accounts_on system log e v (with_server server born_view) serves refl calls g.accounts;
     disk = ((g.disk).0, ahead_after places e v.server server serves (g.disk).1);
   }
@@ -217,10 +217,10 @@ module _ (system : System) (valid : is_system system ≡ true) (log : List Entry
 
 -- a cluster that takes in the birth that it had queued
 pub follows_own_birth : (c : ClusterView) (log : List Entry) (e : Entry) (server : Option PagerState) → is_system c.system ≡ true → AllOwn c.cursor c.here → IsOpen MayStand c.system log → IsOpen MayStand c.system (log ++ e ∷ [])
-    → (s : StandsBetween FollowsBuilt c.system log e c) → BearsChild c.system log s.before → Serves (placement c.system log) e c.server server → FollowsBuilt c.system (log ++ e ∷ []) (with_server server (with_entry c e))
+    → (s : StandsBetween Follows c.system log e c) → BearsChild c.system log s.before → Serves (placement c.system log) e c.server server → Follows c.system (log ++ e ∷ []) (with_server server (with_entry c e))
 follows_own_birth c log e server valid own now later s b serves =
-    subst (λ (d : ClusterView). FollowsBuilt c.system (log ++ e ∷ []) (with_server server (with_entry d e))) (sym same)
-    (subst (λ (d : ClusterView). FollowsBuilt c.system (log ++ e ∷ []) (with_server server d)) (sym (taken_born c.system valid log v s.followed s.tried mine b e whole now later))
+    subst (λ (d : ClusterView). Follows c.system (log ++ e ∷ []) (with_server server (with_entry d e))) (sym same)
+    (subst (λ (d : ClusterView). Follows c.system (log ++ e ∷ []) (with_server server d)) (sym (taken_born c.system valid log v s.followed s.tried mine b e whole now later))
     (follows_born c.system valid log v s.followed s.tried mine b e whole now later server (subst (λ (d : ClusterView). Serves (placement c.system log) e d.server server) same serves)))
   where
     v : ClusterView

@@ -21,7 +21,7 @@ use Rattle.residents.specs.Quantum.{ComesToFork}
 use Rattle.cluster_core.proofs.births.BeginBirth.{bearing, birth_begins, birth_beside}
 use Rattle.cluster_core.proofs.births.BirthQueued.{with_birth}
 use Rattle.cluster_core.proofs.here.Here.{is_among}
-use Rattle.cluster_core.proofs.losses.Homes.{HomeHere, differ_built, home_here}
+use Rattle.cluster_core.proofs.losses.Homes.{HomeHere, pids_apart, home_here}
 
 -- the next child of a process that is at home in a cluster is the cluster's next
 next_here : (places : Places) (p : Pid) (k : ClusterNo) → HomeHere places p k → option_map (next_child_at places) (unended_at places p) ≡ Some (child_of k places)
@@ -33,7 +33,7 @@ pub birth_goes_on : (c : ClusterView) (p : Pid) (made : ℕ) (was : Held) (forki
     → GoesOn c (record c { here = with_changed p (Runs k.now) c.here; queue = birth_post c.number p (state_of k.now) (child_of c.number c.places) ∷ []; steps = next_count c.steps })
 birth_goes_on c p made was forking new k valid empty there log go f =
     let child = child_of c.number c.places in
-    let home = home_here (placement c.system log) c.number (pids_in c.here) p (differ_built c.system log valid go.0) (f.processes).each_once (is_among c.here p was there) in
+    let home = home_here (placement c.system log) c.number (pids_in c.here) p (pids_apart c.system log valid go.0) (f.processes).each_once (is_among c.here p was there) in
     let next = next_here (placement c.system log) p c.number home ∙ ap (λ (ps : Places). Some (child_of c.number ps)) (sym (f.log).places) in
     with_birth c.system log (bearing c p made was forking new k child valid empty there log go f) (birth_begins c p made was forking new k child valid empty there log go f next) valid go
     (birth_beside c p made was forking new k child valid empty there log go f)

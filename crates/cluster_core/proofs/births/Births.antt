@@ -55,7 +55,7 @@ use Rattle.cluster_core.proofs.births.BirthHomes.{child_elsewhere}
 use Rattle.cluster_core.proofs.absorbing.Following.{by_home_of, by_one}
 use Rattle.cluster_core.proofs.here.Here.{is_among}
 use Rattle.residents.proofs.Changing.{pid_same}
-use Rattle.cluster_core.proofs.losses.Homes.{HomeHere, differ_built, home_here, pids_home}
+use Rattle.cluster_core.proofs.losses.Homes.{HomeHere, pids_apart, home_here, pids_home}
 use Rattle.cluster_core.specs.ForksAgain.{ForksLeft}
 use Rattle.cluster_core.proofs.forks.ForksAgain.{forks_elsewhere}
 use Rattle.cluster_core.proofs.absorbing.Spared.{BringsNothing, Spares, emission_stays, follows_passed, passed, silent_stays}
@@ -91,7 +91,7 @@ module _ (system : System) (valid : is_system system ≡ true) (log : List Entry
   stands = (IsLegal-last MayStand system log e next.0).stands
 
   differ : pids_differ places.placed ≡ true
-  differ = differ_built system log valid now.0
+  differ = pids_apart system log valid now.0
 
   kind : BirthHolds system log parent at child end
   kind = subst (KindHolds system log e) is stands.kind

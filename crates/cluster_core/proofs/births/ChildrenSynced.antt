@@ -21,16 +21,16 @@ use Rattle.cert_sched.proofs.RisingLaws.{rising-any}
 use Rattle.log_laws.specs.births.Unsynced.{unsynced_births}
 use Rattle.log_laws.proofs.births.FirstChild.{first_has_none, first_kept, none_first}
 use Rattle.log_laws.proofs.births.UnsyncedChild.{first_lives_there, stateless}
-use Rattle.log_laws.proofs.records.Standing.{built_stands}
+use Rattle.log_laws.proofs.records.Standing.{all_stand}
 use Rattle.sync_point.specs.Batch.{took_by}
 use Rattle.sync_point.specs.Due.{is_due_by}
 use Rattle.cluster_core.specs.View.{ClusterView, held_at}
 use Rattle.residents.specs.Held.{Held, held_of}
 use Rattle.residents.specs.Residents.{pids_in}
-use Rattle.cluster_core.specs.Follows.{FollowsBuilt, IsOpen}
+use Rattle.cluster_core.specs.Follows.{Follows, IsOpen}
 use Rattle.cluster_core.proofs.syncs.BeginSync.{MayCut}
 use Rattle.cluster_core.proofs.here.Here.{is_among}
-use Rattle.cluster_core.proofs.losses.Homes.{HomeHere, differ_built, home_here, home_more, pids_home}
+use Rattle.cluster_core.proofs.losses.Homes.{HomeHere, pids_apart, home_here, home_more, pids_home}
 
 -- ---- who is here
 
@@ -70,10 +70,10 @@ home_among k p q (r ∷ qs) found home = by_tests (same_pid r.pid p) r.ended ref
 
 -- ---- beside a log
 
-module _ (c : ClusterView) (log : List Entry) (f : FollowsBuilt c.system log c) where
+module _ (c : ClusterView) (log : List Entry) (f : Follows c.system log c) where
   module _ (valid : is_system c.system ≡ true) (go : IsOpen MayStand c.system log) (p child : Pid) (first : first_unsynced c.family p ≡ Some child) where
     legal : IsLegalBy Stands c.system log
-    legal = built_stands c.system log go.0
+    legal = all_stand c.system log go.0
 
     first_there : first_unsynced (unsynced_births c.system log) p ≡ Some child
     first_there = ap (λ bs. first_unsynced bs p) (sym f.family) ∙ first
@@ -97,7 +97,7 @@ module _ (c : ClusterView) (log : List Entry) (f : FollowsBuilt c.system log c) 
     first_here h there = held_among c.here child (by_place (unended_at (placement c.system log) child) refl (sym home_of))
       where
         home : HomeHere (placement c.system log) p c.number
-        home = home_here (placement c.system log) c.number (pids_in c.here) p (differ_built c.system log valid go.0) (f.processes).each_once (is_among c.here p h there)
+        home = home_here (placement c.system log) c.number (pids_in c.here) p (pids_apart c.system log valid go.0) (f.processes).each_once (is_among c.here p h there)
 
         home_of : home_at (placement c.system log) child ≡ Some (home.placed).home
         home_of = first_lives_there c.system log p child valid legal first_there ∙ ap (option_map (λ (q : Placed). q.home)) home.found

@@ -20,7 +20,7 @@ use Rattle.log_laws.specs.births.Unsynced.{changes_unsynced, unsynced_births}
 use Rattle.log_laws.proofs.births.NewBirth.{birth_last, child_apart, stands_in_none}
 use Rattle.log_laws.proofs.births.NewBackups.{renewed_goes}
 use Rattle.log_laws.proofs.births.OtherEntries.{ended_goes, others_leave, synced_goes}
-use Rattle.log_laws.proofs.records.Standing.{built_stands}
+use Rattle.log_laws.proofs.records.Standing.{all_stand}
 use Rattle.cluster_core.specs.Families.{CanJoin, family_after}
 use Rattle.cluster_core.specs.Follows.{IsOpen}
 
@@ -29,7 +29,7 @@ module _ (system : System) (log : List Entry) (e : Entry) (births : List (Pid ×
   may = IsLegal-last MayStand system log e next.0
 
   legal : IsLegalBy Stands system log
-  legal = built_stands system log now.0
+  legal = all_stand system log now.0
 
   -- another entry leaves them
   other : (w : What) → what e ≡ w → changes_unsynced w ≡ false → births ≡ unsynced_births system (log ++ e ∷ [])

@@ -40,7 +40,7 @@ use Rattle.cert_sched.proofs.RecordLaws.{has_state-snoc}
 use Rattle.cert_sched.proofs.StatedLaws.{stated_there}
 use Rattle.cert_sched.proofs.ThereLaws.{unended_not_born}
 use Rattle.replay_laws.proofs.pages.MovedStated.{stateless_paged}
-use Rattle.log_laws.proofs.records.Standing.{built_stands}
+use Rattle.log_laws.proofs.records.Standing.{all_stand}
 use Rattle.checkpoint_laws.specs.posts.Running.{RunsMarked}
 use Rattle.checkpoint_laws.proofs.limits.ForkLimits.{fork_within}
 use Rattle.checkpoint_laws.specs.marks.Beside.{is_some_page}
@@ -62,7 +62,7 @@ use Rattle.cluster_core.proofs.syncs.Batching.{unqueued}
 use Rattle.cluster_core.proofs.here.Beside.{FollowsBeside, all_of, one_of_them}
 use Rattle.cluster_core.proofs.paging.HasPages.{pages_after}
 use Rattle.cluster_core.proofs.here.Here.{is_among}
-use Rattle.cluster_core.proofs.losses.Homes.{HomeHere, differ_built, home_here}
+use Rattle.cluster_core.proofs.losses.Homes.{HomeHere, pids_apart, home_here}
 use Rattle.cluster_core.proofs.syncs.Marking.{marked_next}
 use Rattle.cluster_core.proofs.here.Owning.{own_at}
 use Rattle.cluster_core.proofs.absorbing.Spared.{BringsNothing, Spares, emission_stays, held_stays, silent_stays}
@@ -96,16 +96,16 @@ module _ (system : System) (valid : is_system system ≡ true) (log : List Entry
   is = sym (ap (λ (x : Entry). what x) whole)
 
   legal : IsLegalBy Stands system log
-  legal = built_stands system log now.0
+  legal = all_stand system log now.0
 
   legal_later : IsLegalBy Stands system later
-  legal_later = built_stands system later next.0
+  legal_later = all_stand system later next.0
 
   stands : Stands system log e
   stands = (IsLegal-last MayStand system log e next.0).stands
 
   differ : pids_differ places.placed ≡ true
-  differ = differ_built system log valid now.0
+  differ = pids_apart system log valid now.0
 
   -- who is here is at home here
   home : (q : Pid) (h : Held) → held_at c q ≡ Some h → HomeHere places q c.number

@@ -14,7 +14,7 @@ use Rattle.cert_sched.specs.Legal.{IsLegalBy, Stands}
 use Rattle.cert_sched.specs.Rules.{home_at}
 use Rattle.cert_sched.specs.Schedule.{placement}
 use Rattle.cert_sched.proofs.FamilyLaws.{Pair, Member}
-use Rattle.log_laws.proofs.records.Standing.{built_stands}
+use Rattle.log_laws.proofs.records.Standing.{all_stand}
 use Rattle.birth_notice.specs.Family.{are_births, children_of, first_unsynced, is_of, lowest}
 use Rattle.birth_notice.proofs.BirthLaws.{births_kept}
 use Rattle.birth_notice.proofs.LowestLaws.{lowest-born}
@@ -29,7 +29,7 @@ use Rattle.residents.specs.Residents.{pids_in}
 use Rattle.cluster_core.specs.View.{ClusterView, held_at}
 use Rattle.residents.specs.Held.{Held}
 use Rattle.cluster_core.proofs.here.Here.{is_among}
-use Rattle.cluster_core.proofs.losses.Homes.{HomeHere, differ_built, home_here}
+use Rattle.cluster_core.proofs.losses.Homes.{HomeHere, pids_apart, home_here}
 
 -- ---- births of which some are kept
 
@@ -108,10 +108,10 @@ own_first c log p h valid now f there =
     k = c.number
 
     stands : IsLegalBy Stands c.system log
-    stands = built_stands c.system log now.0
+    stands = all_stand c.system log now.0
 
     home : HomeHere places p k
-    home = home_here places k (pids_in c.here) p (differ_built c.system log valid now.0) (f.processes).each_once (is_among c.here p h there)
+    home = home_here places k (pids_in c.here) p (pids_apart c.system log valid now.0) (f.processes).each_once (is_among c.here p h there)
 
     -- a child that never synchronised lives with its parent
     child_home : (b : Pair) → Member b (unsynced_births c.system log) → is_home places k b.0 ≡ true → is_home places k b.1 ≡ true

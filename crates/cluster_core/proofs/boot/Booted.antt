@@ -41,7 +41,7 @@ use Rattle.page_server.specs.Account.{PagerState}
 use Rattle.cert_sched.specs.Scripted.{is_server}
 use Rattle.cluster_core.specs.Serving.{BeginsToServe, IsAheadThere}
 use Rattle.cluster_core.proofs.absorbing.Served.{accounts_begin}
-use Rattle.cluster_core.specs.Follows.{FollowsBuilt}
+use Rattle.cluster_core.specs.Follows.{Follows}
 use Rattle.cluster_core.specs.Holds.{IsHeldAs, CarriesMarks, MarkedIfThere, unended_process}
 use Rattle.cluster_core.specs.Parts.{AllOwn, IsHeldOwn, IsOwn}
 use Rattle.cluster_core.specs.Queue.{Nothing}
@@ -239,7 +239,7 @@ none_waits system number p = sym (by_wait (has_awaited_backup system [] p) refl)
 
 -- a cluster at boot follows the empty log, where no call of its disk failed
 pub boot_follows : (system : System) (number : ClusterNo) (here : List (Pid × Held)) (recs : List BackRec) (server : Option PagerState) (failed : Option ℕ) → is_system system ≡ true → AreBooted system number here → KeepsRecords system [] number recs
-    → is_some server ≡ is_server system number → BeginsToServe system server → (failed ≡ None) × IsAheadThere server → FollowsBuilt system [] (boot_view system number here recs server failed)
+    → is_some server ≡ is_server system number → BeginsToServe system server → (failed ≡ None) × IsAheadThere server → Follows system [] (boot_view system number here recs server failed)
 boot_follows system number here recs server failed valid is kept there begins sound = record {
   log = record { cursor = refl; places = placed_at_boot system };
   processes = record { held = held_as system number here is; each_once = once system number here valid is };

@@ -30,7 +30,7 @@ use Rattle.log_laws.specs.births.Unsynced.{unsynced_births}
 use Rattle.backup_laws.proofs.ReturnedEmpty.{returned_home, returned_records}
 use Rattle.cert_sched.specs.Rules.{has_awaited_backup}
 use Rattle.cluster_core.specs.Owed.{AreOwed, is_owed}
-use Rattle.cluster_core.specs.Follows.{FollowsBuilt}
+use Rattle.cluster_core.specs.Follows.{Follows}
 use Rattle.cluster_core.specs.Queue.{Nothing}
 use Rattle.cluster_core.specs.Returned.{returned}
 use Rattle.cluster_core.proofs.losses.FirstServer.{lost_other}
@@ -127,7 +127,7 @@ lost system log e k legal is =
     ∙ first (was_lost_in log k) (is_crash_of k (what e) || false) (lost_in system log k (IsLegal-before Stands system log e legal) (subst (KindHolds system log e) is (IsLegal-last Stands system log e legal).kind))
 
 pub returned_follows : (system : System) (log : List Entry) (e : Entry) (k : ClusterNo) (steps : ℕ) → is_system system ≡ true → IsLegalBy Stands system (log ++ e ∷ []) → what e ≡ Return k
-    → FollowsBuilt system (log ++ e ∷ []) (returned system k (placement system (log ++ e ∷ [])) (unsynced_births system (log ++ e ∷ [])) (length (log ++ e ∷ [])) steps)
+    → Follows system (log ++ e ∷ []) (returned system k (placement system (log ++ e ∷ [])) (unsynced_births system (log ++ e ∷ [])) (length (log ++ e ∷ [])) steps)
 returned_follows system log e k steps valid legal is = record {
   log = record { cursor = refl; places = refl };
   processes = record { held = λ p h there. cc; each_once = ap rising (sym (none_home system log e k valid legal is)) };

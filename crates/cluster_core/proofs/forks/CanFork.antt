@@ -13,7 +13,7 @@ use Rattle.cert_sched.specs.Legal.{MayStand}
 use Rattle.cert_sched.specs.Legal.{IsLegalBy, Stands}
 use Rattle.cert_sched.specs.Record.{has_state}
 use Rattle.cert_sched.specs.Simulation.{IsUnended}
-use Rattle.log_laws.proofs.records.Standing.{built_stands}
+use Rattle.log_laws.proofs.records.Standing.{all_stand}
 use Rattle.replay_laws.specs.rolling.Behind.{RollsBehind}
 use Rattle.replay_laws.proofs.rolling.ByRule.{itself, standing_always, standing_from_kept}
 use Rattle.replay_laws.proofs.rolling.ForkedAgain.{child_starts}
@@ -24,14 +24,14 @@ use Rattle.replay_laws.proofs.forks.EitherWait.{kept_so}
 use Rattle.cluster_core.specs.View.{ClusterView, held_at}
 use Rattle.residents.specs.Held.{Held, Rolls, Waits}
 use Rattle.residents.specs.ForkingAgain.{AtForks, AtFront, CanBeginAgain, CanForkAgain}
-use Rattle.cluster_core.specs.Follows.{FollowsBuilt, IsOpen}
+use Rattle.cluster_core.specs.Follows.{Follows, IsOpen}
 use Rattle.cluster_core.specs.Holds.{IsHeldAs, is_fetch_queued}
 use Rattle.cluster_core.proofs.working.Working.{home_of_it}
 use Rattle.residents.proofs.KeptForks.{runs_less}
 
-module _ (c : ClusterView) (log : List Entry) (valid : is_system c.system ≡ true) (empty : c.queue ≡ []) (go : IsOpen MayStand c.system log) (f : FollowsBuilt c.system log c) where
+module _ (c : ClusterView) (log : List Entry) (valid : is_system c.system ≡ true) (empty : c.queue ≡ []) (go : IsOpen MayStand c.system log) (f : Follows c.system log c) where
   legal : IsLegalBy Stands c.system log
-  legal = built_stands c.system log go.0
+  legal = all_stand c.system log go.0
 
   -- whoever is here has not ended
   pub unended_here : (p : Pid) (h : Held) → held_at c p ≡ Some h → IsUnended c.system log p
@@ -62,6 +62,6 @@ module _ (c : ClusterView) (log : List Entry) (valid : is_system c.system ≡ tr
             (rolls_on c.system log p l.now l.led s counts births rolls.rolls left),
       )
 
-pub can_fork_again : (c : ClusterView) (log : List Entry) → is_system c.system ≡ true → c.queue ≡ [] → IsOpen MayStand c.system log → FollowsBuilt c.system log c → CanForkAgain c.here
+pub can_fork_again : (c : ClusterView) (log : List Entry) → is_system c.system ≡ true → c.queue ≡ [] → IsOpen MayStand c.system log → Follows c.system log c → CanForkAgain c.here
 can_fork_again c log valid empty go f p process counts births at n =
     at_forks c log valid empty go f n p (state_of process) counts births (unended_here c log valid empty go f p (Rolls process counts births) at) ((f.processes).held p (Rolls process counts births) at).1

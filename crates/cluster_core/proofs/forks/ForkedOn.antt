@@ -15,7 +15,7 @@ use Rattle.cert_sched.specs.Legal.{IsLegalBy, Stands}
 use Rattle.cert_sched.specs.Parts.{rising}
 use Rattle.cert_sched.specs.Rules.{has_its_pages, has_awaited_backup}
 use Rattle.cert_sched.specs.Simulation.{IsUnended}
-use Rattle.log_laws.proofs.records.Standing.{built_stands}
+use Rattle.log_laws.proofs.records.Standing.{all_stand}
 use Rattle.replay_laws.specs.rolling.Behind.{RollsBehind}
 use Rattle.page_waits.specs.Waiting.{WaitingState}
 use Rattle.replay_laws.proofs.pages.MovedStated.{stateless_paged}
@@ -24,7 +24,7 @@ use Rattle.replay_laws.proofs.forks.EitherWait.{for_fork}
 use Rattle.cluster_core.specs.View.{ClusterView, held_at, limits_of}
 use Rattle.residents.specs.Held.{Held, Runs, Rolls, Waits, IsHeldWithin, held_of}
 use Rattle.residents.specs.Bearing.{forked, newborn}
-use Rattle.cluster_core.specs.Follows.{FollowsBuilt, IsOpen}
+use Rattle.cluster_core.specs.Follows.{Follows, IsOpen}
 use Rattle.residents.specs.ForkingAgain.{with_mail_of, going_held, with_fork_again}
 use Rattle.cluster_core.specs.ForksAgain.{ForksLeft}
 use Rattle.cluster_core.specs.Holds.{CarriesMarks, IsHeldAs, MarkedIfThere, is_fetch_queued, process_in, unended_process}
@@ -42,10 +42,10 @@ use Rattle.cluster_core.proofs.births.OneParent.{next_is_born}
 use Rattle.replay_laws.proofs.rolling.Stateless.{stateless_unsynced}
 use Rattle.replay_laws.proofs.rolling.ByRule.{itself}
 
-module _ (c : ClusterView) (log : List Entry) (p : Pid) (process : Process) (counts : Counts) (child : Pid) (births : List Pid) (valid : is_system c.system ≡ true) (empty : c.queue ≡ []) (go : IsOpen MayStand c.system log) (f : FollowsBuilt c.system log c)
+module _ (c : ClusterView) (log : List Entry) (p : Pid) (process : Process) (counts : Counts) (child : Pid) (births : List Pid) (valid : is_system c.system ≡ true) (empty : c.queue ≡ []) (go : IsOpen MayStand c.system log) (f : Follows c.system log c)
     (there : held_at c p ≡ Some (Rolls process counts (child ∷ births))) (forks : next_step (state_of process) ≡ Forks) where
   legal : IsLegalBy Stands c.system log
-  legal = built_stands c.system log go.0
+  legal = all_stand c.system log go.0
 
   -- those that are here, where nothing is queued
   held_now : (q : Pid) (h : Held) → held_at c q ≡ Some h → IsHeldAs c.system log [] q h
@@ -154,8 +154,8 @@ module _ (c : ClusterView) (log : List Entry) (p : Pid) (process : Process) (cou
   pub family_forked : ForksLeft c.family now
   family_forked = forks_forked c.system log p process counts child births c.here valid legal parent_open behind there held_now c.family f.family f.forks
 
-pub forks_again_follows : (c : ClusterView) (log : List Entry) (p : Pid) (process : Process) (counts : Counts) (child : Pid) (births : List Pid) → is_system c.system ≡ true → c.queue ≡ [] → IsOpen MayStand c.system log → FollowsBuilt c.system log c
-    → held_at c p ≡ Some (Rolls process counts (child ∷ births)) → next_step (state_of process) ≡ Forks → FollowsBuilt c.system log (record c { here = with_fork_again p process counts child births c.here })
+pub forks_again_follows : (c : ClusterView) (log : List Entry) (p : Pid) (process : Process) (counts : Counts) (child : Pid) (births : List Pid) → is_system c.system ≡ true → c.queue ≡ [] → IsOpen MayStand c.system log → Follows c.system log c
+    → held_at c p ≡ Some (Rolls process counts (child ∷ births)) → next_step (state_of process) ≡ Forks → Follows c.system log (record c { here = with_fork_again p process counts child births c.here })
 forks_again_follows c log p process counts child births valid empty go f there forks = record {
   log = record { cursor = (f.log).cursor; places = (f.log).places };
   processes = record {

@@ -21,7 +21,7 @@ use Rattle.cert_sched.specs.Record.{has_state}
 use Rattle.cert_sched.specs.Schedule.{placement}
 use Rattle.cert_sched.specs.Simulation.{bears}
 use Rattle.cert_sched.proofs.FamilyLaws.{Pair}
-use Rattle.log_laws.proofs.records.Standing.{built_stands}
+use Rattle.log_laws.proofs.records.Standing.{all_stand}
 use Rattle.log_laws.proofs.pages.MovedStated.{moved_stated}
 use Rattle.log_laws.specs.births.Unsynced.{unsynced_births}
 use Rattle.log_laws.proofs.births.Filters.{any_kept, kept_passes, one_passes, passes_any}
@@ -95,7 +95,7 @@ module _ (system : System) (valid : is_system system ≡ true) (log : List Entry
       by_held : (index : ℕ) (bytes : List ℕ) → what e ≡ PageIs child index bytes → (was : Held) → WaitsAs system log queue child was → is_waiting (page_held index bytes was) ≡ is_waiting was
       by_held index bytes is (Waits w) held =
           let waits = page_for system log e child index bytes (is_fetch_queued child queue) w legal is held.1 in
-          absurd (true≢false (sym (moved_stated system log child (built_stands system log before) waits.moved) ∙ none))
+          absurd (true≢false (sym (moved_stated system log child (all_stand system log before) waits.moved) ∙ none))
       by_held index bytes is _ held = refl
 
       by_pid : (pid : Pid) (index : ℕ) (bytes : List ℕ) → what e ≡ PageIs pid index bytes → (b : Bool) → same_pid pid child ≡ b → is_waiting (cond b (page_held index bytes was) was) ≡ is_waiting was
@@ -122,8 +122,8 @@ module _ (system : System) (valid : is_system system ≡ true) (log : List Entry
       let before_born : list_any (bears_by parent child) births ≡ true = by_page (λ w. list_any (bears_by parent child) (family_after w births) ≡ true → list_any (bears_by parent child) births ≡ true) (λ pid index is. is) (λ pid index bytes is. is) (what e) of born in
       let so = born_so system log parent child (subst (λ bs. list_any (bears_by parent child) bs ≡ true) are before_born) in
       let in_record : (w : WaitingState) → a.was ≡ Waits w → list_any (same_pid child) (w.kept).births ≡ true =
-      λ w is. in_the_record system log parent child w.kept valid (built_stands system log before) so.born so.unsynced
+      λ w is. in_the_record system log parent child w.kept valid (all_stand system log before) so.born so.unsynced
       (kept_so system log parent (is_fetch_queued parent queue) w (subst (WaitsAs system log queue parent) is (held parent a.was a.there)).1) in
-      ap is_waiting b.same ∙ child_stays child b.was (held child b.was b.there) (stateless system log child valid (built_stands system log before) so.among)
+      ap is_waiting b.same ∙ child_stays child b.was (held child b.was b.there) (stateless system log child valid (all_stand system log before) so.among)
       ∙ left parent child a.was b.was a.there b.there before_born
       ∙ sym (ap (has_to_bear child) a.same ∙ parent_stays parent child a.was in_record)

@@ -12,7 +12,7 @@ use Rattle.cert_sched.specs.Losses.{capped, least_steps}
 use Rattle.cert_sched.specs.Schedule.{placement}
 use Rattle.page_server.specs.Account.{PagerState}
 use Rattle.cluster_core.specs.Calls.{with_entry}
-use Rattle.cluster_core.specs.Follows.{FollowsBuilt, IsOpen, StandsBetween}
+use Rattle.cluster_core.specs.Follows.{Follows, IsOpen, StandsBetween}
 use Rattle.cluster_core.specs.HandingOn.{HandsOver}
 use Rattle.cluster_core.specs.Parts.{AllOwn}
 use Rattle.cluster_core.specs.Serving.{Serves}
@@ -22,14 +22,14 @@ use Rattle.cluster_core.proofs.absorbing.Counted.{capped_less, lost_before}
 use Rattle.cluster_core.proofs.absorbing.Following.{counted_own}
 use Rattle.cluster_core.proofs.absorbing.Renewed.{follows_handed}
 use Rattle.cluster_core.proofs.handing.Queued.{without_standing}
-use Rattle.cluster_core.proofs.here.Beside.{FollowsBeside, all_of, built_of}
+use Rattle.cluster_core.proofs.here.Beside.{FollowsBeside, all_of, sent_of}
 use Rattle.cluster_core.proofs.syncs.Batching.{unqueued}
 
 pub follows_own_standing : (c : ClusterView) (log : List Entry) (e : Entry) (server : Option PagerState) → is_system c.system ≡ true → AllOwn c.cursor c.here → IsOpen MayStand c.system log → IsOpen MayStand c.system (log ++ e ∷ [])
-    → (s : StandsBetween FollowsBuilt c.system log e c) → HandsOver s.before → Serves (placement c.system log) e c.server server → FollowsBuilt c.system (log ++ e ∷ []) (with_server server (with_entry c e))
+    → (s : StandsBetween Follows c.system log e c) → HandsOver s.before → Serves (placement c.system log) e c.server server → Follows c.system (log ++ e ∷ []) (with_server server (with_entry c e))
 follows_own_standing c log e server valid own now later s h serves =
-    subst (λ (d : ClusterView). FollowsBuilt c.system (log ++ e ∷ []) (with_server server (with_entry d e))) (sym same)
-    (built_of c.system (log ++ e ∷ []) (with_server server (with_entry left e))
+    subst (λ (d : ClusterView). Follows c.system (log ++ e ∷ []) (with_server server (with_entry d e))) (sym same)
+    (sent_of c.system (log ++ e ∷ []) (with_server server (with_entry left e))
     (follows_handed c.system valid log e renewal now later left server h.recs said (subst (λ (d : ClusterView). AllOwn d.cursor d.here) same own) (subst (λ (d : ClusterView). Serves (placement c.system log) e d.server server) same serves) followed refl
     (λ kept. counted_own c.system log e v.number v.tried v.steps s.tried (((s.followed).steps).counted (lost_before log e v.number kept)))))
   where

@@ -36,9 +36,9 @@ use Rattle.residents.specs.Held.{Waits}
 use Rattle.residents.specs.Records.{record_at}
 use Rattle.standing_backups.specs.Standing.{CanBeNext, HandsOn, IsNextStanding}
 use Rattle.cluster_core.specs.View.{ClusterView}
-use Rattle.cluster_core.specs.Follows.{FollowsBuilt, IsOpen}
+use Rattle.cluster_core.specs.Follows.{Follows, IsOpen}
 use Rattle.cluster_core.specs.Holds.{is_fetch_queued}
-use Rattle.cluster_core.specs.Sent.{SentMayFollow}
+use Rattle.cluster_core.specs.Sent.{SentMayStand}
 use Rattle.cluster_core.specs.Standing.{HoldsBackups}
 use Rattle.cluster_core.proofs.losses.Homes.{HomeHere}
 use Rattle.cluster_core.proofs.handing.Apart.{in_order}
@@ -46,10 +46,10 @@ use Rattle.cluster_core.proofs.handing.Quiet.{unasked_quiet}
 use Rattle.cluster_core.proofs.handing.Waits.{First, can_be_next, first_is, recorded}
 use Rattle.cluster_core.proofs.working.Working.{home_by}
 use Rattle.cluster_core.specs.Parts.{AllOwn}
-use Rattle.log_laws.proofs.records.Standing.{built_stands, legal_stands}
+use Rattle.log_laws.proofs.records.Standing.{all_stand, legal_stands}
 
 module _ (c : ClusterView) (log : List Entry) (valid : is_system c.system ≡ true) (legal : IsLegalBy Stands c.system log) (goes_on : is_over c.system log ≡ false)
-    (f : FollowsBuilt c.system log c) (begun : HoldsBackups c.system log c) (p : Pid) (one : First c log valid legal f begun f.owed p) where
+    (f : Follows c.system log c) (begun : HoldsBackups c.system log c) (p : Pid) (one : First c log valid legal f begun f.owed p) where
   abbrev here : Places
   here = placement c.system log
 
@@ -131,31 +131,31 @@ module _ (c : ClusterView) (log : List Entry) (valid : is_system c.system ≡ tr
         (λ first rest is. standing_follows c.system log c.number h.to first rest valid all_legal (hands_on first rest is))
 
     -- and in one by the rule that is in force
-    pub hand_may : IsLegalBy MayStand c.system log → SentMayFollow c.system log (entry_of c.system log post)
+    pub hand_may : IsLegalBy MayStand c.system log → SentMayStand c.system log (entry_of c.system log post)
     hand_may stands =
-        by_first (λ (x : Post). SentMayFollow c.system log (entry_of c.system log x)) (λ first rest is. record {
+        by_first (λ (x : Post). SentMayStand c.system log (entry_of c.system log x)) (λ first rest is. record {
           stands = standing_stands c.system log c.number h.to first rest legal (hands_on first rest is)
               (ap (λ q. any_since_moved c.system log q (is_done_by q)) (own_first_record first rest is) ∙ quiet stands);
-          built = refl;
+          of_kind = refl;
           limits = refl;
           new_page = refl;
           pages = refl;
         })
 
 -- the next standing post may follow
-pub next_follows : (c : ClusterView) (log : List Entry) → is_system c.system ≡ true → IsLegal c.system log → is_over c.system log ≡ false → FollowsBuilt c.system log c
+pub next_follows : (c : ClusterView) (log : List Entry) → is_system c.system ≡ true → IsLegal c.system log → is_over c.system log ≡ false → Follows c.system log c
     → (post : Post) → IsNextStanding c.number c.places c.family c.here c.owed (Some post) → MayFollow c.system log (entry_of c.system log post)
 next_follows c log valid legal goes_on f post next =
     let stands = legal_stands MayFollow (λ system log e may. may.stands) c.system log legal in
     hand_follows c log valid stands goes_on f f.backups next.0 (first_is c log valid stands f f.backups f.owed next.0 next.1) post next.2 legal
 
-pub next_may : (c : ClusterView) (log : List Entry) → is_system c.system ≡ true → IsOpen MayStand c.system log → FollowsBuilt c.system log c
-    → (post : Post) → IsNextStanding c.number c.places c.family c.here c.owed (Some post) → SentMayFollow c.system log (entry_of c.system log post)
+pub next_may : (c : ClusterView) (log : List Entry) → is_system c.system ≡ true → IsOpen MayStand c.system log → Follows c.system log c
+    → (post : Post) → IsNextStanding c.number c.places c.family c.here c.owed (Some post) → SentMayStand c.system log (entry_of c.system log post)
 next_may c log valid go f post next =
-    let stands = built_stands c.system log go.0 in
+    let stands = all_stand c.system log go.0 in
     hand_may c log valid stands go.1 f f.backups next.0 (first_is c log valid stands f f.backups f.owed next.0 next.1) post next.2 go.0
 
 -- and there can be one
-pub next_can : (c : ClusterView) (log : List Entry) → is_system c.system ≡ true → IsLegalBy Stands c.system log → FollowsBuilt c.system log c → AllOwn c.cursor c.here
+pub next_can : (c : ClusterView) (log : List Entry) → is_system c.system ≡ true → IsLegalBy Stands c.system log → Follows c.system log c → AllOwn c.cursor c.here
     → CanBeNext c.places c.family c.here c.owed
 next_can c log valid legal f own = can_be_next c log valid legal f f.backups f.owed own

@@ -16,7 +16,7 @@ use Rattle.cert_sched.specs.Moved.{is_fetch}
 use Rattle.standing_backups.specs.Standing.{HandsOn, IsNextStanding}
 use Rattle.cluster_core.specs.declared.worked.Worked.TheVariants.{Queued}
 use Rattle.cluster_core.specs.Calls.{GoesOn, WorkIs}
-use Rattle.cluster_core.specs.Follows.{FollowsBuilt}
+use Rattle.cluster_core.specs.Follows.{Follows}
 use Rattle.cluster_core.specs.HandingOn.{HandsOver}
 use Rattle.cluster_core.specs.Holds.{CarriesMarks, IsHeldAs, MarkedIfThere, is_fetch_queued, unended_process}
 use Rattle.cluster_core.specs.Queue.{Nothing, falls, is_rebackup, left_queued, move_of, with_queue}
@@ -58,8 +58,8 @@ module _ (c : ClusterView) (post : Post) (next : IsNextStanding c.number c.place
   pub handed_own : (is_from c.number post.by && true) ≡ true
   handed_own = ap (λ (x : Post). is_from c.number x.by && true) hands.post_is ∙ ap (λ b. b && true) (eq-eqb (c.number).0 (c.number).0 refl)
 
-  pub handed_built : (is_sent post.what && true) ≡ true
-  handed_built = ap (λ w. is_sent w && true) standing
+  pub handed_sent : (is_sent post.what && true) ≡ true
+  handed_sent = ap (λ w. is_sent w && true) standing
 
   pub handed_goes_on : is_system c.system ≡ true → c.queue ≡ [] → GoesOn c (handed_view c post)
   handed_goes_on valid empty log go f = record {
@@ -99,7 +99,7 @@ pub hands_left : (before : Places) (w : What) (c : ClusterView) (h : HandsOver c
 hands_left before w c h = ap (left_queued before w) h.posts ∙ ap (λ (x : What). cond (falls before w x) [] (h.post ∷ [])) h.standing
 
 -- without it the cluster follows the log as well
-pub without_standing : (system : System) (log : List Entry) (c : ClusterView) → HandsOver c → FollowsBuilt system log c → FollowsBeside all_of system log (unqueued c)
+pub without_standing : (system : System) (log : List Entry) (c : ClusterView) → HandsOver c → Follows system log c → FollowsBeside all_of system log (unqueued c)
 without_standing system log c h f = record {
   log = record { cursor = (f.log).cursor; places = (f.log).places };
   processes = record { held = λ q x there. any_of all_of system log [] q x (held q x there); each_once = (f.processes).each_once };

@@ -30,7 +30,7 @@ use Rattle.log_laws.specs.pages.Next.{moves_next}
 use Rattle.log_laws.proofs.pages.Keeping.{pages_kept}
 use Rattle.log_laws.proofs.pages.OneEntry.{any_since-snoc, moved_with_state-snoc}
 use Rattle.log_laws.proofs.pages.Waiting.{came_fetched}
-use Rattle.log_laws.proofs.records.Standing.{built_stands}
+use Rattle.log_laws.proofs.records.Standing.{all_stand}
 use Rattle.backup_laws.proofs.Given.{numbered_first}
 
 -- who does something has its pages
@@ -117,7 +117,7 @@ unasked_quiet system log p valid legal moved some unasked = (all_quiet system lo
   where
     not_come : (b : Bool) → any_since_moved system log p (is_page_is p 0) ≡ b → b ≡ false
     not_come false is = refl
-    not_come true is = absurd (true≢false (sym (came_fetched system log p 0 (built_stands system log legal) is) ∙ unasked))
+    not_come true is = absurd (true≢false (sym (came_fetched system log p 0 (all_stand system log legal) is) ∙ unasked))
 
     first : (n : ℕ) → 1 ≤ n → list_all (λ i. any_since_moved system log p (is_page_is p i)) (range_with_len 0 n) ≡ false
     first zero none = absurd (omega (arith, none))

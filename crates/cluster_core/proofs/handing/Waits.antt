@@ -35,7 +35,7 @@ use Rattle.residents.specs.Records.{record_at, record_told}
 use Rattle.residents.proofs.Slots.{at_key_is}
 use Rattle.standing_backups.specs.Standing.{CanBeNext, CanHandOn, first_stated, is_stated_at}
 use Rattle.cluster_core.specs.View.{ClusterView, held_at}
-use Rattle.cluster_core.specs.Follows.{FollowsBuilt}
+use Rattle.cluster_core.specs.Follows.{Follows}
 use Rattle.cluster_core.specs.Holds.{is_fetch_queued}
 use Rattle.cluster_core.specs.Owed.{is_owed}
 use Rattle.cluster_core.specs.Standing.{HoldsBackups}
@@ -75,7 +75,7 @@ some_passes t (m ∷ ns) n there passes = by_test (t m) refl (some_passes t ns n
 
 -- ---- who waits here
 
-module _ (c : ClusterView) (log : List Entry) (valid : is_system c.system ≡ true) (legal : IsLegalBy Stands c.system log) (f : FollowsBuilt c.system log c) (begun : HoldsBackups c.system log c) where
+module _ (c : ClusterView) (log : List Entry) (valid : is_system c.system ≡ true) (legal : IsLegalBy Stands c.system log) (f : Follows c.system log c) (begun : HoldsBackups c.system log c) where
   abbrev here : Places
   here = placement c.system log
 

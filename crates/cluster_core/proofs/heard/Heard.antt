@@ -29,7 +29,7 @@ use Rattle.backup_records.specs.Records.{are_rising, records_after}
 use Rattle.cluster_core.specs.Absorbing.{goes_to}
 use Rattle.cluster_core.specs.Queue.{is_rebackup, are_plain}
 use Rattle.cluster_core.specs.Calls.{ReadyFor, absorbed, here_after}
-use Rattle.cluster_core.specs.Follows.{FollowsBuilt, IsOpen}
+use Rattle.cluster_core.specs.Follows.{Follows, IsOpen}
 use Rattle.cluster_core.specs.Hearing.{FollowsHeard, KnowsPlaces, concerns, family_heard, heard_in, with_heard}
 use Rattle.cluster_core.specs.Parts.{AllOwn}
 use Rattle.cluster_core.specs.Recovered.{left_by, moved_by, with_all_waiting}
@@ -41,7 +41,7 @@ use Rattle.cert_sched.specs.Rules.{is_by_home, is_by_right}
 use Rattle.cert_sched.proofs.BirthClusters.{birth_keeps}
 use Rattle.cert_sched.proofs.FamilyLaws.{Families, Member, families, found_born, found_child}
 use Rattle.cert_sched.proofs.FreshLaws.{BornRightly, born_rightly}
-use Rattle.log_laws.proofs.records.Standing.{built_stands}
+use Rattle.log_laws.proofs.records.Standing.{all_stand}
 use Rattle.birth_notice.specs.Family.{stands_in}
 use Rattle.log_laws.proofs.births.NewBirth.{birth_last, stands_in_none}
 use Rattle.cluster_core.proofs.absorbing.Absorbed.{absorbs, ready_own}
@@ -147,11 +147,11 @@ module _ (c : ClusterView) (log : List Entry) (e : Entry) (server : Option Pager
   may : MayStand c.system log e
   may = IsLegal-last MayStand c.system log e next.0
 
-  built : FollowsBuilt c.system log (shadow log c)
-  built = shadow_follows c log valid now.0 f
+  of_kind : Follows c.system log (shadow log c)
+  of_kind = shadow_follows c log valid now.0 f
 
   ready : ReadyFor e (shadow log c)
-  ready = record { log = log; open_log = now; open_next = next; ready = inl (built, foreign, spared) }
+  ready = record { log = log; open_log = now; open_next = next; ready = inl (of_kind, foreign, spared) }
 
   abbrev recs : List BackRec
   recs = records_after c.number (what e) c.records
@@ -174,8 +174,8 @@ module _ (c : ClusterView) (log : List Entry) (e : Entry) (server : Option Pager
   abbrev heard : ClusterView
   heard = with_server server (with_heard c e)
 
-  goes_on : FollowsBuilt c.system later taken
-  goes_on = absorbs (shadow log c) e server valid own_there rising_there serves log now next (inl (built, foreign, spared))
+  goes_on : Follows c.system later taken
+  goes_on = absorbs (shadow log c) e server valid own_there rising_there serves log now next (inl (of_kind, foreign, spared))
 
   here_is : taken.here ≡ heard.here
   here_is = ap (λ rs. with_all_waiting rs (here_after (what e) c.here)) (sym same_moved)
@@ -192,8 +192,8 @@ module _ (c : ClusterView) (log : List Entry) (e : Entry) (server : Option Pager
   as_heard : taken ≡ alike heard taken.cursor taken.places taken.family taken.steps
   as_heard = λ i. record heard { cursor = taken.cursor; places = taken.places; here = here_is i; records = recs_are i; family = taken.family; owed = owed_are i; queue = queue_is i; steps = taken.steps }
 
-  still : FollowsBuilt c.system later (alike heard taken.cursor taken.places taken.family taken.steps)
-  still = subst (FollowsBuilt c.system later) as_heard goes_on
+  still : Follows c.system later (alike heard taken.cursor taken.places taken.family taken.steps)
+  still = subst (Follows c.system later) as_heard goes_on
 
   -- no new backup is queued
   still_plain : are_plain heard.queue ≡ true
@@ -323,7 +323,7 @@ module _ (c : ClusterView) (log : List Entry) (e : Entry) (server : Option Pager
       ∙ ap (filter (concerns (placement c.system later) k)) (sym (birth_last c.system log e parent at child end valid stands may.stands is))
     where
       stands : IsLegalBy Stands c.system log
-      stands = built_stands c.system log now.0
+      stands = all_stand c.system log now.0
 
       all : Families c.system log
       all = families Stands (λ system log e stands. stands) c.system log valid stands

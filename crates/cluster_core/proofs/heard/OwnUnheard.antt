@@ -16,7 +16,7 @@ use Rattle.bus_msg.specs.PlacedAfter.{placed_after, what}
 use Rattle.bus_msg.specs.Route.{route}
 use Rattle.cert_sched.specs.Appended.{entry_of}
 use Rattle.cert_sched.specs.Legal.{MayStand}
-use Rattle.cluster_core.specs.Sent.{SentMayFollow, is_sent}
+use Rattle.cluster_core.specs.Sent.{SentMayStand, is_sent}
 use Rattle.cert_sched.specs.Losses.{capped, is_by_cluster, is_from, least_steps}
 use Rattle.cert_sched.specs.Schedule.{placement}
 use Rattle.log_laws.specs.births.Unsynced.{unsynced_births}
@@ -24,7 +24,7 @@ use Rattle.log_laws.proofs.births.OtherEntries.{synced_goes}
 use Rattle.backup_records.specs.Records.{are_rising, records_after}
 use Rattle.cluster_core.specs.Absorbing.{goes_to}
 use Rattle.cluster_core.specs.Calls.{ReadyFor, with_entry, here_after}
-use Rattle.cluster_core.specs.Follows.{FollowsBuilt, IsOpen, StandsBetween}
+use Rattle.cluster_core.specs.Follows.{Follows, IsOpen, StandsBetween}
 use Rattle.cluster_core.specs.Hearing.{FollowsHeard, KnowsPlaces, after_head_heard, after_sent_heard, concerns, heard_in}
 use Rattle.cluster_core.specs.Queue.{IsQueueLegal, is_rebackup, are_plain}
 use Rattle.cluster_core.specs.Recovered.{with_all_waiting}
@@ -39,7 +39,7 @@ use Rattle.residents.proofs.Changing.{pid_same}
 use Rattle.cluster_core.proofs.losses.Homes.{HomeHere}
 use Rattle.cluster_core.proofs.absorbing.KnownPlaces.{known_after}
 use Rattle.cluster_core.proofs.absorbing.Noting.{noted_next}
-use Rattle.cluster_core.proofs.heard.PassedOver.{all_left, at_later, births_left, built, dropped, elsewhere, home_of_it, none_come, none_moved, of_it, own_upto, same_clusters, same_pager, serves, without_last, owed_stays}
+use Rattle.cluster_core.proofs.heard.PassedOver.{all_left, at_later, births_left, of_kind, dropped, elsewhere, home_of_it, none_come, none_moved, of_it, own_upto, same_clusters, same_pager, serves, without_last, owed_stays}
 use Rattle.cluster_core.proofs.heard.Shadow.{alike, queued_back, shadow}
 use Rattle.cluster_core.proofs.heard.Unheard.{page_goes}
 use Rattle.cert_sched.specs.Told.{cluster_lost}
@@ -68,7 +68,7 @@ module _ (c : ClusterView) (log : List Entry) (e : Entry) (valid : is_system c.s
   said = ap what (sym whole)
 
   unlost : is_sent post.what ≡ true
-  unlost = (subst (IsQueueLegal SentMayFollow c.system log) queue (f.queue).legal).0.built
+  unlost = (subst (IsQueueLegal SentMayStand c.system log) queue (f.queue).legal).0.of_kind
 
   -- no new backup is queued
   plain : (not (is_rebackup post.what) ≡ true) × (are_plain rest ≡ true)
@@ -88,10 +88,10 @@ module _ (c : ClusterView) (log : List Entry) (e : Entry) (valid : is_system c.s
   abbrev left : ClusterView
   left = record c { queue = rest; tried = false }
 
-  between : StandsBetween FollowsBuilt c.system log e (shadow log left)
+  between : StandsBetween Follows c.system log e (shadow log left)
   between = record {
     before = shadow log c;
-    followed = built c log e valid now next away f;
+    followed = of_kind c log e valid now next away f;
     head = ap (λ ps. option_map (entry_of c.system log) (head_of ps)) queue ∙ ap Some whole;
     tried = tried;
     sent = sym (ap (after_sent (shadow log c)) queue ∙ ap (λ (d : ClusterView). record d { queue = rest; tried = false }) (head_stays (shadow log c) post.what unlost plain_head));
@@ -119,7 +119,7 @@ module _ (c : ClusterView) (log : List Entry) (e : Entry) (valid : is_system c.s
   abbrev taken : ClusterView
   taken = with_server c.server (with_entry (shadow log left) e)
 
-  goes_on : FollowsBuilt c.system later taken
+  goes_on : Follows c.system later taken
   goes_on =
       follows_entry (shadow log left) e c.server valid (own_upto c.cursor (length log) c.here (f.log).within f.own) (ap are_rising (none_moved c log e valid now next away f _))
       (serves c log e valid now next away f c.server refl) (plain_left places (what e) rest (ap (λ (w : What). cluster_lost w) said ∙ sent_loses_none post.what unlost) plain.1) log now next (inr between)
@@ -135,8 +135,8 @@ module _ (c : ClusterView) (log : List Entry) (e : Entry) (valid : is_system c.s
     steps = taken.steps;
   }
 
-  still : FollowsBuilt c.system later (alike left taken.cursor taken.places taken.family taken.steps)
-  still = subst (FollowsBuilt c.system later) as_left goes_on
+  still : Follows c.system later (alike left taken.cursor taken.places taken.family taken.steps)
+  still = subst (Follows c.system later) as_left goes_on
 
   -- ---- what the cluster knows of it
 

@@ -34,7 +34,7 @@ use Rattle.backup_records.specs.Records.{records_after, are_rising}
 use Rattle.cluster_core.specs.Absorbing.{goes_to}
 use Rattle.cluster_core.specs.Calls.{ReadyFor, with_entry, here_after}
 use Rattle.residents.specs.Arriving.{with_page_come}
-use Rattle.cluster_core.specs.Follows.{FollowsBuilt, IsOpen}
+use Rattle.cluster_core.specs.Follows.{Follows, IsOpen}
 use Rattle.cluster_core.specs.Hearing.{FollowsHeard, KnowsEach, KnowsPlaces, concerns, heard_in}
 use Rattle.cluster_core.specs.Owed.{owed_after}
 use Rattle.cluster_core.specs.Parts.{AllOwn, IsHeldOwn}
@@ -50,7 +50,7 @@ use Rattle.cluster_core.proofs.absorbing.Counted.{count_by-snoc, lost_before}
 use Rattle.cluster_core.proofs.absorbing.Following.{by_home_of}
 use Rattle.cluster_core.proofs.here.Here.{is_among}
 use Rattle.residents.proofs.Changing.{pid_same, same_itself}
-use Rattle.cluster_core.proofs.losses.Homes.{HomeHere, differ_built, home_here}
+use Rattle.cluster_core.proofs.losses.Homes.{HomeHere, pids_apart, home_here}
 use Rattle.cluster_core.proofs.absorbing.Noting.{named_goes, noted_next}
 use Rattle.cluster_core.proofs.heard.Shadow.{alike, queued_back, shadow, shadow_follows}
 use Rattle.cluster_core.proofs.heard.Unheard.{all_elsewhere, by_unheard, cut_goes, home_apart, is_elsewhere, page_goes, sync_each}
@@ -124,10 +124,10 @@ module _ (c : ClusterView) (log : List Entry) (e : Entry) (valid : is_system c.s
   no_cluster_lost = of_it (λ w. cluster_lost w ≡ None) (λ at letter. refl) (λ pid at index bytes. refl) (λ pid small read took. refl) (λ pid index. refl) (λ pid index bytes. refl)
 
   pub differ : pids_differ places.placed ≡ true
-  differ = differ_built c.system log valid now.0
+  differ = pids_apart c.system log valid now.0
 
-  pub built : FollowsBuilt c.system log (shadow log c)
-  built = shadow_follows c log valid now.0 f
+  pub of_kind : Follows c.system log (shadow log c)
+  of_kind = shadow_follows c log valid now.0 f
 
   -- ---- what is here
 
@@ -212,7 +212,7 @@ module _ (c : ClusterView) (log : List Entry) (e : Entry) (valid : is_system c.s
 
   module _ (foreign : is_by_cluster c.number e ≡ false) where
     ready : ReadyFor e (shadow log c)
-    ready = record { log = log; open_log = now; open_next = next; ready = inl (built, foreign, no_loss) }
+    ready = record { log = log; open_log = now; open_next = next; ready = inl (of_kind, foreign, no_loss) }
 
     recs_stay : records_after c.number (what e) c.records ≡ c.records
     recs_stay = noted_next (shadow log c) e valid ready away
@@ -316,10 +316,10 @@ module _ (c : ClusterView) (log : List Entry) (e : Entry) (valid : is_system c.s
     abbrev taken : ClusterView
     taken = with_server c.server (with_entry (shadow log c) e)
 
-    goes_on : FollowsBuilt c.system later taken
+    goes_on : Follows c.system later taken
     goes_on =
         follows_entry (shadow log c) e c.server valid (own_upto c.cursor (length log) c.here (f.log).within f.own) (ap are_rising (none_moved _)) (serves c.server refl) (plain_left places (what e) c.queue no_cluster_lost f.plain) log now next
-        (inl (built, foreign, no_loss))
+        (inl (of_kind, foreign, no_loss))
 
     here_is : taken.here ≡ c.here
     here_is = (λ i. with_all_waiting (none_moved (records_after c.number (what e) c.records) i) (here_after (what e) c.here)) ∙ here_stays
@@ -330,8 +330,8 @@ module _ (c : ClusterView) (log : List Entry) (e : Entry) (valid : is_system c.s
     as_before : taken ≡ alike c taken.cursor taken.places taken.family taken.steps
     as_before = λ i. record c { cursor = taken.cursor; places = taken.places; here = here_is i; records = recs_are i; family = taken.family; owed = owed_stays c.owed i; steps = taken.steps }
 
-    still : FollowsBuilt c.system later (alike c taken.cursor taken.places taken.family taken.steps)
-    still = subst (FollowsBuilt c.system later) as_before goes_on
+    still : Follows c.system later (alike c taken.cursor taken.places taken.family taken.steps)
+    still = subst (Follows c.system later) as_before goes_on
 
     unsent : count_by (is_by_cluster k) later ≡ count_by (is_by_cluster k) log
     unsent = count_by-snoc (is_by_cluster k) log e ∙ ap (λ b. count_by (is_by_cluster k) log + cond b 1 0) foreign ∙ add-zero _

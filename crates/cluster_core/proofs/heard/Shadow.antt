@@ -15,13 +15,13 @@ use Rattle.cert_sched.specs.Losses.{capped}
 use Rattle.cert_sched.specs.Schedule.{placement}
 use Rattle.log_laws.specs.births.Unsynced.{unsynced_births}
 use Rattle.log_laws.proofs.births.Filters.{any_kept}
-use Rattle.cluster_core.specs.Follows.{FollowsBuilt, QueuedIn}
+use Rattle.cluster_core.specs.Follows.{Follows, QueuedIn}
 use Rattle.cluster_core.specs.Hearing.{FollowsHeard, concerns}
 use Rattle.residents.specs.Residents.{pids_in}
 use Rattle.cluster_core.specs.View.{ClusterView}
 use Rattle.cluster_core.proofs.here.Here.{is_among}
 use Rattle.residents.proofs.Changing.{pid_same}
-use Rattle.cluster_core.proofs.losses.Homes.{HomeHere, differ_built, home_here}
+use Rattle.cluster_core.proofs.losses.Homes.{HomeHere, pids_apart, home_here}
 
 -- the cluster with all that it would know if it took in each entry
 abbrev pub shadow : List Entry → ClusterView → ClusterView
@@ -95,7 +95,7 @@ shadow_queued c log (inr (inr (inr (inr y)))) = inr (inr (inr (inr (record {
   unmarked = y.unmarked;
 }))))
 
-pub shadow_follows : (c : ClusterView) (log : List Entry) → is_system c.system ≡ true → IsLegalBy MayStand c.system log → FollowsHeard c.system log c → FollowsBuilt c.system log (shadow log c)
+pub shadow_follows : (c : ClusterView) (log : List Entry) → is_system c.system ≡ true → IsLegalBy MayStand c.system log → FollowsHeard c.system log c → Follows c.system log (shadow log c)
 shadow_follows c log valid legal f = record {
   log = record { cursor = refl; places = refl };
   processes = record { held = (f.processes).held; each_once = (f.processes).each_once };
@@ -110,7 +110,7 @@ shadow_follows c log valid legal f = record {
   owed = f.owed;
   backups = f.backups;
   forks = λ parent child q h there beside any.
-      let home = home_here (placement c.system log) c.number (pids_in c.here) child (differ_built c.system log valid legal) (f.processes).each_once (is_among c.here child h beside) in
+      let home = home_here (placement c.system log) c.number (pids_in c.here) child (pids_apart c.system log valid legal) (f.processes).each_once (is_among c.here child h beside) in
       f.forks parent child q h there beside (ap (list_any (bears_by parent child)) f.family ∙ born_here (placement c.system log) c.number parent child (unsynced_births c.system log) home any);
   accounts = record { keeps = (f.accounts).keeps; there = (f.accounts).there; calls = (f.accounts).calls };
   disk = f.disk;

@@ -5,7 +5,7 @@ use Rattle.std.specs.Prelude.{⊤}
 use Rattle.t32_base.specs.declared.process.Pid.{Pid}
 use Rattle.sys_text.specs.declared.system.System.{System}
 use Rattle.bus_msg.specs.declared.entry.Entry.{Entry}
-use Rattle.cluster_core.specs.Sent.{SentMayFollow}
+use Rattle.cluster_core.specs.Sent.{SentMayStand}
 use Rattle.bus_msg.specs.declared.entry.Post.{Post}
 use Rattle.cert_sched.specs.Parts.{rising}
 use Rattle.cert_sched.specs.Rests.{home_pids}
@@ -18,7 +18,7 @@ use Rattle.cluster_core.specs.Families.{HoldsFamily}
 use Rattle.cluster_core.specs.Owed.{HoldsOwed}
 use Rattle.cluster_core.specs.Standing.{HoldsBackups}
 use Rattle.cluster_core.specs.ForksAgain.{HoldsForks}
-use Rattle.cluster_core.specs.Follows.{FollowsBuilt}
+use Rattle.cluster_core.specs.Follows.{Follows}
 
 -- those of the processes that pass a test are marked as the log says
 abbrev pub HoldsMarksOf : (Pid → Bool) → System → List Entry → ClusterView → Type 0
@@ -63,7 +63,7 @@ pub record HoldsThem (which : Pid → Bool) (system : System) (log : List Entry)
 pub record FollowsBeside (which : Pid → Bool) (system : System) (entries : List Entry) (c : ClusterView) : Type 0 where
   pub log : HoldsLog system entries c
   pub processes : HoldsThem which system entries c
-  pub queue : HoldsQueue SentMayFollow system entries c
+  pub queue : HoldsQueue SentMayStand system entries c
   pub queued : IsQueued c.queue
   pub steps : HoldsSteps entries c
   pub limits : HoldsLimits system c
@@ -82,7 +82,7 @@ abbrev pub all_of : Pid → Bool
 all_of p = true
 
 -- where no batch is queued, that is all
-pub beside_of : (system : System) (log : List Entry) (c : ClusterView) → FollowsBuilt system log c → IsQueued c.queue → FollowsBeside all_of system log c
+pub beside_of : (system : System) (log : List Entry) (c : ClusterView) → Follows system log c → IsQueued c.queue → FollowsBeside all_of system log c
 beside_of system log c f queued = record {
   log = f.log;
   processes = record { held = λ p h there. any_of all_of system log c.queue p h ((f.processes).held p h there); each_once = (f.processes).each_once };
@@ -101,8 +101,8 @@ beside_of system log c f queued = record {
   disk = f.disk;
 }
 
-pub built_of : (system : System) (log : List Entry) (c : ClusterView) → FollowsBeside all_of system log c → FollowsBuilt system log c
-built_of system log c f = record {
+pub sent_of : (system : System) (log : List Entry) (c : ClusterView) → FollowsBeside all_of system log c → Follows system log c
+sent_of system log c f = record {
   log = f.log;
   processes = record { held = λ p h there. one_of_them all_of system log c.queue p h refl ((f.processes).held p h there); each_once = (f.processes).each_once };
   queue = f.queue;

@@ -12,7 +12,7 @@ use Rattle.bus_msg.specs.declared.placed.Placed.{Placed}
 use Rattle.bus_msg.specs.Places.{same_pid}
 use Rattle.cert_sched.specs.Legal.{IsLegalBy, Stands}
 use Rattle.cert_sched.specs.Schedule.{placement}
-use Rattle.log_laws.proofs.records.Standing.{built_stands}
+use Rattle.log_laws.proofs.records.Standing.{all_stand}
 use Rattle.log_laws.specs.births.Unsynced.{unsynced_births}
 use Rattle.log_laws.proofs.births.Filters.{passes_any}
 use Rattle.log_laws.proofs.births.FirstChild.{within_has}
@@ -21,7 +21,7 @@ use Rattle.cluster_core.specs.View.{ClusterView, held_at, duty_of}
 use Rattle.residents.specs.Held.{Held, Runs, Rolls, Waits, held_of, is_running, runs_at}
 use Rattle.residents.specs.ChildrenFirst.{child_before, comes_after, has_turn, is_hindered}
 use Rattle.residents.specs.Duty.{backup_owed, is_able}
-use Rattle.cluster_core.specs.Follows.{FollowsBuilt}
+use Rattle.cluster_core.specs.Follows.{Follows}
 use Rattle.residents.specs.Residents.{are_stuck, none_has_turn, pids_in}
 use Rattle.cluster_core.specs.Calls.{FollowsSome}
 use Rattle.residents.proofs.ChildFirst.{before_is, none_before}
@@ -29,7 +29,7 @@ use Rattle.cluster_core.proofs.forks.ForksAgain.{bears_by}
 use Rattle.cluster_core.proofs.losses.HeldAtHome.{held_at_home, home_found}
 use Rattle.cluster_core.proofs.here.Here.{is_among}
 use Rattle.residents.proofs.Changing.{pid_same, same_itself}
-use Rattle.cluster_core.proofs.losses.Homes.{differ_built, home_here}
+use Rattle.cluster_core.proofs.losses.Homes.{pids_apart, home_here}
 
 -- what holds of all that are here holds of one that is found
 all_found : (t : Pid × Held → Bool) (here : List (Pid × Held)) (p : Pid) (h : Held) → list_all t here ≡ true → held_of here p ≡ Some h → t (p, h) ≡ true
@@ -49,11 +49,11 @@ module _ (c : ClusterView) (valid : is_system c.system ≡ true) (some : Follows
   abbrev log : List Entry
   log = some.log
 
-  abbrev f : FollowsBuilt c.system some.log c
+  abbrev f : Follows c.system some.log c
   f = some.follows
 
   legal : IsLegalBy Stands c.system some.log
-  legal = built_stands c.system some.log (some.open_log).0
+  legal = all_stand c.system some.log (some.open_log).0
 
   -- a child that never synchronised of one that runs here is here and runs: it does not wait for a fork that was made, and where it rolls forward it has a turn
   child_runs : (p x : Pid) → list_any (bears_by p x) c.family ≡ true → runs_at c.here p ≡ true → runs_at c.here x ≡ true
@@ -79,7 +79,7 @@ module _ (c : ClusterView) (valid : is_system c.system ≡ true) (some : Follows
 
       by_held : (h : Held) → held_at c p ≡ Some h → is_running h ≡ true → runs_at c.here x ≡ true
       by_held (Runs process) at runs =
-          let home = home_here (placement c.system some.log) c.number (pids_in c.here) p (differ_built c.system some.log valid (some.open_log).0) (f.processes).each_once (is_among c.here p (Runs process) at) in
+          let home = home_here (placement c.system some.log) c.number (pids_in c.here) p (pids_apart c.system some.log valid (some.open_log).0) (f.processes).each_once (is_among c.here p (Runs process) at) in
           let child = home_found (placement c.system some.log) x c.number (home.placed).home (lives_with_parent c.system some.log p x valid legal among ∙ ap (option_map (λ (q : Placed). q.home)) home.found) home.home in
           let held = held_at_home (placement c.system some.log) c.number c.here x (f.processes).each_once child in
           by_child process held.0 at held.1

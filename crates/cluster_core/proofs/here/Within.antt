@@ -21,7 +21,7 @@ use Rattle.cert_sched.proofs.MailLaws.{silent_upto-ends}
 use Rattle.cert_sched.proofs.OpenLaws.{unended_open}
 use Rattle.cert_sched.proofs.StepLaws.{SilentFrom, silent_from}
 use Rattle.log_laws.proofs.pages.SizesStay.{process_sized}
-use Rattle.log_laws.proofs.records.Standing.{built_stands, itself}
+use Rattle.log_laws.proofs.records.Standing.{all_stand, itself}
 use Rattle.replay_laws.specs.rolling.Behind.{RollsBehind}
 use Rattle.sync_point.proofs.Cuts.{cut_keeps}
 use Rattle.sync_point.specs.Batch.{synced}
@@ -111,7 +111,7 @@ module _ (system : System) (log : List Entry) (p : Pid) (valid : is_system syste
       let unborn = rolls.1 in
       let on = rolls.2 in
       let count : n + 0 ≡ n = omega arith in
-      let all = built_stands system log open_log.0 in
+      let all = all_stand system log open_log.0 in
       sym (own_within system log p q (runs_marked system log p q valid held all unended (carried system log p q valid held all unended marks)))
       ∙ caught_limits system log p s q counts left births unborn n valid open_log.0 open_log.1 unended behind (subst (RunsOut (state_of s) counts births) count on.runs_out) on.rolled
 

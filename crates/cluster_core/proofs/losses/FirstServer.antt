@@ -120,7 +120,7 @@ pub record FirstServes (system : System) (log : List Entry) (k : ClusterNo) : Ty
   pub unlost : was_lost_in log k ≡ false
   pub server : is_server system k ≡ true
 
--- in a log of the kinds that are built
+-- in a log that may stand
 pub first_serves : (system : System) (log : List Entry) (k : ClusterNo) → IsLegalBy MayStand system log → is_by (Cluster k) (first_of (servers_in (placement system log))) ≡ true → FirstServes system log k
 first_serves system log k legal first = record {
   unlost = never_in system log k legal (first_server (placement system log) k first);

@@ -104,9 +104,9 @@ differ_of (q ∷ qs) two = λ i. not ((any_placed qs ∙ two.0) i) && differ_of 
     any_placed [] = refl
     any_placed (r ∷ rs) = ap (λ b. same_pid r.pid q.pid || b) (any_placed rs)
 
--- so it is in each log that is built
-pub differ_built : (system : System) (log : List Entry) → is_system system ≡ true → IsLegalBy MayStand system log → pids_differ (placement system log).placed ≡ true
-differ_built system log valid legal = differ_of (placement system log).placed (two_apart system log (all_roll MayStand (λ system log e may. may.stands) system log valid legal))
+-- so it is in each log that may stand
+pub pids_apart : (system : System) (log : List Entry) → is_system system ≡ true → IsLegalBy MayStand system log → pids_differ (placement system log).placed ≡ true
+pids_apart system log valid legal = differ_of (placement system log).placed (two_apart system log (all_roll MayStand (λ system log e may. may.stands) system log valid legal))
 
 -- ---- who is at home lives
 

@@ -21,7 +21,7 @@ use Rattle.bus_msg.specs.declared.placed.Placed.{Placed}
 use Rattle.bus_msg.specs.Places.{Places, is_at_home, is_cluster, placed_at, same_cluster, same_pid, unended_at, is_moved_by}
 use Rattle.bus_msg.specs.PlacedAfter.{what, placed_after, after_loss}
 use Rattle.crash_notice.specs.Splitting.{is_moved_here, moves_here, stays}
-use Rattle.cluster_core.specs.Sent.{SentMayFollow}
+use Rattle.cluster_core.specs.Sent.{SentMayStand}
 use Rattle.cert_sched.specs.Deeds.{deeds_in, is_birth_of, is_cut, letter_for, start_of}
 use Rattle.cert_sched.specs.Losses.{is_by_cluster, is_from, is_crash_of}
 use Rattle.cert_sched.specs.Parts.{rising}
@@ -38,7 +38,7 @@ use Rattle.cert_sched.proofs.RollLaws.{all_roll, two_apart}
 use Rattle.backup_records.specs.Records.{are_rising, record_in, records_after, record_after}
 use Rattle.log_laws.specs.records.Kept.{KeepsRecords, has_backup_in}
 use Rattle.log_laws.proofs.records.LossLaws.{loss_kept}
-use Rattle.log_laws.proofs.records.Standing.{built_stands}
+use Rattle.log_laws.proofs.records.Standing.{all_stand}
 use Rattle.t32_base.specs.Small.{SmallState}
 use Rattle.page_waits.specs.Waiting.{page_count}
 use Rattle.page_waits.specs.Begun.{number_of}
@@ -46,7 +46,7 @@ use Rattle.replay_laws.specs.rolling.Behind.{RollsBehind}
 use Rattle.replay_laws.proofs.rolling.FromStart.{record_stated}
 use Rattle.replay_laws.proofs.rolling.KeepingBehind.{behind_standing}
 use Rattle.replay_laws.proofs.forks.Begins.{state_none}
-use Rattle.replay_laws.proofs.rolling.ByRule.{built_stands as standing}
+use Rattle.replay_laws.proofs.rolling.ByRule.{standing}
 use Rattle.log_laws.specs.births.Unsynced.{unsynced_births}
 use Rattle.cluster_core.specs.Families.{family_after}
 use Rattle.cluster_core.specs.Owed.{AreOwed, owed_after}
@@ -63,7 +63,7 @@ use Rattle.cluster_core.proofs.here.Beside.{FollowsBeside, HeldOf, of_them, one_
 use Rattle.cluster_core.specs.Calls.{with_entry, here_after}
 use Rattle.cluster_core.proofs.here.Here.{is_among}
 use Rattle.residents.proofs.Changing.{pid_same}
-use Rattle.cluster_core.proofs.losses.Homes.{HomeHere, differ_built, home_here}
+use Rattle.cluster_core.proofs.losses.Homes.{HomeHere, pids_apart, home_here}
 use Rattle.cluster_core.proofs.losses.HomesMoved.{any_moved, homes_after, pids_moved, put_same, same_in_order}
 use Rattle.cluster_core.proofs.losses.MovedRecords.{all_recorded, number_there, passing_record, record_pid}
 use Rattle.cluster_core.proofs.losses.RecoveredHere.{Recovery, held_waiting, pids_waiting}
@@ -252,7 +252,7 @@ module _ (system : System) (valid : is_system system ≡ true) (log : List Entry
       few false none = subst (λ n. n ≤ 256) (sym (ap (λ (o : Option SmallState). option_map_or (λ (small : SmallState). small.pages) o 0) (state_none system log p r none m.kept))) (omega arith)
 
       away : (b : Bool) → list_any (λ (e : Pid × Held). same_pid e.0 p) here ≡ b → b ≡ false
-      away true is = absurd (not_here recs p r m (home_is p (home_here places k (pids_in here) p (differ_built system log valid n.legal) once (sym (any_pids here) ∙ is))))
+      away true is = absurd (not_here recs p r m (home_is p (home_here places k (pids_in here) p (pids_apart system log valid n.legal) once (sym (any_pids here) ∙ is))))
         where
           any_pids : (here : List (Pid × Held)) → list_any (λ (e : Pid × Held). same_pid e.0 p) here ≡ list_any (λ n. eqb n p.0) (pids_in here)
           any_pids [] = refl
@@ -283,7 +283,7 @@ module _ (system : System) (valid : is_system system ≡ true) (log : List Entry
   held_still q p (Waits waiting) together home held = (
     held.0,
     subst (λ w. WaitsSo system later p (is_fetch_queued p (posts_of q)) (record waiting { kept = record_after w waiting.kept })) n.same
-        (so_follows system log e p (is_fetch_queued p (posts_of q)) waiting valid n.more (ap is_some home.found) (home_not_moved system log e p k (differ_built system log valid n.legal) home spared) (ap (is_cut p) n.same) (ap (deeds_in p) n.same)
+        (so_follows system log e p (is_fetch_queued p (posts_of q)) waiting valid n.more (ap is_some home.found) (home_not_moved system log e p k (pids_apart system log valid n.legal) home spared) (ap (is_cut p) n.same) (ap (deeds_in p) n.same)
         (λ i. ap (is_page_is p i) n.same) (ap (is_some_page p) n.same) (subst (λ w. WaitsSo system log p (λ i. is_fetch p i w || is_fetch_queued p (posts_of q) i) waiting) (sym n.same) held.1)),
   )
 
@@ -303,7 +303,7 @@ module _ (system : System) (valid : is_system system ≡ true) (log : List Entry
 
   -- it has its pages if it had them
   pages_still : (p : Pid) → HomeHere places p k → has_its_pages system log p ≡ true → has_its_pages system later p ≡ true
-  pages_still p home has = pages_after system log e p k valid n.legal stands (differ_built system log valid n.legal) home spared has
+  pages_still p home has = pages_after system log e p k valid n.legal stands (pids_apart system log valid n.legal) home spared has
 
   -- ---- each once
 
@@ -359,7 +359,7 @@ module _ (system : System) (valid : is_system system ≡ true) (log : List Entry
     limits = limits;
     pages = pages;
     marks = marks;
-    records = subst (λ k. KeepsRecords system later k (filter (stays places lost k) c.records)) (sym number_is) (loss_kept system log e lost k cause c.records valid (built_stands system later n.more) n.same apart keeps);
+    records = subst (λ k. KeepsRecords system later k (filter (stays places lost k) c.records)) (sym number_is) (loss_kept system log e lost k cause c.records valid (all_stand system later n.more) n.same apart keeps);
     family = subst (λ w. family_after w c.family ≡ unsynced_births system later) n.same (family_next system log e c.family valid (n.legal, n.before) (n.more, n.goes_on) f.family);
     owed = subst (λ w. AreOwed system later c.number (owed_after c.number places w c.owed)) n.same
         (owed_next system log e c.number places c.owed valid (n.more, n.goes_on) refl (ap (λ j. is_crash_of j (what e)) number_is ∙ ap (is_crash_of k) n.same ∙ apart) f.owed);
@@ -388,14 +388,14 @@ module _ (system : System) (valid : is_system system ≡ true) (log : List Entry
       posts_own : list_all (λ (post : Post). is_from k post.by) (posts_of q) ≡ true
       posts_own = sym (λ i. list_all (λ (post : Post). is_from (number_is i) post.by) (queue_is i)) ∙ (f.queue).own
 
-      posts_legal : IsQueueLegal SentMayFollow system log (posts_of q)
-      posts_legal = subst (IsQueueLegal SentMayFollow system log) queue_is (f.queue).legal
+      posts_legal : IsQueueLegal SentMayStand system log (posts_of q)
+      posts_legal = subst (IsQueueLegal SentMayStand system log) queue_is (f.queue).legal
 
       posts_unfallen : NoneFalls places (what e) (posts_of q)
       posts_unfallen = subst (NoneFalls places (what e)) queue_is unfallen
 
-      legal_still : IsQueueLegal SentMayFollow system later c.queue
-      legal_still = subst (IsQueueLegal SentMayFollow system later) (sym queue_is) (queue_stays system valid log e lost cause n k apart q (f.queued).together posts_own foreign posts_unfallen posts_legal)
+      legal_still : IsQueueLegal SentMayStand system later c.queue
+      legal_still = subst (IsQueueLegal SentMayStand system later) (sym queue_is) (queue_stays system valid log e lost cause n k apart q (f.queued).together posts_own foreign posts_unfallen posts_legal)
 
       -- what the cluster is after it
       after : ClusterView
@@ -426,7 +426,7 @@ module _ (system : System) (valid : is_system system ≡ true) (log : List Entry
 
       -- a process that was here is at home here
       home_of : (p : Pid) (h : Held) → held_of c.here p ≡ Some h → HomeHere places p k
-      home_of p h there = home_here places k (pids_in c.here) p (differ_built system log valid n.legal) once (is_among c.here p h there)
+      home_of p h there = home_here places k (pids_in c.here) p (pids_apart system log valid n.legal) once (is_among c.here p h there)
 
       -- who is here then was here, or waits
       found : (p : Pid) (h : Held) → held_of (with_all_waiting moved c.here) p ≡ Some h → (held_of c.here p ≡ Some h) ⊎ Recovery (λ r. Moves c.records r.pid r) p h
@@ -451,16 +451,16 @@ module _ (system : System) (valid : is_system system ≡ true) (log : List Entry
         where
           by_either : (held_of c.here p ≡ Some h) ⊎ Recovery (λ r. Moves c.records r.pid r) p h → has_awaited_backup system later p ≡ true
           by_either (inl there) =
-              awaited_after system log e p k valid n.legal stands (differ_built system log valid n.legal) (home_of p h there) (ap (is_crash_of k) n.same ∙ apart) (f.backups p h there begun)
+              awaited_after system log e p k valid n.legal stands (pids_apart system log valid n.legal) (home_of p h there) (ap (is_crash_of k) n.same ∙ apart) (f.backups p h there begun)
           by_either (inr y) = absurd (true≢false (sym begun ∙ ap has_begun y.is))
 
       -- who was here has its marks still
       marks_still : (p : Pid) (h : Held) → which p ≡ true → held_of c.here p ≡ Some h → IsHeldAs system later (posts_of q) p h → MarkedIfThere CarriesMarks system (with_queue system later (posts_of q)) p (unended_process h)
       marks_still p h among there now =
           let home = home_of p h there in
-          let stays = home_not_moved system log e p k (differ_built system log valid n.legal) home spared in
+          let stays = home_not_moved system log e p k (pids_apart system log valid n.legal) home spared in
           let leaves : Leaves system log p (what e) = (ap (is_cut p) n.same, ap (is_birth_of p) n.same, ap (is_some_page p) n.same, stays) in
-          marked_after system log e p q h h valid (built_stands system later n.more) (ap is_some home.found)
+          marked_after system log e p q h h valid (all_stand system later n.more) (ap is_some home.found)
           (ap is_some (found_after system valid log e lost cause n k apart p ∙ ap (option_map (after_loss lost)) home.found)) (f.queued).together
           (queue_tells system log k q posts_own posts_legal) (queue_tells system later k q posts_own (queue_stays system valid log e lost cause n k apart q (f.queued).together posts_own foreign posts_unfallen posts_legal))
           (subst (λ ps. IsHeldAs system log ps p h) queue_is (one_of_them which system log c.queue p h among ((f.processes).held p h there))) now leaves (ap (is_exit_of p) n.same) (λ m. m)
@@ -479,7 +479,7 @@ module _ (system : System) (valid : is_system system ≡ true) (log : List Entry
       forks parent child x h at_parent at_child born = by_either (found parent x at_parent) (found child h at_child)
         where
           one_home : home_at places child ≡ home_at places parent
-          one_home = lives_with_parent system log parent child valid (built_stands system log n.legal) (subst (λ bs. list_any (bears_by parent child) bs ≡ true) f.family born)
+          one_home = lives_with_parent system log parent child valid (all_stand system log n.legal) (subst (λ bs. list_any (bears_by parent child) bs ≡ true) f.family born)
 
           moved_away : (p : Pid) (h : Held) → Recovery (λ r. Moves c.records r.pid r) p h → home_at places p ≡ Some k → ⊥
           moved_away p h y =

@@ -19,8 +19,8 @@ use Rattle.bus_msg.specs.declared.entry.Entry.{Entry}
 use Rattle.bus_msg.specs.declared.placed.Placed.{Placed}
 use Rattle.bus_msg.specs.Places.{Places, lives_in, same_cluster, same_pid, unended_at}
 use Rattle.bus_msg.specs.PlacedAfter.{after_loss, what, placed_after}
-use Rattle.cluster_core.specs.Sent.{TellingMayFollow}
-use Rattle.cluster_core.specs.Sent.{SentMayFollow}
+use Rattle.cluster_core.specs.Sent.{TellingMayStand}
+use Rattle.cluster_core.specs.Sent.{SentMayStand}
 use Rattle.cert_sched.specs.Legal.{IsLegalBy, MayStand}
 use Rattle.cert_sched.specs.Losses.{is_by_cluster, is_from, is_crash_of}
 use Rattle.cert_sched.specs.Appended.{entry_of}
@@ -32,7 +32,7 @@ use Rattle.cert_sched.proofs.UnendedLaws.{loss_keeps, unended_map}
 use Rattle.cluster_core.specs.Queue.{is_lone, AreTogether, Queued, Nothing, One, posts_of, IsQueueLegal, falls, is_move_of, move_of}
 use Rattle.cluster_core.proofs.absorbing.ByKind.{by_kind, by_page, is_of_page, lone_is, may_told, told_may}
 use Rattle.residents.proofs.Changing.{pid_same}
-use Rattle.cluster_core.proofs.losses.Homes.{differ_built}
+use Rattle.cluster_core.proofs.losses.Homes.{pids_apart}
 use Rattle.cluster_core.proofs.losses.HomesMoved.{stays_home}
 use Rattle.cluster_core.proofs.absorbing.Telling.{Telling, telling}
 use Rattle.cluster_core.proofs.absorbing.Unmoved.{emission_same, page_moves_none}
@@ -45,8 +45,8 @@ use Rattle.cluster_core.proofs.absorbing.Fallen.{NoneFalls}
 use Rattle.cluster_core.proofs.paging.HasPages.{waits_after}
 use Rattle.cert_sched.specs.Deeds.{deeds_in, is_birth_of, is_cut, letter_for}
 use Rattle.sys_calls.proofs.RunLemma.{all_delivered}
-use Rattle.log_laws.proofs.records.Standing.{built_stands}
-use Rattle.cert_sched.proofs.BuiltCuts.{by_home_there}
+use Rattle.log_laws.proofs.records.Standing.{all_stand}
+use Rattle.cert_sched.proofs.CutLaws.{by_home_there}
 use Rattle.cluster_core.proofs.working.KeptLimits.{told_within}
 use Rattle.checkpoint_laws.proofs.limits.StayingLimits.{sent_stays}
 
@@ -121,14 +121,14 @@ module _ (system : System) (valid : is_system system ≡ true) (log : List Entry
       by_home o Bus from at = absurd (true≢false (sym from))
 
   -- a post of a cluster that lives on and tells of steps may follow after the loss
-  told_stays : (post : Post) → is_from k post.by ≡ true → TellingMayFollow system log (entry_of system log post) → TellingMayFollow system later (entry_of system later post)
+  told_stays : (post : Post) → is_from k post.by ≡ true → TellingMayStand system log (entry_of system log post) → TellingMayStand system later (entry_of system later post)
   told_stays post own may =
-      post_may system later post u.pid u.at u.emission u.after n.more n.goes_on may.built u.tells (emission_same system log e none u.pid u.at ∙ u.is) at_home keeps
-      (waits_after system log e k post valid n.legal (IsLegal-last MayStand system log e n.more).stands (differ_built system log valid n.legal) not_here_lost may.built (ap (is_by_home places post.by) u.process ∙ u.by_home) own may.pages)
-      (may_end_still system log e (entry_of system log post) u.pid u.at u.emission post.what valid (built_stands system log n.legal) (IsLegal-last MayStand system log e n.more).stands (ap (deeds_in u.pid) n.same) u.tells (may.stands).kind)
+      post_may system later post u.pid u.at u.emission u.after n.more n.goes_on may.of_kind u.tells (emission_same system log e none u.pid u.at ∙ u.is) at_home keeps
+      (waits_after system log e k post valid n.legal (IsLegal-last MayStand system log e n.more).stands (pids_apart system log valid n.legal) not_here_lost may.of_kind (ap (is_by_home places post.by) u.process ∙ u.by_home) own may.pages)
+      (may_end_still system log e (entry_of system log post) u.pid u.at u.emission post.what valid (all_stand system log n.legal) (IsLegal-last MayStand system log e n.more).stands (ap (deeds_in u.pid) n.same) u.tells (may.stands).kind)
     where
       u : Telling system log (entry_of system log post)
-      u = telling system log (entry_of system log post) may (no_end k places post.by post.what may.built own (may.stands).by_right)
+      u = telling system log (entry_of system log post) may (no_end k places post.by post.what may.of_kind own (may.stands).by_right)
 
       no_letter : all_delivered u.after (letter_for u.pid (what e)) ≡ u.after
       no_letter = ap (λ w. all_delivered u.after (letter_for u.pid w)) n.same
@@ -136,7 +136,7 @@ module _ (system : System) (valid : is_system system ≡ true) (log : List Entry
       keeps : keeps_limits system later u.pid u.after ≡ true
       keeps =
           subst (λ s. keeps_limits system later u.pid s ≡ true) no_letter
-          (sent_stays system log e u.pid u.at u.emission u.after valid (built_stands system log n.legal) (by_home_there (placement system log) post.by u.pid u.by_home)
+          (sent_stays system log e u.pid u.at u.emission u.after valid (all_stand system log n.legal) (by_home_there (placement system log) post.by u.pid u.by_home)
           (ap (λ w. is_cut u.pid w || is_birth_of u.pid w) n.same) u.is (told_within system log u.pid u.at u.emission u.after u.is post.what u.tells may.limits))
 
       halves : (is_living places post.by ≡ true) × (is_by post.by (home_at places u.pid) ≡ true)
@@ -161,20 +161,20 @@ module _ (system : System) (valid : is_system system ≡ true) (log : List Entry
           ∙ (λ i. lives i && is_by (Cluster k) (home_stays u.pid home i)) ∙ eq-eqb k.0 k.0 refl
 
   -- so may one of a page that does not fall
-  post_stays : (post : Post) → is_lone post.what ≡ true → is_from k post.by ≡ true → is_by_cluster k e ≡ false → falls places (what e) post.what ≡ false → SentMayFollow system log (entry_of system log post) → SentMayFollow system later (entry_of system later post)
+  post_stays : (post : Post) → is_lone post.what ≡ true → is_from k post.by ≡ true → is_by_cluster k e ≡ false → falls places (what e) post.what ≡ false → SentMayStand system log (entry_of system log post) → SentMayStand system later (entry_of system later post)
   post_stays post lone own foreign unfallen may = by_what (lone_is post.what lone)
     where
-      by_what : (tells_or_closes post.what ≡ true) ⊎ (is_of_page post.what ≡ true) → SentMayFollow system later (entry_of system later post)
+      by_what : (tells_or_closes post.what ≡ true) ⊎ (is_of_page post.what ≡ true) → SentMayStand system later (entry_of system later post)
       by_what (inl tells) = may_told system later (entry_of system later post) (told_stays post own (told_may system log (entry_of system log post) may tells))
       by_what (inr of) = page_post_stays system valid log e k post (n.legal, n.before) (n.more, n.goes_on) foreign not_here_lost own of unfallen may
 
-  pub queue_stays : (q : Queued) → AreTogether q → list_all (λ (post : Post). is_from k post.by) (posts_of q) ≡ true → is_by_cluster k e ≡ false → NoneFalls places (what e) (posts_of q) → IsQueueLegal SentMayFollow system log (posts_of q)
-      → IsQueueLegal SentMayFollow system later (posts_of q)
+  pub queue_stays : (q : Queued) → AreTogether q → list_all (λ (post : Post). is_from k post.by) (posts_of q) ≡ true → is_by_cluster k e ≡ false → NoneFalls places (what e) (posts_of q) → IsQueueLegal SentMayStand system log (posts_of q)
+      → IsQueueLegal SentMayStand system later (posts_of q)
   queue_stays Nothing together own foreign unfallen legal = tt
   queue_stays (One post) together own foreign unfallen legal = (post_stays post together (and_parts (is_from k post.by) true own).0 foreign (unfallen post refl) legal.0, tt)
 
   -- nothing is queued for a process that is at home elsewhere: no move of it,
-  pub no_move_queued : (q : Queued) (p : Pid) → AreTogether q → list_all (λ (post : Post). is_from k post.by) (posts_of q) ≡ true → IsQueueLegal SentMayFollow system log (posts_of q) → (home_at places p ≡ Some k → ⊥) → move_of p (posts_of q) ≡ None
+  pub no_move_queued : (q : Queued) (p : Pid) → AreTogether q → list_all (λ (post : Post). is_from k post.by) (posts_of q) ≡ true → IsQueueLegal SentMayStand system log (posts_of q) → (home_at places p ≡ Some k → ⊥) → move_of p (posts_of q) ≡ None
   no_move_queued Nothing p together own legal away = refl
   no_move_queued (One post) p together own legal away = ap (λ b. option_map (λ (post : Post). post.what) (cond b (Some post) None)) (by_what (lone_is post.what together))
     where
@@ -185,11 +185,11 @@ module _ (system : System) (valid : is_system system ≡ true) (log : List Entry
       by_move false is tells = refl
       by_move true is tells = absurd (away (sent_home post p from by_it))
         where
-          may : TellingMayFollow system log (entry_of system log post)
+          may : TellingMayStand system log (entry_of system log post)
           may = told_may system log (entry_of system log post) legal.0 tells
 
           u : Telling system log (entry_of system log post)
-          u = telling system log (entry_of system log post) may (no_end k places post.by post.what may.built from (may.stands).by_right)
+          u = telling system log (entry_of system log post) may (no_end k places post.by post.what may.of_kind from (may.stands).by_right)
 
           of : u.pid ≡ p
           of = same_Some u.pid p (sym u.process ∙ moves_it p (post ∷ []) post.what (ap (λ b. option_map (λ (post : Post). post.what) (cond b (Some post) None)) is))
@@ -202,7 +202,7 @@ module _ (system : System) (valid : is_system system ≡ true) (log : List Entry
       by_what (inr of) = page_moves_none p post of
 
   -- and no fetch of its pages
-  pub no_fetch_queued : (q : Queued) (p : Pid) (i : ℕ) → AreTogether q → list_all (λ (post : Post). is_from k post.by) (posts_of q) ≡ true → IsQueueLegal SentMayFollow system log (posts_of q) → (home_at places p ≡ Some k → ⊥) → is_fetch_queued p (posts_of q) i ≡ false
+  pub no_fetch_queued : (q : Queued) (p : Pid) (i : ℕ) → AreTogether q → list_all (λ (post : Post). is_from k post.by) (posts_of q) ≡ true → IsQueueLegal SentMayStand system log (posts_of q) → (home_at places p ≡ Some k → ⊥) → is_fetch_queued p (posts_of q) i ≡ false
   no_fetch_queued Nothing p i together own legal away = refl
   no_fetch_queued (One post) p i together own legal away = ap (λ b. b || false) (by_fetch (is_fetch p i post.what) refl)
     where

@@ -93,13 +93,13 @@ home_not_moved system log e p k differ here away = by_loss (cluster_lost (what e
     by_loss None away = refl
     by_loss (Some lost) away = found_not_moved (placement system log) p lost here.placed differ here.found (away_from lost k here.placed here.home away)
 
--- ---- each kind that is built
+-- ---- each kind
 
-pub by_built : (P : What → Type 0) → ((at : ℕ) (letter : Letter) → P (Mail at letter)) → ((parent : Pid) (at : ℕ) (child : Pid) (end : ℕ) → P (Birth parent at child end)) → ((pid : Pid) (at : ℕ) (end : End) → P (Exit pid at end)) → ((pid : Pid) (index : ℕ) → P (Fetch pid index))
+pub by_each : (P : What → Type 0) → ((at : ℕ) (letter : Letter) → P (Mail at letter)) → ((parent : Pid) (at : ℕ) (child : Pid) (end : ℕ) → P (Birth parent at child end)) → ((pid : Pid) (at : ℕ) (end : End) → P (Exit pid at end)) → ((pid : Pid) (index : ℕ) → P (Fetch pid index))
     → ((pid : Pid) (index : ℕ) (bytes : List ℕ) → P (PageIs pid index bytes)) → ((lost : ClusterNo) (cause : Cause) → P (Crash lost cause)) → ((pid : Pid) (at index : ℕ) (bytes : List ℕ) → P (Page pid at index bytes))
     → ((pid : Pid) (small : SmallState) (read : List ℕ) (took : Option ℕ) → P (Sync pid small read took)) → ((to : ClusterNo) (fresh : Bool) (recs : List BackRec) → P (Rebackup to fresh recs)) → ((k : ClusterNo) → P (Return k)) → ((rests : List (Pid × ℕ)) → P (Done rests)) → P Stop
-    → (w : What) → is_built w ≡ true → P w
-by_built P mail birth exit fetch page crash changed cut renewed back done stop w built = by_one (kind_is w built)
+    → (w : What) → P w
+by_each P mail birth exit fetch page crash changed cut renewed back done stop w = by_one (kind_is w)
   where
     by_one : OneOf w → P w
     by_one (inl tells) = by_kind P mail exit done stop w tells

@@ -16,7 +16,6 @@ use Rattle.cert_sched.specs.Rules.{tells_or_closes}
 use Rattle.cluster_core.specs.Sent.{is_sent}
 use Rattle.cert_sched.specs.Losses.{is_crash_of}
 use Rattle.cert_sched.specs.Schedule.{placement}
-use Rattle.cert_sched.proofs.LogLaws.{IsLegal-last}
 use Rattle.backup_records.specs.Records.{are_rising, record_in, records_after}
 use Rattle.page_waits.specs.Waiting.{WaitingState}
 use Rattle.replay_laws.specs.pages.Waits.{first_wait}
@@ -25,7 +24,7 @@ use Rattle.residents.specs.Held.{Held, Waits}
 use Rattle.residents.specs.Changed.{with_more}
 use Rattle.cluster_core.specs.Parts.{AllOwn, IsHeldOwn, WaitsOwn}
 use Rattle.cluster_core.specs.Recovered.{moved_by, with_all_waiting, with_waiting}
-use Rattle.cluster_core.specs.Follows.{FollowsBuilt, IsOpen, StandsBetween}
+use Rattle.cluster_core.specs.Follows.{Follows, IsOpen, StandsBetween}
 use Rattle.cluster_core.specs.Calls.{IsReady, ReadyFor}
 use Rattle.cluster_core.proofs.absorbing.ByKind.{IsLoss, OneOf, by_kind, by_page, by_sync, is_of_page, kind_is}
 use Rattle.cluster_core.proofs.absorbing.Following.{own_sent}
@@ -38,7 +37,7 @@ use Rattle.cluster_core.proofs.losses.Moving.{waits_own}
 
 -- it tells of steps, is of a page, is a loss, is one by which a process synchronises, or is a birth
 pub one_of : (system : System) (log : List Entry) (e : Entry) → IsOpen MayStand system (log ++ e ∷ []) → OneOf (what e)
-one_of system log e later = kind_is (what e) (IsLegal-last MayStand system log e later.0).built
+one_of system log e later = kind_is (what e)
 
 pub loss_of : (system : System) (log : List Entry) (e : Entry) (l : IsLoss (what e)) → IsOpen MayStand system log → IsOpen MayStand system (log ++ e ∷ []) → NextLoss system log e l.lost l.cause
 loss_of system log e l now later = record { legal = now.0; more = later.0; before = now.1; goes_on = later.1; same = l.same }
@@ -48,7 +47,7 @@ pub other_lost : (c : ClusterView) (e : Entry) (l : IsLoss (what e)) → is_cras
 other_lost c e l other = sym (ap (is_crash_of c.number) l.same) ∙ other
 
 -- no loss is a post of the cluster's own
-pub own_no_loss : (c : ClusterView) (log : List Entry) (e : Entry) → IsLoss (what e) → StandsBetween FollowsBuilt c.system log e c → ⊥
+pub own_no_loss : (c : ClusterView) (log : List Entry) (e : Entry) → IsLoss (what e) → StandsBetween Follows c.system log e c → ⊥
 own_no_loss c log e l s = true≢false (sym (own_sent c log e s) ∙ ap is_sent l.same)
 
 -- ---- one more is here

@@ -14,7 +14,7 @@ use Rattle.bus_msg.specs.Places.{Places, same_pid, servers_in}
 use Rattle.cert_sched.specs.Appended.{entry_of}
 use Rattle.cert_sched.specs.Account.{Account, page_in}
 use Rattle.cert_sched.specs.Legal.{MayStand}
-use Rattle.cluster_core.specs.Sent.{SentMayFollow, is_sent}
+use Rattle.cluster_core.specs.Sent.{SentMayStand, is_sent}
 use Rattle.cert_sched.specs.Kinds.{PageIsHolds}
 use Rattle.cert_sched.specs.Losses.{is_from, least_steps}
 use Rattle.cert_sched.specs.Moved.{waiting_fetches}
@@ -26,12 +26,12 @@ use Rattle.page_server.specs.Account.{PagerState, account}
 use Rattle.page_accounts.specs.Answering.{earliest}
 use Rattle.page_accounts.specs.Keeps.{KeepsAccounts}
 use Rattle.page_accounts.proofs.WaitLaws.{earliest_is_kept}
-use Rattle.log_laws.proofs.records.Standing.{built_stands}
+use Rattle.log_laws.proofs.records.Standing.{all_stand}
 use Rattle.cluster_core.specs.declared.worked.Worked.TheVariants.{Queued}
 use Rattle.cluster_core.specs.View.{ClusterView, next_count, held_at}
 use Rattle.residents.specs.Held.{Held, Runs}
 use Rattle.cluster_core.specs.Holds.{IsHeldAs, KeepsIfThere}
-use Rattle.cluster_core.specs.Follows.{FollowsBuilt, IsOpen}
+use Rattle.cluster_core.specs.Follows.{Follows, IsOpen}
 use Rattle.cluster_core.specs.Queue.{One, is_lone}
 use Rattle.cluster_core.specs.Calls.{FollowsSome, GoesOn, WorkIs}
 use Rattle.cluster_core.specs.Serving.{CanAnswer}
@@ -77,7 +77,7 @@ module _ (c : ClusterView) (served : Option PagerState) (post : Post) (owed : ow
   first : is_first_server c.places c.number ≡ true
   first = (and_parts (is_first_server c.places c.number) (is_some (option_and_then earliest c.server)) owed).0
 
-  answer_may : (log : List Entry) → IsOpen MayStand c.system log → FollowsBuilt c.system log c → SentMayFollow c.system log (entry_of c.system log one)
+  answer_may : (log : List Entry) → IsOpen MayStand c.system log → Follows c.system log c → SentMayStand c.system log (entry_of c.system log one)
   answer_may log go f = record {
     stands = record {
       placed = (refl, refl, go.1);
@@ -85,27 +85,27 @@ module _ (c : ClusterView) (served : Option PagerState) (post : Post) (owed : ow
       applies = ap is_some (no_items c.system log (entry_of c.system log one) (λ k. refl)) ∙ plain_there MayStand (λ system log e may. may.stands) c.system log go.0;
       kind = page_holds c.system log a.was a.pid a.index a.bytes (subst (KeepsIfThere c.system log) a.old_is (f.accounts).keeps) a.waits a.page;
     };
-    built = refl;
+    of_kind = refl;
     limits = refl;
     new_page = refl;
     pages = refl;
   }
 
-  -- it is the cluster's own, and of a kind that is built
+  -- it is the cluster's own, and of a kind that clusters send
   pub answered_own : (is_from c.number post.by && true) ≡ true
   answered_own = ap (λ (p : Post). is_from c.number p.by && true) a.post_is ∙ ap (λ b. b && true) (eq-eqb (c.number).0 (c.number).0 refl)
 
-  pub answered_built : (is_sent post.what && true) ≡ true
-  answered_built = ap (λ (p : Post). is_sent p.what && true) a.post_is
+  pub answered_sent : (is_sent post.what && true) ≡ true
+  answered_sent = ap (λ (p : Post). is_sent p.what && true) a.post_is
 
   -- each process is held as before, with the answer queued
-  held_then : (log : List Entry) → c.queue ≡ [] → FollowsBuilt c.system log c → (q : Pid) (h : Held) → held_at c q ≡ Some h → IsHeldAs c.system log (post ∷ []) q h
+  held_then : (log : List Entry) → c.queue ≡ [] → Follows c.system log c → (q : Pid) (h : Held) → held_at c q ≡ Some h → IsHeldAs c.system log (post ∷ []) q h
   held_then log empty f q h there =
       let old : IsHeldAs c.system log [] q h = subst (λ queue. IsHeldAs c.system log queue q h) empty ((f.processes).held q h there) in
       subst (λ (p : Post). IsHeldAs c.system log (p ∷ []) q h) (sym a.post_is) (held_answered c.system log c.number a.pid a.index a.bytes q h old)
 
-  may_then : (log : List Entry) → IsOpen MayStand c.system log → FollowsBuilt c.system log c → SentMayFollow c.system log (entry_of c.system log post)
-  may_then log go f = subst (λ (p : Post). SentMayFollow c.system log (entry_of c.system log p)) (sym a.post_is) (answer_may log go f)
+  may_then : (log : List Entry) → IsOpen MayStand c.system log → Follows c.system log c → SentMayStand c.system log (entry_of c.system log post)
+  may_then log go f = subst (λ (p : Post). SentMayStand c.system log (entry_of c.system log p)) (sym a.post_is) (answer_may log go f)
 
   pub answered_goes_on : is_system c.system ≡ true → c.queue ≡ [] → GoesOn c (answered_view c served post)
   answered_goes_on valid empty log go f = record {
@@ -145,4 +145,4 @@ can_answer c valid f = by_server c.server ((f.follows).accounts).keeps
   where
     by_server : (o : Option PagerState) → KeepsIfThere c.system f.log o → CanAnswer o
     by_server None keeps = tt
-    by_server (Some s) keeps = earliest_is_kept c.system f.log s valid (built_stands c.system f.log (f.open_log).0) keeps
+    by_server (Some s) keeps = earliest_is_kept c.system f.log s valid (all_stand c.system f.log (f.open_log).0) keeps

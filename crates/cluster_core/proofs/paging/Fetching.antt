@@ -8,7 +8,7 @@ use Rattle.bus_msg.specs.declared.entry.Entry.{Entry}
 use Rattle.bus_msg.specs.Places.{same_pid}
 use Rattle.cert_sched.specs.Appended.{entry_of}
 use Rattle.cert_sched.specs.Legal.{MayStand}
-use Rattle.cluster_core.specs.Sent.{SentMayFollow}
+use Rattle.cluster_core.specs.Sent.{SentMayStand}
 use Rattle.cert_sched.specs.Losses.{is_from, least_steps}
 use Rattle.cert_sched.specs.Parts.{rising}
 use Rattle.cert_sched.specs.Schedule.{placement}
@@ -21,7 +21,7 @@ use Rattle.cluster_core.specs.declared.worked.Worked.TheVariants.{Queued}
 use Rattle.cluster_core.specs.View.{ClusterView, held_at, next_count}
 use Rattle.residents.specs.Held.{Held, Waits, asked_held, page_lacked}
 use Rattle.cluster_core.specs.Holds.{IsHeldAs, is_fetch_queued}
-use Rattle.cluster_core.specs.Follows.{FollowsBuilt, IsOpen}
+use Rattle.cluster_core.specs.Follows.{Follows, IsOpen}
 use Rattle.cluster_core.specs.Queue.{One}
 use Rattle.cluster_core.specs.Calls.{GoesOn, WorkIs}
 use Rattle.residents.specs.Changed.{with_changed}
@@ -79,7 +79,7 @@ module _ (c : ClusterView) (p : Pid) (index : ℕ) (waiting : WaitingState) (emp
           (refl, so_alike c.system log q none_queued (is_fetch_queued q (fetch_post c.number p index ∷ [])) w (λ i. sym (fetch_elsewhere c.number p q index i (turned p q other))) held.1)
       by_held _ held = held
 
-  module _ (valid : is_system c.system ≡ true) (log : List Entry) (go : IsOpen MayStand c.system log) (f : FollowsBuilt c.system log c) where
+  module _ (valid : is_system c.system ≡ true) (log : List Entry) (go : IsOpen MayStand c.system log) (f : Follows c.system log c) where
     -- it waits as the log says
     waits : WaitsAs c.system log p none_queued waiting
     waits = lacks_pages c.system log p none_queued waiting index (subst (λ queue. IsHeldAs c.system log queue p (Waits waiting)) empty ((f.processes).held p (Waits waiting) there)).1 next
@@ -89,7 +89,7 @@ module _ (c : ClusterView) (p : Pid) (index : ℕ) (waiting : WaitingState) (emp
     held_asked =
         (refl, so_alike c.system log p (λ i. eqb i index) (is_fetch_queued p (fetch_post c.number p index ∷ [])) (record waiting { asked = waiting.asked + 1 }) (fetch_queued c.number p index) (inl (next_asked c.system log p waiting waits index next)))
 
-    fetch_follows : SentMayFollow c.system log (entry_of c.system log (fetch_post c.number p index))
+    fetch_follows : SentMayStand c.system log (entry_of c.system log (fetch_post c.number p index))
     fetch_follows = record {
       stands = record {
         placed = (refl, refl, go.1);
@@ -99,13 +99,13 @@ module _ (c : ClusterView) (p : Pid) (index : ℕ) (waiting : WaitingState) (emp
         applies = ap is_some (no_items c.system log (entry_of c.system log (fetch_post c.number p index)) (λ k. refl)) ∙ plain_there MayStand (λ system log e may. may.stands) c.system log go.0;
         kind = next_fetch c.system log p waiting waits index next;
       };
-      built = refl;
+      of_kind = refl;
       limits = refl;
       new_page = refl;
       pages = refl;
     }
 
-    asked_follows : FollowsBuilt c.system log (record c { here = with_changed p asked c.here; queue = fetch_post c.number p index ∷ []; steps = next_count c.steps })
+    asked_follows : Follows c.system log (record c { here = with_changed p asked c.here; queue = fetch_post c.number p index ∷ []; steps = next_count c.steps })
     asked_follows = record {
       log = record { cursor = (f.log).cursor; places = (f.log).places };
       processes = record {
@@ -137,7 +137,7 @@ asked_goes_on c here p index valid empty backed asks log go f =
     let l = who_lacks asks.was index asks.lacks in
     let there : held_at c p ≡ Some (Waits l.waiting) = asks.there ∙ ap Some l.is in
     let same : with_changed p (asked_held (Waits l.waiting)) c.here ≡ here = ap (λ (h : Held). with_changed p (asked_held h) c.here) (sym l.is) ∙ sym asks.new_is in
-    subst (λ hs. FollowsBuilt c.system log (asked_view c hs p index)) same (asked_follows c p index l.waiting empty there l.next backed valid log go f)
+    subst (λ hs. Follows c.system log (asked_view c hs p index)) same (asked_follows c p index l.waiting empty there l.next backed valid log go f)
 
 pub asked_work : (c : ClusterView) (here : List (Pid × Held)) (p : Pid) (index : ℕ) → c.owed ≡ [] → owes_answer c.places c.number c.server ≡ false → AsksNext c.here here p index → WorkIs c Queued (asked_view c here p index)
 asked_work c here p index backed unowed asks = inr (inr (inl (backed, unowed, record { pid = p; index = index; asks = asks; rest = refl })))

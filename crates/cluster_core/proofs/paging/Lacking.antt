@@ -20,7 +20,7 @@ use Rattle.cert_sched.proofs.RisingLaws.{NoTwo}
 use Rattle.page_server.specs.Account.{PagerState}
 use Rattle.page_accounts.specs.Answering.{earliest}
 use Rattle.page_waits.specs.Waiting.{WaitingState, next_page}
-use Rattle.log_laws.proofs.records.Standing.{built_stands}
+use Rattle.log_laws.proofs.records.Standing.{all_stand}
 use Rattle.replay_laws.specs.pages.Waits.{WaitsAs, none_queued}
 use Rattle.replay_laws.proofs.pages.FetchesWait.{a_fetch_waits}
 use Rattle.log_laws.specs.births.Unsynced.{unsynced_births}
@@ -38,7 +38,7 @@ use Rattle.cluster_core.specs.Holds.{IsHeldAs, KeepsIfThere}
 use Rattle.cluster_core.specs.Calls.{OwesNoAnswer, OwesNothing, WaitsForPages, WorkIs}
 use Rattle.residents.specs.Asking.{any_lacks, any_waits}
 use Rattle.cluster_core.specs.Work.{is_first_server, owes_answer}
-use Rattle.cluster_core.specs.Follows.{FollowsBuilt, IsOpen}
+use Rattle.cluster_core.specs.Follows.{Follows, IsOpen}
 use Rattle.cluster_core.specs.ForksAgain.{has_to_bear}
 use Rattle.cluster_core.proofs.forks.ForksAgain.{bears_by}
 use Rattle.cluster_core.proofs.forks.ForksPaged.{among_unsynced}
@@ -127,9 +127,9 @@ waits_there here p is = by_found (held_of here p) refl is
     by_found (Some _) there is = absurd (true≢false (sym is))
 
 module _ (c : ClusterView) (valid : is_system c.system ≡ true) (empty : c.queue ≡ []) (own : AllOwn c.cursor c.here) (stuck : are_stuck (duty_of c) c.here ≡ true) (lacks : any_lacks c.here ≡ false) (log : List Entry)
-    (go : IsOpen MayStand c.system log) (f : FollowsBuilt c.system log c) where
+    (go : IsOpen MayStand c.system log) (f : Follows c.system log c) where
   legal : IsLegalBy Stands c.system log
-  legal = built_stands c.system log go.0
+  legal = all_stand c.system log go.0
 
   home : (p : Pid) (h : Held) → held_at c p ≡ Some h → HomeHere (placement c.system log) p c.number
   home p h there = home_of_it c p h empty there valid log go f

@@ -21,7 +21,7 @@ use Rattle.channel_table.specs.Changes.{pids_differ}
 use Rattle.cert_sched.specs.Account.{is_exit_of}
 use Rattle.cert_sched.specs.Appended.{entry_of}
 use Rattle.cert_sched.specs.Legal.{MayStand}
-use Rattle.cluster_core.specs.Sent.{SentMayFollow}
+use Rattle.cluster_core.specs.Sent.{SentMayStand}
 use Rattle.cert_sched.specs.Deeds.{is_cut}
 use Rattle.cert_sched.specs.Kinds.{FetchHolds, KindHolds, PageIsHolds}
 use Rattle.cert_sched.specs.Losses.{is_by_cluster, is_crash_of, is_from}
@@ -36,7 +36,7 @@ use Rattle.cert_sched.proofs.FreshLaws.{kept_elsewhere, put_here}
 use Rattle.cert_sched.proofs.LogLaws.{IsLegal-last, no_items, placement-snoc}
 use Rattle.cert_sched.proofs.ThereLaws.{plain_there}
 use Rattle.cert_sched.proofs.UnendedLaws.{loss_keeps, unended_map}
-use Rattle.log_laws.proofs.records.Standing.{built_stands}
+use Rattle.log_laws.proofs.records.Standing.{all_stand}
 use Rattle.log_laws.specs.pages.Next.{ends_wait_next, moves_next}
 use Rattle.log_laws.specs.pages.Waited.{is_waited}
 use Rattle.log_laws.proofs.pages.Keeping.{answer_kept, fetch_kept}
@@ -47,11 +47,11 @@ use Rattle.cluster_core.specs.Follows.{IsOpen}
 use Rattle.cluster_core.specs.Queue.{falls, is_moved_from}
 use Rattle.cluster_core.proofs.absorbing.ByKind.{by_page, is_of_page}
 use Rattle.cluster_core.proofs.paging.HasPages.{home_of_sender}
-use Rattle.cluster_core.proofs.losses.Homes.{HomeHere, differ_built, home_lives}
+use Rattle.cluster_core.proofs.losses.Homes.{HomeHere, pids_apart, home_lives}
 use Rattle.cluster_core.proofs.losses.HomesMoved.{stays_home}
 use Rattle.cert_sched.proofs.BirthClusters.{birth_servers}
 use Rattle.cluster_core.proofs.births.BirthHomes.{birth_home}
-use Rattle.cluster_core.proofs.losses.NotMoved.{by_built, home_not_moved, placed_not_moved}
+use Rattle.cluster_core.proofs.losses.NotMoved.{by_each, home_not_moved, placed_not_moved}
 use Rattle.cluster_core.proofs.losses.RenewedHomes.{home_renewed_here}
 use Rattle.cluster_core.proofs.losses.Asked.{servers_returned}
 use Rattle.cluster_core.proofs.syncs.SyncedHomes.{home_synced}
@@ -136,7 +136,7 @@ module _ (system : System) (valid : is_system system ≡ true) (log : List Entry
   may_e = IsLegal-last MayStand system log e next.0
 
   differ : pids_differ places.placed ≡ true
-  differ = differ_built system log valid now.0
+  differ = pids_apart system log valid now.0
 
   -- it does nothing of a process that is at home here
   not_its : (p r : Pid) → HomeHere places p k → is_by_home places (e.post).by (Some r) ≡ true → (b : Bool) → same_pid r p ≡ b → b ≡ false
@@ -153,7 +153,7 @@ module _ (system : System) (valid : is_system system ≡ true) (log : List Entry
   home_after : (p : Pid) → HomeHere places p k → HomeHere (placement system later) p k
   home_after p here =
       subst (λ places. HomeHere places p k) (sym (placement-snoc system log e))
-      (by_built (λ w. is_by_right places (e.post).by w ≡ true → is_crash_of k w ≡ false → HomeHere (placed_after places w) p k)
+      (by_each (λ w. is_by_right places (e.post).by w ≡ true → is_crash_of k w ≡ false → HomeHere (placed_after places w) p k)
       (λ at letter right away. here)
       (λ parent at child end right away. birth_home places child p k (placed_at places parent) here)
       (λ r at end right away. record { placed = here.placed; found = exit_elsewhere places r p at end (turned p.0 r.0 ∙ not_its p r here right (same_pid r p) refl) ∙ here.found; home = here.home })
@@ -164,34 +164,34 @@ module _ (system : System) (valid : is_system system ≡ true) (log : List Entry
         home = ap (λ h. same_cluster h k) (stays_home lost here.placed (ap (λ n. eqb n lost.0) (eqb-true ((here.placed).home).0 k.0 here.home) ∙ turned k.0 lost.0 ∙ away)) ∙ here.home;
       })
       (λ r at index bytes right away. here) (λ r small read took right away. home_synced places r p k small read took here) (λ to fresh recs right away. home_renewed_here places p k to fresh recs here)
-      (λ j right away. record { placed = here.placed; found = here.found; home = here.home }) (λ rests right away. here) (λ right away. here) (what e) may_e.built (may_e.stands).by_right away)
+      (λ j right away. record { placed = here.placed; found = here.found; home = here.home }) (λ rests right away. here) (λ right away. here) (what e) (may_e.stands).by_right away)
 
   -- it asks for no page of such a process
   no_fetch : (p : Pid) (i : ℕ) → HomeHere places p k → is_fetch p i (what e) ≡ false
   no_fetch p i here =
-      by_built (λ w. is_by_right places (e.post).by w ≡ true → is_fetch p i w ≡ false)
+      by_each (λ w. is_by_right places (e.post).by w ≡ true → is_fetch p i w ≡ false)
       (λ at letter right. refl) (λ parent at child end right. refl) (λ r at end right. refl) (λ r index right. ap (λ b. b && eqb index i) (not_its p r here right (same_pid r p) refl)) (λ r index bytes right. refl) (λ lost cause right. refl)
-      (λ r at index bytes right. refl) (λ r small read took right. refl) (λ to fresh recs right. refl) (λ j right. refl) (λ rests right. refl) (λ right. refl) (what e) may_e.built (may_e.stands).by_right
+      (λ r at index bytes right. refl) (λ r small read took right. refl) (λ to fresh recs right. refl) (λ j right. refl) (λ rests right. refl) (λ right. refl) (what e) (may_e.stands).by_right
 
   -- the first page server stays
   server_after : (by : By) → is_from k by ≡ true → is_by by (first_of (servers_in places)) ≡ true → is_by by (first_of (servers_in (placement system later))) ≡ true
   server_after by from is =
       ap (λ places. is_by by (first_of (servers_in places))) (placement-snoc system log e)
-      ∙ by_built (λ w. is_crash_of k w ≡ false → is_by by (first_of (servers_in (placed_after places w))) ≡ true)
-      (λ at letter away. is) (λ parent at child end away. ap (λ servers. is_by by (first_of servers)) (birth_servers places child (placed_at places parent)) ∙ is) (λ r at end away. is) (λ r index away. is) (λ r index bytes away. is) (λ lost cause away. server_after_loss places k lost cause by from away is) (λ r at index bytes away. is) (λ r small read took away. is) (λ to fresh recs away. is) (λ j away. ap (λ servers. is_by by (first_of servers)) (servers_returned places j) ∙ is) (λ rests away. is) (λ away. is) (what e) may_e.built away
+      ∙ by_each (λ w. is_crash_of k w ≡ false → is_by by (first_of (servers_in (placed_after places w))) ≡ true)
+      (λ at letter away. is) (λ parent at child end away. ap (λ servers. is_by by (first_of servers)) (birth_servers places child (placed_at places parent)) ∙ is) (λ r at end away. is) (λ r index away. is) (λ r index bytes away. is) (λ lost cause away. server_after_loss places k lost cause by from away is) (λ r at index bytes away. is) (λ r small read took away. is) (λ to fresh recs away. is) (λ j away. ap (λ servers. is_by by (first_of servers)) (servers_returned places j) ∙ is) (λ rests away. is) (λ away. is) (what e) away
 
   -- where that is this cluster, it is no answer
   no_answer : (by : By) (p : Pid) (i : ℕ) → is_from k by ≡ true → is_by by (first_of (servers_in places)) ≡ true → is_page_is p i (what e) ≡ false
   no_answer by p i from is =
-      by_built (λ w. is_by_right places (e.post).by w ≡ true → is_page_is p i w ≡ false)
+      by_each (λ w. is_by_right places (e.post).by w ≡ true → is_page_is p i w ≡ false)
       (λ at letter right. refl) (λ parent at child end right. refl) (λ r at end right. refl) (λ r index right. refl) (λ r index bytes right. absurd (true≢false (sym (same_sender k by (e.post).by (first_of (servers_in places)) is right from) ∙ foreign)))
-      (λ lost cause right. refl) (λ r at index bytes right. refl) (λ r small read took right. refl) (λ to fresh recs right. refl) (λ j right. refl) (λ rests right. refl) (λ right. refl) (what e) may_e.built (may_e.stands).by_right
+      (λ lost cause right. refl) (λ r at index bytes right. refl) (λ r small read took right. refl) (λ to fresh recs right. refl) (λ j right. refl) (λ rests right. refl) (λ right. refl) (what e) (may_e.stands).by_right
 
   -- it is no exit of a process that lacks a page
   no_exit : (p : Pid) → has_its_pages system log p ≡ false → is_exit_of p (what e) ≡ false
   no_exit p lacks =
-      by_built (λ w. holds_of (awaits_pages w) (process_of w) (has_its_pages system log) ≡ true → is_exit_of p w ≡ false)
-      (λ at letter has. refl) (λ parent at child end has. refl) (λ r at end has. by_pid r has (same_pid r p) refl) (λ r index has. refl) (λ r index bytes has. refl) (λ lost cause has. refl) (λ r at index bytes has. refl) (λ r small read took has. refl) (λ to fresh recs has. refl) (λ j has. refl) (λ rests has. refl) (λ has. refl) (what e) may_e.built may_e.pages
+      by_each (λ w. holds_of (awaits_pages w) (process_of w) (has_its_pages system log) ≡ true → is_exit_of p w ≡ false)
+      (λ at letter has. refl) (λ parent at child end has. refl) (λ r at end has. by_pid r has (same_pid r p) refl) (λ r index has. refl) (λ r index bytes has. refl) (λ lost cause has. refl) (λ r at index bytes has. refl) (λ r small read took has. refl) (λ to fresh recs has. refl) (λ j has. refl) (λ rests has. refl) (λ has. refl) (what e) may_e.pages
     where
       by_pid : (r : Pid) → has_its_pages system log r ≡ true → (b : Bool) → same_pid r p ≡ b → b ≡ false
       by_pid r has true same =
@@ -209,7 +209,7 @@ module _ (system : System) (valid : is_system system ≡ true) (log : List Entry
 
   -- a wait goes on for which this cluster has the answer, unless its process is moved
   wait_stays : (by : By) (p : Pid) (i : ℕ) → is_from k by ≡ true → is_by by (first_of (servers_in places)) ≡ true → is_waited system log p i ≡ true → moves_next system log e p ≡ false → ends_wait_next system log e p i ≡ false
-  wait_stays by p i from is waited stays = λ j. no_answer by p i from is j || no_exit p (waited_has_not system log p i (built_stands system log now.0) waited) j || stays j
+  wait_stays by p i from is waited stays = λ j. no_answer by p i from is j || no_exit p (waited_has_not system log p i (all_stand system log now.0) waited) j || stays j
 
   -- a process that it does not move from where it is placed it does not move
   not_moved : (p : Pid) → option_map_or (is_moved_from places p) (cluster_lost (what e)) false ≡ false → moves_next system log e p ≡ false
@@ -219,11 +219,11 @@ module _ (system : System) (valid : is_system system ≡ true) (log : List Entry
       by_loss None stays = refl
       by_loss (Some lost) stays = placed_not_moved places p lost differ stays
 
-  module _ (post : Post) (from : is_from k post.by ≡ true) (may : SentMayFollow system log (entry_of system log post)) where
+  module _ (post : Post) (from : is_from k post.by ≡ true) (may : SentMayStand system log (entry_of system log post)) where
     applies_later : ((kernel : Kernel) → items_of kernel post.what ≡ []) → is_some (plain_after system (later ++ entry_of system later post ∷ [])) ≡ true
     applies_later none = ap is_some (no_items system later (entry_of system later post) none) ∙ plain_there MayStand (λ system log e may. may.stands) system later next.0
 
-    fetch_stays : (p : Pid) (i : ℕ) → post.what ≡ Fetch p i → SentMayFollow system later (entry_of system later post)
+    fetch_stays : (p : Pid) (i : ℕ) → post.what ≡ Fetch p i → SentMayStand system later (entry_of system later post)
     fetch_stays p i is = record {
       stands = record {
         placed = (refl, refl, next.1);
@@ -231,7 +231,7 @@ module _ (system : System) (valid : is_system system ≡ true) (log : List Entry
         applies = applies_later (λ kernel. ap (items_of kernel) is);
         kind = subst (KindHolds system later (entry_of system later post)) (sym is) (fetch_kept system log e p i may_e.stands (no_fetch p i here) (home_not_moved system log e p k differ here away) holds);
       };
-      built = may.built;
+      of_kind = may.of_kind;
       limits = ap (λ w. holds_of (is_limited w) (process_of w) (is_within_limits system later w)) is;
       new_page = ap (is_new_page system later) is;
       pages = ap (λ w. holds_of (awaits_pages w) (process_of w) (has_its_pages system later)) is;
@@ -246,16 +246,16 @@ module _ (system : System) (valid : is_system system ≡ true) (log : List Entry
         holds : FetchHolds system log p i
         holds = subst (KindHolds system log (entry_of system log post)) is (may.stands).kind
 
-    page_is_stays : (p : Pid) (i : ℕ) (bytes : List ℕ) → post.what ≡ PageIs p i bytes → falls places (what e) post.what ≡ false → SentMayFollow system later (entry_of system later post)
+    page_is_stays : (p : Pid) (i : ℕ) (bytes : List ℕ) → post.what ≡ PageIs p i bytes → falls places (what e) post.what ≡ false → SentMayStand system later (entry_of system later post)
     page_is_stays p i bytes is unfallen = record {
       stands = record {
         placed = (refl, refl, next.1);
         by_right = ap (is_by_right (placement system later) post.by) is ∙ server_after post.by from server;
         applies = applies_later (λ kernel. ap (items_of kernel) is);
         kind = subst (KindHolds system later (entry_of system later post)) (sym is)
-            (answer_kept system log e p i bytes (no_cut p (waited_has_not system log p i (built_stands system log now.0) waited)) (wait_stays post.by p i from server waited (not_moved p (sym (ap (falls places (what e)) is) ∙ unfallen))) holds);
+            (answer_kept system log e p i bytes (no_cut p (waited_has_not system log p i (all_stand system log now.0) waited)) (wait_stays post.by p i from server waited (not_moved p (sym (ap (falls places (what e)) is) ∙ unfallen))) holds);
       };
-      built = may.built;
+      of_kind = may.of_kind;
       limits = ap (λ w. holds_of (is_limited w) (process_of w) (is_within_limits system later w)) is;
       new_page = ap (is_new_page system later) is;
       pages = ap (λ w. holds_of (awaits_pages w) (process_of w) (has_its_pages system later)) is;
@@ -272,8 +272,8 @@ module _ (system : System) (valid : is_system system ≡ true) (log : List Entry
 
 -- a queued fetch or answer of a cluster may follow after an entry of another, unless it falls
 pub page_post_stays : (system : System) → is_system system ≡ true → (log : List Entry) (e : Entry) (k : ClusterNo) (post : Post) → IsOpen MayStand system log → IsOpen MayStand system (log ++ e ∷ []) → is_by_cluster k e ≡ false
-    → is_crash_of k (what e) ≡ false → is_from k post.by ≡ true → is_of_page post.what ≡ true → falls (placement system log) (what e) post.what ≡ false → SentMayFollow system log (entry_of system log post)
-    → SentMayFollow system (log ++ e ∷ []) (entry_of system (log ++ e ∷ []) post)
+    → is_crash_of k (what e) ≡ false → is_from k post.by ≡ true → is_of_page post.what ≡ true → falls (placement system log) (what e) post.what ≡ false → SentMayStand system log (entry_of system log post)
+    → SentMayStand system (log ++ e ∷ []) (entry_of system (log ++ e ∷ []) post)
 page_post_stays system valid log e k post now next foreign away from of unfallen may =
-    by_page (λ w. post.what ≡ w → SentMayFollow system (log ++ e ∷ []) (entry_of system (log ++ e ∷ []) post))
+    by_page (λ w. post.what ≡ w → SentMayStand system (log ++ e ∷ []) (entry_of system (log ++ e ∷ []) post))
     (λ p i is. fetch_stays system valid log e k now next foreign away post from may p i is) (λ p i bytes is. page_is_stays system valid log e k now next foreign away post from may p i bytes is unfallen) post.what of refl

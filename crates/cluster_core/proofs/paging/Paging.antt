@@ -17,8 +17,8 @@ use Rattle.bus_msg.specs.Places.{Places, unended_at, same_pid}
 use Rattle.bus_msg.specs.PlacedAfter.{what, placed_after}
 use Rattle.cert_sched.specs.Appended.{entry_of}
 use Rattle.cert_sched.specs.Legal.{MayStand}
-use Rattle.cluster_core.specs.Sent.{TellingMayFollow}
-use Rattle.cluster_core.specs.Sent.{SentMayFollow}
+use Rattle.cluster_core.specs.Sent.{TellingMayStand}
+use Rattle.cluster_core.specs.Sent.{SentMayStand}
 use Rattle.cert_sched.specs.Deeds.{deeds_in, is_cut, letter_for, is_birth_of, starts}
 use Rattle.cert_sched.specs.Losses.{is_by_cluster, is_from, is_crash_of}
 use Rattle.cert_sched.specs.Parts.{rising}
@@ -29,10 +29,10 @@ use Rattle.cert_sched.proofs.LogLaws.{IsLegal-last, placement-snoc}
 use Rattle.backup_records.specs.Records.{records_after}
 use Rattle.log_laws.specs.records.Kept.{KeepsRecords, changes_in_place}
 use Rattle.log_laws.proofs.records.KeptLaws.{records_kept}
-use Rattle.log_laws.proofs.records.Standing.{built_stands}
+use Rattle.log_laws.proofs.records.Standing.{all_stand}
 use Rattle.replay_laws.specs.rolling.Behind.{RollsBehind}
 use Rattle.replay_laws.proofs.rolling.KeepingBehind.{behind_standing}
-use Rattle.replay_laws.proofs.rolling.ByRule.{built_stands as standing}
+use Rattle.replay_laws.proofs.rolling.ByRule.{standing}
 use Rattle.cluster_core.specs.Families.{family_after}
 use Rattle.cluster_core.specs.Owed.{HoldsOwed, owed_after}
 use Rattle.cluster_core.proofs.awaiting.OwedNext.{owed_next}
@@ -42,14 +42,14 @@ use Rattle.residents.specs.Residents.{pids_in}
 use Rattle.cluster_core.specs.Queue.{AreTogether, Queued, Nothing, One, posts_of, IsQueueLegal, move_of, state_by, state_now, with_queue}
 use Rattle.cluster_core.specs.Recovered.{left_by, moved_by, with_all_waiting}
 use Rattle.cluster_core.specs.Holds.{IsHeldAs, is_fetch_queued, process_in, CarriesMarks, MarkedIfThere, unended_process, HoldsLimits}
-use Rattle.cluster_core.specs.Follows.{FollowsBuilt, IsOpen}
+use Rattle.cluster_core.specs.Follows.{Follows, IsOpen}
 use Rattle.cluster_core.specs.Calls.{with_entry, here_after}
 use Rattle.cluster_core.proofs.births.FamilyNext.{family_next}
 use Rattle.cluster_core.proofs.absorbing.ByKind.{by_page, is_of_page, lone_is, may_told, told_may}
 use Rattle.cluster_core.proofs.here.Beside.{FollowsBeside, HeldOf, WaitsAs, any_of, one_of_them, told_waits, waits_as}
 use Rattle.cluster_core.proofs.here.Here.{is_among}
 use Rattle.residents.proofs.Changing.{pid_same}
-use Rattle.cluster_core.proofs.losses.Homes.{HomeHere, differ_built, home_here, pids_home}
+use Rattle.cluster_core.proofs.losses.Homes.{HomeHere, pids_apart, home_here, pids_home}
 use Rattle.cluster_core.proofs.absorbing.Telling.{Telling, telling}
 use Rattle.cluster_core.proofs.absorbing.Counted.{lost_before}
 use Rattle.cluster_core.proofs.absorbing.Fallen.{page_stays_queued}
@@ -85,7 +85,7 @@ use Rattle.page_waits.specs.Begun.{begun}
 use Rattle.roll_forward.specs.RunsOut.{nothing_left}
 use Rattle.std.specs.Option.{option_map_or}
 use Rattle.cluster_core.proofs.here.Within.{start_within}
-use Rattle.cert_sched.proofs.BuiltCuts.{by_home_there}
+use Rattle.cert_sched.proofs.CutLaws.{by_home_there}
 use Rattle.cluster_core.proofs.working.KeptLimits.{told_within}
 use Rattle.checkpoint_laws.proofs.limits.StayingLimits.{sent_stays}
 use Rattle.cluster_core.specs.Standing.{has_begun}
@@ -149,7 +149,7 @@ module _ (system : System) (valid : is_system system ≡ true) (log : List Entry
   places_same = placement-snoc system log e ∙ by_page (λ w. placed_after (placement system log) w ≡ placement system log) (λ pid index. refl) (λ pid index bytes. refl) (what e) of
 
   differ : pids_differ (placement system log).placed ≡ true
-  differ = differ_built system log valid now.0
+  differ = pids_apart system log valid now.0
 
   unended_later : (p : Pid) → IsUnended system log p → IsUnended system later p
   unended_later p unended = ap (λ (places : Places). is_some (unended_at places p)) places_same ∙ unended
@@ -164,14 +164,14 @@ module _ (system : System) (valid : is_system system ≡ true) (log : List Entry
   -- ---- the queue
 
   -- a post of the cluster that tells may follow after it
-  post_stays : (k : ClusterNo) (post : Post) → is_from k post.by ≡ true → TellingMayFollow system log (entry_of system log post) → TellingMayFollow system later (entry_of system later post)
+  post_stays : (k : ClusterNo) (post : Post) → is_from k post.by ≡ true → TellingMayStand system log (entry_of system log post) → TellingMayStand system later (entry_of system later post)
   post_stays k post own may =
-      post_may system later post u.pid u.at u.emission u.after next.0 next.1 may.built u.tells (emission_same system log e none u.pid u.at ∙ u.is) (ap (λ (places : Places). is_by_home places post.by (Some u.pid)) places_same ∙ u.by_home) keeps
-      (waits_after system log e k post valid now.0 (IsLegal-last MayStand system log e next.0).stands differ (loses_none k) may.built (ap (is_by_home (placement system log) post.by) u.process ∙ u.by_home) own may.pages)
-      (may_end_still system log e (entry_of system log post) u.pid u.at u.emission post.what valid (built_stands system log now.0) (IsLegal-last MayStand system log e next.0).stands (by_page (λ w. deeds_in u.pid w ≡ []) (λ pid index. refl) (λ pid index bytes. refl) (what e) of) u.tells (may.stands).kind)
+      post_may system later post u.pid u.at u.emission u.after next.0 next.1 may.of_kind u.tells (emission_same system log e none u.pid u.at ∙ u.is) (ap (λ (places : Places). is_by_home places post.by (Some u.pid)) places_same ∙ u.by_home) keeps
+      (waits_after system log e k post valid now.0 (IsLegal-last MayStand system log e next.0).stands differ (loses_none k) may.of_kind (ap (is_by_home (placement system log) post.by) u.process ∙ u.by_home) own may.pages)
+      (may_end_still system log e (entry_of system log post) u.pid u.at u.emission post.what valid (all_stand system log now.0) (IsLegal-last MayStand system log e next.0).stands (by_page (λ w. deeds_in u.pid w ≡ []) (λ pid index. refl) (λ pid index bytes. refl) (what e) of) u.tells (may.stands).kind)
     where
       u : Telling system log (entry_of system log post)
-      u = telling system log (entry_of system log post) may (no_end k (placement system log) post.by post.what may.built own (may.stands).by_right)
+      u = telling system log (entry_of system log post) may (no_end k (placement system log) post.by post.what may.of_kind own (may.stands).by_right)
 
       no_letter : all_delivered u.after (letter_for u.pid (what e)) ≡ u.after
       no_letter = by_page (λ w. all_delivered u.after (letter_for u.pid w) ≡ u.after) (λ pid index. refl) (λ pid index bytes. refl) (what e) of
@@ -182,17 +182,17 @@ module _ (system : System) (valid : is_system system ≡ true) (log : List Entry
       keeps : keeps_limits system later u.pid u.after ≡ true
       keeps =
           subst (λ s. keeps_limits system later u.pid s ≡ true) no_letter
-          (sent_stays system log e u.pid u.at u.emission u.after valid (built_stands system log now.0) (by_home_there (placement system log) post.by u.pid u.by_home) quiet u.is
+          (sent_stays system log e u.pid u.at u.emission u.after valid (all_stand system log now.0) (by_home_there (placement system log) post.by u.pid u.by_home) quiet u.is
           (told_within system log u.pid u.at u.emission u.after u.is post.what u.tells may.limits))
 
-  queue_stays : (k : ClusterNo) (q : Queued) → AreTogether q → is_by_cluster k e ≡ false → list_all (λ (post : Post). is_from k post.by) (posts_of q) ≡ true → IsQueueLegal SentMayFollow system log (posts_of q) → IsQueueLegal SentMayFollow system later (posts_of q)
+  queue_stays : (k : ClusterNo) (q : Queued) → AreTogether q → is_by_cluster k e ≡ false → list_all (λ (post : Post). is_from k post.by) (posts_of q) ≡ true → IsQueueLegal SentMayStand system log (posts_of q) → IsQueueLegal SentMayStand system later (posts_of q)
   queue_stays k Nothing together foreign own legal = tt
   queue_stays k (One post) together foreign own legal = (by_kind_of (lone_is post.what together), tt)
     where
       from : is_from k post.by ≡ true
       from = (and_parts (is_from k post.by) true own).0
 
-      by_kind_of : (tells_or_closes post.what ≡ true) ⊎ (is_of_page post.what ≡ true) → SentMayFollow system later (entry_of system later post)
+      by_kind_of : (tells_or_closes post.what ≡ true) ⊎ (is_of_page post.what ≡ true) → SentMayStand system later (entry_of system later post)
       by_kind_of (inl tells) = may_told system later (entry_of system later post) (post_stays k post from (told_may system log (entry_of system log post) legal.0 tells))
       by_kind_of (inr page) = page_post_stays system valid log e k post now next foreign (loses_none k) from page (page_stays_queued (placement system log) (what e) post.what page no_loss) legal.0
 
@@ -331,7 +331,7 @@ module _ (system : System) (valid : is_system system ≡ true) (log : List Entry
   records_stay : (k : ClusterNo) (recs : List BackRec) → KeepsRecords system log k recs → KeepsRecords system later k recs
   records_stay k recs keeps =
       subst (KeepsRecords system later k) (by_page (λ w. records_after k w recs ≡ recs) (λ pid index. refl) (λ pid index bytes. refl) (what e) of)
-      (records_kept system log e k recs valid (built_stands system later next.0) (by_page (λ w. changes_in_place w ≡ true) (λ pid index. refl) (λ pid index bytes. refl) (what e) of) keeps)
+      (records_kept system log e k recs valid (all_stand system later next.0) (by_page (λ w. changes_in_place w ≡ true) (λ pid index. refl) (λ pid index bytes. refl) (what e) of) keeps)
 
   once_stays : (k : ClusterNo) (here : List (Pid × Held)) → rising (pids_in here) ≡ rising (home_pids system log k) → rising (pids_in (here_after (what e) here)) ≡ rising (home_pids system later k)
   once_stays k here once = ap rising (pids_paged (what e) here of) ∙ once ∙ ap (λ (places : Places). rising (pids_home k places.placed)) (sym places_same)
@@ -406,11 +406,11 @@ module _ (system : System) (valid : is_system system ≡ true) (log : List Entry
       posts_own : list_all (λ (post : Post). is_from c.number post.by) (posts_of q) ≡ true
       posts_own = subst (λ ps. list_all (λ (post : Post). is_from c.number post.by) ps ≡ true) queue_is (f.queue).own
 
-      posts_legal : IsQueueLegal SentMayFollow system log (posts_of q)
-      posts_legal = subst (IsQueueLegal SentMayFollow system log) queue_is (f.queue).legal
+      posts_legal : IsQueueLegal SentMayStand system log (posts_of q)
+      posts_legal = subst (IsQueueLegal SentMayStand system log) queue_is (f.queue).legal
 
-      legal_still : IsQueueLegal SentMayFollow system later c.queue
-      legal_still = subst (IsQueueLegal SentMayFollow system later) (sym queue_is) (queue_stays c.number q (f.queued).together foreign posts_own posts_legal)
+      legal_still : IsQueueLegal SentMayStand system later c.queue
+      legal_still = subst (IsQueueLegal SentMayStand system later) (sym queue_is) (queue_stays c.number q (f.queued).together foreign posts_own posts_legal)
 
       held : (p : Pid) (h : Held) → held_of (here_after (what e) c.here) p ≡ Some h → HeldOf which system later c.queue p h
       held p h at =
@@ -429,7 +429,7 @@ module _ (system : System) (valid : is_system system ≡ true) (log : List Entry
           let comes : MarkedIfThere CarriesMarks system later p (unended_process before.was) → MarkedIfThere CarriesMarks system later p (unended_process h) =
           λ m. subst (λ x. MarkedIfThere CarriesMarks system later p (unended_process x)) (sym before.same) (paged_marked (posts_of q) p before.was unended was m) in
           subst (λ ps. MarkedIfThere CarriesMarks system (with_queue system later ps) p (unended_process h)) (sym queue_is)
-          (marked_after system log e p q before.was h valid (built_stands system later next.0) unended (unended_later p unended) (f.queued).together
+          (marked_after system log e p q before.was h valid (all_stand system later next.0) unended (unended_later p unended) (f.queued).together
           (queue_tells system log c.number q posts_own posts_legal) (queue_tells system later c.number q posts_own (queue_stays c.number q (f.queued).together foreign posts_own posts_legal))
           was (subst (λ ps. IsHeldAs system later ps p h) queue_is (one_of_them which system later c.queue p h among (held p h at))) (page_leaves system log p (what e) of) no_exit comes
           (subst (λ ps. MarkedIfThere CarriesMarks system (with_queue system log ps) p (unended_process before.was)) queue_is (f.marks p before.was before.there among)))
@@ -448,8 +448,8 @@ module _ (system : System) (valid : is_system system ≡ true) (log : List Entry
           backups_after c.number c.queue p before.was h (home_of c.number c.here p before.was once before.there) (waits_as which system log c.queue p before.was ((f.processes).held p before.was before.there)) before.same
           (f.backups p before.was before.there)
 
-  pub follows_own_page : (c : ClusterView) (l : Left c log e) (server : Option PagerState) → system ≡ c.system → Serves (placement system log) e c.server server → FollowsBuilt system later (with_server server (with_entry c e))
-  follows_own_page c l server system_is serves = subst (λ v. FollowsBuilt system later (with_server server v)) (sym (page_taken c e of)) (record {
+  pub follows_own_page : (c : ClusterView) (l : Left c log e) (server : Option PagerState) → system ≡ c.system → Serves (placement system log) e c.server server → Follows system later (with_server server (with_entry c e))
+  follows_own_page c l server system_is serves = subst (λ v. Follows system later (with_server server v)) (sym (page_taken c e of)) (record {
     log = record {
       cursor = ap (λ m. m + 1) (ap (λ (d : ClusterView). d.cursor) l.same ∙ (f.log).cursor) ∙ sym (length-append log (e ∷ []));
       places = places_after c.places (ap (λ (d : ClusterView). d.places) l.same ∙ (f.log).places);
@@ -457,7 +457,7 @@ module _ (system : System) (valid : is_system system ≡ true) (log : List Entry
     processes = record { held = λ p h at. subst (λ ps. IsHeldAs system later ps p h) (sym empty) (held p h at); each_once = once_stays c.number c.here once };
     queue = record {
       own = ap (λ ps. list_all (λ (post : Post). is_from c.number post.by) ps) empty;
-      legal = subst (IsQueueLegal SentMayFollow system later) (sym empty) tt;
+      legal = subst (IsQueueLegal SentMayStand system later) (sym empty) tt;
     };
     queued = inl (record { queued = Nothing; posts = empty; together = tt });
     steps = record { counted = counted_left c log e l };
@@ -474,8 +474,8 @@ module _ (system : System) (valid : is_system system ≡ true) (log : List Entry
     disk = (ap (λ (d : ClusterView). d.failed) l.same ∙ (f.disk).0, ahead_after (placement system log) e c.server server serves (subst IsAheadThere (sym (ap (λ (d : ClusterView). d.server) l.same)) (f.disk).1));
   })
     where
-      f : FollowsBuilt system log l.before
-      f = subst (λ s. FollowsBuilt s log l.before) (sym system_is) l.followed
+      f : Follows system log l.before
+      f = subst (λ s. Follows s log l.before) (sym system_is) l.followed
 
       empty : c.queue ≡ []
       empty = ap (λ (d : ClusterView). d.queue) l.same

@@ -42,7 +42,7 @@ use Rattle.cert_sched.specs.Legal.{IsLegalBy, MayStand}
 use Rattle.cluster_core.specs.Follows.{IsOpen}
 use Rattle.roll_forward.specs.Rolling.{RollingState}
 use Rattle.replay_laws.specs.rolling.Behind.{RollsBehind}
-use Rattle.replay_laws.proofs.rolling.ByRule.{built_silent}
+use Rattle.replay_laws.proofs.rolling.ByRule.{stand_silent}
 use Rattle.cert_sched.specs.Rules.{has_its_pages, tells_or_closes}
 use Rattle.roll_forward.specs.RunsOut.{nothing_left}
 use Rattle.std.specs.Option.{option_map_or}
@@ -138,7 +138,7 @@ pages_come system log e queue p i bytes waiting valid next unended after is none
     still = page_entry system log e p (is_fetch_queued p queue) waiting valid next.0 i bytes is waits unended
 
     by_left : (r : RollingState) → RollsBehind system later p (state_of r.process) r.counts r.births → (b : Bool) → nothing_left r.counts r.births ≡ b → IsHeldAs system later queue p (cond b (Runs r.process) (Rolls r.process r.counts r.births))
-    by_left r behind true left = ap (state_by system later p ((r.process).small).steps) none ∙ built_silent system later p (state_of r.process) r.counts r.births valid next.0 next.1 after behind left
+    by_left r behind true left = ap (state_by system later p ((r.process).small).steps) none ∙ stand_silent system later p (state_of r.process) r.counts r.births valid next.0 next.1 after behind left
     by_left r behind false left = (none, behind)
 
     by_whole : (b : Bool) → is_whole now ≡ b → IsHeldAs system later queue p (cond b (option_map_or rolling_held (rolling_of now) (Waits now)) (Waits now))

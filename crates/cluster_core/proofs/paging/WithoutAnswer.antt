@@ -7,12 +7,12 @@ use Rattle.sys_text.specs.Valid.{is_system}
 use Rattle.bus_msg.specs.declared.entry.Entry.{Entry}
 use Rattle.bus_msg.specs.declared.entry.Post.{Post}
 use Rattle.cert_sched.specs.Legal.{MayStand}
-use Rattle.cluster_core.specs.Sent.{SentMayFollow}
+use Rattle.cluster_core.specs.Sent.{SentMayStand}
 use Rattle.cert_sched.specs.Losses.{capped, is_from, least_calls}
 use Rattle.cert_sched.specs.Schedule.{placement}
 use Rattle.cert_sched.specs.Simulation.{IsUnended}
-use Rattle.log_laws.proofs.records.Standing.{built_stands}
-use Rattle.cluster_core.specs.Follows.{FollowsBuilt, IsOpen}
+use Rattle.log_laws.proofs.records.Standing.{all_stand}
+use Rattle.cluster_core.specs.Follows.{Follows, IsOpen}
 use Rattle.cluster_core.specs.Holds.{CarriesMarks, IsHeldAs, MarkedIfThere, unended_process}
 use Rattle.cert_sched.specs.Moved.{is_fetch}
 use Rattle.cluster_core.specs.Queue.{IsQueueLegal, Nothing, One, is_lone, is_rebackup, move_of, with_queue}
@@ -24,7 +24,7 @@ use Rattle.cluster_core.proofs.absorbing.Fallen.{IsComing}
 use Rattle.cluster_core.proofs.absorbing.Served.{IsPlain, least_queued}
 use Rattle.cluster_core.proofs.here.Beside.{FollowsBeside, all_of, any_of}
 use Rattle.cluster_core.proofs.here.Here.{is_among}
-use Rattle.cluster_core.proofs.losses.Homes.{differ_built, home_here}
+use Rattle.cluster_core.proofs.losses.Homes.{pids_apart, home_here}
 use Rattle.cluster_core.proofs.syncs.Batching.{held_alike, unqueued}
 use Rattle.cluster_core.proofs.syncs.Marking.{marked_unqueued, queue_tells}
 
@@ -35,7 +35,7 @@ module _ (system : System) (log : List Entry) (c : ClusterView) (post : Post) (p
   plain : IsPlain (One post)
   plain = ap is_rebackup kind.same
 
-  pub without_answer : FollowsBuilt system log c → FollowsBeside all_of system log (unqueued c)
+  pub without_answer : Follows system log c → FollowsBeside all_of system log (unqueued c)
   without_answer f = record {
     log = record { cursor = (f.log).cursor; places = (f.log).places };
     processes = record { held = λ q h there. any_of all_of system log [] q h (held q h there); each_once = (f.processes).each_once };
@@ -57,8 +57,8 @@ module _ (system : System) (log : List Entry) (c : ClusterView) (post : Post) (p
       own : list_all (λ (post : Post). is_from c.number post.by) (post ∷ []) ≡ true
       own = subst (λ ps. list_all (λ (post : Post). is_from c.number post.by) ps ≡ true) posts (f.queue).own
 
-      legal : IsQueueLegal SentMayFollow system log (post ∷ [])
-      legal = subst (IsQueueLegal SentMayFollow system log) posts (f.queue).legal
+      legal : IsQueueLegal SentMayStand system log (post ∷ [])
+      legal = subst (IsQueueLegal SentMayStand system log) posts (f.queue).legal
 
       was : (q : Pid) (h : Held) → held_at c q ≡ Some h → IsHeldAs system log (post ∷ []) q h
       was q h there = subst (λ ps. IsHeldAs system log ps q h) posts ((f.processes).held q h there)
@@ -69,8 +69,8 @@ module _ (system : System) (log : List Entry) (c : ClusterView) (post : Post) (p
 
       marks : (q : Pid) (h : Held) → held_at c q ≡ Some h → MarkedIfThere CarriesMarks system log q (unended_process h)
       marks q h there =
-          let unended : IsUnended system log q = ap is_some (home_here (placement system log) c.number (pids_in c.here) q (differ_built system log valid open_log.0) (f.processes).each_once (is_among c.here q h there)).found in
-          marked_unqueued system log q valid (built_stands system log open_log.0) unended (One post) h lone (queue_tells system log c.number (One post) own legal) (was q h there)
+          let unended : IsUnended system log q = ap is_some (home_here (placement system log) c.number (pids_in c.here) q (pids_apart system log valid open_log.0) (f.processes).each_once (is_among c.here q h there)).found in
+          marked_unqueued system log q valid (all_stand system log open_log.0) unended (One post) h lone (queue_tells system log c.number (One post) own legal) (was q h there)
           (subst (λ ps. MarkedIfThere CarriesMarks system (with_queue system log ps) q (unended_process h)) posts (f.marks q h there))
 
       calls : capped (least_calls system log (with_queue system log c.queue) c.number) ≤ disk_calls c → capped (least_calls system log log c.number) ≤ disk_calls c

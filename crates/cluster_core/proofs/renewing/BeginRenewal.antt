@@ -22,7 +22,7 @@ use Rattle.cert_sched.specs.Steps.{silent_upto}
 use Rattle.cert_sched.specs.Legal.{IsLegalBy, Stands, MayStand}
 use Rattle.cert_sched.specs.Losses.{capped, is_from, least_calls, least_steps}
 use Rattle.cert_sched.specs.Rules.{has_its_pages}
-use Rattle.log_laws.proofs.records.Standing.{built_stands}
+use Rattle.log_laws.proofs.records.Standing.{all_stand}
 use Rattle.sync_point.specs.Batch.{marked_pages, page_post}
 use Rattle.checkpoint_laws.specs.posts.Running.{RunsMarked}
 use Rattle.checkpoint_laws.specs.posts.Sending.{MaySend}
@@ -35,7 +35,7 @@ use Rattle.residents.specs.Residents.{pids_in}
 use Rattle.residents.specs.Changed.{with_changed}
 use Rattle.residents.proofs.Changing.{FoundChanged, changed_there, found_changed, pids_changed}
 use Rattle.cluster_core.specs.Calls.{GoesOn}
-use Rattle.cluster_core.specs.Follows.{FollowsBuilt, IsOpen}
+use Rattle.cluster_core.specs.Follows.{Follows, IsOpen}
 use Rattle.cluster_core.specs.Holds.{CarriesMarks, IsHeldAs, MarkedIfThere, unended_process}
 use Rattle.cluster_core.specs.Parts.{AllOwn, IsOwn}
 use Rattle.cluster_core.specs.Queue.{Nothing, with_queue}
@@ -47,7 +47,7 @@ use Rattle.cluster_core.proofs.forks.ForksAgain.{forks_changed, run_forks}
 use Rattle.cluster_core.proofs.here.Beside.{FollowsBeside, HeldOf, any_of}
 use Rattle.cluster_core.proofs.here.Here.{is_among}
 use Rattle.cluster_core.proofs.here.Within.{carried, own_within, runs_marked}
-use Rattle.cluster_core.proofs.losses.Homes.{HomeHere, differ_built, home_here, home_lives}
+use Rattle.cluster_core.proofs.losses.Homes.{HomeHere, pids_apart, home_here, home_lives}
 use Rattle.cluster_core.proofs.renewing.Renewing.{with_renewal}
 use Rattle.cluster_core.proofs.syncs.Batching.{all_but, unqueued}
 use Rattle.cluster_core.proofs.working.Working.{backups_beside, home_by, limits_beside, more_counted, pages_beside, turned}
@@ -68,8 +68,8 @@ pub renewal_own : (k : ClusterNo) (process : Process) (to : ClusterNo) → list_
 renewal_own k process to = each_post (λ (post : Post). is_from k post.by) process to k (marked_pages process) (λ i. eq-eqb k.0 k.0 refl) (eq-eqb k.0 k.0 refl)
 
 -- They are of kinds that clusters send.
-pub renewal_built : (process : Process) (to k : ClusterNo) → list_all (λ (post : Post). is_sent post.what) (renewal process to k) ≡ true
-renewal_built process to k = each_post (λ (post : Post). is_sent post.what) process to k (marked_pages process) (λ i. refl) refl
+pub renewal_sent : (process : Process) (to k : ClusterNo) → list_all (λ (post : Post). is_sent post.what) (renewal process to k) ≡ true
+renewal_sent process to k = each_post (λ (post : Post). is_sent post.what) process to k (marked_pages process) (λ i. refl) refl
 
 -- A process without its marks stands under its own pid as before.
 pub own_cleared : (cursor : ℕ) (pid : Pid) (process : Process) → IsOwn cursor pid process → IsOwn cursor pid (cleared process)
@@ -78,9 +78,9 @@ own_cleared cursor pid process own = record { pid_is = own.pid_is; arrived = own
 -- ---- a process that runs in a cluster that follows a log, where nothing is queued, that is to get this backup, and whose children synchronised
 
 module _ (c : ClusterView) (p : Pid) (process : Process) (to : ClusterNo) (valid : is_system c.system ≡ true) (empty : c.queue ≡ []) (there : held_at c p ≡ Some (Runs process))
-    (owed : next_backup_at c.places p ≡ Some to) (childless : first_unsynced c.family p ≡ None) (log : List Entry) (go : IsOpen MayStand c.system log) (f : FollowsBuilt c.system log c) where
+    (owed : next_backup_at c.places p ≡ Some to) (childless : first_unsynced c.family p ≡ None) (log : List Entry) (go : IsOpen MayStand c.system log) (f : Follows c.system log c) where
   legal : IsLegalBy Stands c.system log
-  legal = built_stands c.system log go.0
+  legal = all_stand c.system log go.0
 
   held_so : (q : Pid) (h : Held) → held_at c q ≡ Some h → IsHeldAs c.system log [] q h
   held_so q h at = subst (λ ps. IsHeldAs c.system log ps q h) empty ((f.processes).held q h at)
@@ -89,7 +89,7 @@ module _ (c : ClusterView) (p : Pid) (process : Process) (to : ClusterNo) (valid
   marked_so q h at = subst (λ ps. MarkedIfThere CarriesMarks c.system (with_queue c.system log ps) q (unended_process h)) empty (f.marks q h at)
 
   home : HomeHere (placement c.system log) p c.number
-  home = home_here (placement c.system log) c.number (pids_in c.here) p (differ_built c.system log valid go.0) (f.processes).each_once (is_among c.here p (Runs process) there)
+  home = home_here (placement c.system log) c.number (pids_in c.here) p (pids_apart c.system log valid go.0) (f.processes).each_once (is_among c.here p (Runs process) there)
 
   reached : silent_upto c.system log p (process.small).steps ≡ Some (state_of process)
   reached = held_so p (Runs process) there
@@ -177,7 +177,7 @@ module _ (c : ClusterView) (p : Pid) (process : Process) (to : ClusterNo) (valid
     disk = f.disk;
   }
 
-  follows_renewal : FollowsBuilt c.system log new
+  follows_renewal : Follows c.system log new
   unfolding renews
   follows_renewal = with_renewal c.system log new renews valid go beside carries.sent
 

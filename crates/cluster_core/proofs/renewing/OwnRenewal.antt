@@ -30,7 +30,7 @@ use Rattle.cert_sched.proofs.LogLaws.{IsLegal-last, placement-snoc}
 use Rattle.cert_sched.proofs.MadeLaws.{apart_from}
 use Rattle.cert_sched.proofs.StepLaws.{done_after-other, process_after-beside, process_after-silent}
 use Rattle.log_laws.proofs.records.KeptLaws.{records_kept}
-use Rattle.log_laws.proofs.records.Standing.{built_stands}
+use Rattle.log_laws.proofs.records.Standing.{all_stand}
 use Rattle.checkpoint_laws.specs.posts.Marked.{arrived_below}
 use Rattle.checkpoint_laws.specs.batches.Underway.{PagesMay, page_left}
 use Rattle.checkpoint_laws.proofs.batches.PageSent.{pages_sent}
@@ -46,7 +46,7 @@ use Rattle.residents.specs.Held.{Held, IsHeldWithin, Runs, Waits, held_of, renew
 use Rattle.residents.specs.Residents.{pids_in}
 use Rattle.residents.proofs.Changing.{pid_same}
 use Rattle.cluster_core.specs.Calls.{absorbed, with_entry}
-use Rattle.cluster_core.specs.Follows.{FollowsBuilt, IsOpen, StandsBetween}
+use Rattle.cluster_core.specs.Follows.{Follows, IsOpen, StandsBetween}
 use Rattle.cluster_core.specs.Holds.{CarriesMarks, IsHeldAs, MarkedIfThere, process_in, unended_process}
 use Rattle.cluster_core.specs.Parts.{AllOwn}
 use Rattle.cluster_core.specs.Queue.{Nothing}
@@ -68,7 +68,7 @@ use Rattle.cluster_core.proofs.forks.ForksAgain.{SameForks, forks_kept, forks_re
 use Rattle.cluster_core.proofs.here.Beside.{FollowsBeside, one_of_them}
 use Rattle.cluster_core.proofs.here.Here.{is_among}
 use Rattle.cluster_core.proofs.here.Owning.{own_at}
-use Rattle.cluster_core.proofs.losses.Homes.{HomeHere, differ_built, home_here}
+use Rattle.cluster_core.proofs.losses.Homes.{HomeHere, pids_apart, home_here}
 use Rattle.cluster_core.proofs.paging.HasPages.{pages_after}
 use Rattle.cluster_core.proofs.renewing.RenewalPosts.{renewal_falls, renewal_fetches_none, renewal_moves_other, renewal_state}
 use Rattle.cluster_core.proofs.renewing.Renewing.{sent_there, with_renewal, without_renewal}
@@ -158,7 +158,7 @@ it_or_other p process here there q h at = by_pid (same_pid p q) refl
 
 -- ---- the new backup in the log
 
-module _ (system : System) (valid : is_system system ≡ true) (log : List Entry) (b : ClusterView) (f : FollowsBuilt system log b) (tried : b.tried ≡ true)
+module _ (system : System) (valid : is_system system ≡ true) (log : List Entry) (b : ClusterView) (f : Follows system log b) (tried : b.tried ≡ true)
     (y : Renews system log b) (to : ClusterNo) (may : PagesMay system log b.number y.pid (state_of y.process) []) (own : AllOwn b.cursor (with_renewed y.pid b.here)) (now : IsOpen MayStand system log)
     (next : IsOpen MayStand system (log ++ entry_of system log (fresh_post b.number to y.pid (state_of y.process)) ∷ [])) where
   abbrev p : Pid
@@ -193,10 +193,10 @@ module _ (system : System) (valid : is_system system ≡ true) (log : List Entry
   stands = (IsLegal-last MayStand system log e next.0).stands
 
   legal : IsLegalBy Stands system log
-  legal = built_stands system log now.0
+  legal = all_stand system log now.0
 
   differ : pids_differ places.placed ≡ true
-  differ = differ_built system log valid now.0
+  differ = pids_apart system log valid now.0
 
   reached : process_after system later p ≡ Some s
   reached = process_after-silent system log e p (s.small).steps s (may.may).reached (λ k. refl)
@@ -305,7 +305,7 @@ module _ (system : System) (valid : is_system system ≡ true) (log : List Entry
 
   -- ---- the whole
 
-  pub follows_fresh : (server : Option PagerState) → Serves places e b.server server → FollowsBuilt system later (with_server server (passed counted_anew e))
+  pub follows_fresh : (server : Option PagerState) → Serves places e b.server server → Follows system later (with_server server (passed counted_anew e))
   follows_fresh server serves = record {
     log = record {
       cursor = ap (λ m. m + 1) (f.log).cursor ∙ sym (length-append log (e ∷ []));
@@ -324,7 +324,7 @@ module _ (system : System) (valid : is_system system ≡ true) (log : List Entry
     forks = forks_renewed to true (renewed_record p s ∷ []) b.family (with_renewed p b.here)
         (forks_kept b.family b.family b.here (with_renewed p b.here) (λ parent child born. born)
         (λ q h at. let w = was_there q h at in record { was = w.was; there = w.there; same = w.forks }) f.forks);
-    records = records_kept system log e b.number b.records valid (built_stands system later next.0) refl f.records;
+    records = records_kept system log e b.number b.records valid (all_stand system later next.0) refl f.records;
     accounts = accounts_next system log e (unqueued b) (with_server server (passed counted_anew e)) Nothing refl serves refl refl refl tt beside.accounts;
     disk = ((f.disk).0, ahead_after places e b.server server serves (f.disk).1);
   }
@@ -351,8 +351,8 @@ counts_page system log k p s i process counts =
 abbrev paged : ClusterView → Pid → ProcState → List ℕ → ClusterView
 paged b p s indices = record b { queue = renewing_left b.number None p s indices }
 
-pages_queued : (system : System) (log : List Entry) (b : ClusterView) → is_system system ≡ true → IsOpen MayStand system log → FollowsBuilt system log b → (y : Renews system log b)
-    → FollowsBuilt system log (paged b y.pid (state_of y.process) y.indices)
+pages_queued : (system : System) (log : List Entry) (b : ClusterView) → is_system system ≡ true → IsOpen MayStand system log → Follows system log b → (y : Renews system log b)
+    → Follows system log (paged b y.pid (state_of y.process) y.indices)
 pages_queued system log b valid now f y =
     with_renewal system log (paged b y.pid (state_of y.process) y.indices)
     (record {
@@ -372,7 +372,7 @@ pages_queued system log b valid now f y =
     (without_renewal system log b y valid now f) (sent_there system log b y valid now f)
 
 module _ (system : System) (log : List Entry) (b : ClusterView) (i : ℕ) (indices : List ℕ) (valid : is_system system ≡ true) (tried : b.tried ≡ true)
-    (own : AllOwn b.cursor b.here) (now : IsOpen MayStand system log) (f : FollowsBuilt system log b) (y : Renews system log b)
+    (own : AllOwn b.cursor b.here) (now : IsOpen MayStand system log) (f : Follows system log b) (y : Renews system log b)
     (is : y.indices ≡ i ∷ indices) (next : IsOpen MayStand system (log ++ entry_of system log (page_left b.number y.pid (state_of y.process) i) ∷ [])) where
   abbrev k : ClusterNo
   k = b.number
@@ -396,9 +396,9 @@ module _ (system : System) (log : List Entry) (b : ClusterView) (i : ℕ) (indic
   sent = pages_sent system log k at of i indices (subst (PagesMay system log k at of) is y.may)
 
   -- the rest is left once the head was taken in
-  pub page_follows : (server : Option PagerState) → Serves (placement system log) page b.server server → FollowsBuilt system with_page (with_server server (passed (left b rest) page))
+  pub page_follows : (server : Option PagerState) → Serves (placement system log) page b.server server → Follows system with_page (with_server server (passed (left b rest) page))
   page_follows server serves =
-      follows_head system valid log (paged b at of (i ∷ indices)) (subst (λ js. FollowsBuilt system log (paged b at of js)) is (pages_queued system log b valid now f y))
+      follows_head system valid log (paged b at of (i ∷ indices)) (subst (λ js. Follows system log (paged b at of js)) is (pages_queued system log b valid now f y))
       tried own at y.process y.there (page_left k at of i) rest refl refl refl now next server serves
       (renewing_aside k None at of (i ∷ indices)) (renewing_aside k None at of indices) (renewal_state k None at of system with_page indices (sent.may).reached)
       (inr (inr (inr (inr (record {
@@ -420,8 +420,8 @@ module _ (system : System) (log : List Entry) (b : ClusterView) (i : ℕ) (indic
 -- After the entry that its head became, a cluster follows the log with it: it has the rest of the pages to send, or nothing once that was the new backup.
 pub follows_own_renewal : (c : ClusterView) (log : List Entry) (e : Entry) (server : Option PagerState) → is_system c.system ≡ true
     → AllOwn c.cursor c.here → IsOpen MayStand c.system log → IsOpen MayStand c.system (log ++ e ∷ [])
-    → (s : StandsBetween FollowsBuilt c.system log e c) → Renews c.system log s.before → Serves (placement c.system log) e c.server server
-    → FollowsBuilt c.system (log ++ e ∷ []) (with_server server (absorbed c e))
+    → (s : StandsBetween Follows c.system log e c) → Renews c.system log s.before → Serves (placement c.system log) e c.server server
+    → Follows c.system (log ++ e ∷ []) (with_server server (absorbed c e))
 follows_own_renewal c log e server valid own now next s y serves = by_form y.to y.indices y.posts refl refl
   where
     system : System
@@ -436,11 +436,11 @@ follows_own_renewal c log e server valid own now next s y serves = by_form y.to 
     -- it is what the head left, and its entry is the one that the head became
     from_head : (head : Post) (rest : List Post) (v : ClusterView) → b.queue ≡ head ∷ rest → after_sent b (head ∷ rest) ≡ v
         → (AllOwn v.cursor v.here → IsOpen MayStand system (log ++ entry_of system log head ∷ []) → Serves (placement system log) (entry_of system log head) v.server server
-        → FollowsBuilt system (log ++ entry_of system log head ∷ []) (with_server server (absorbed v (entry_of system log head))))
-        → FollowsBuilt system (log ++ e ∷ []) (with_server server (absorbed c e))
+        → Follows system (log ++ entry_of system log head ∷ []) (with_server server (absorbed v (entry_of system log head))))
+        → Follows system (log ++ e ∷ []) (with_server server (absorbed c e))
     from_head head rest v posts sent follows =
-        subst (λ x. FollowsBuilt system (log ++ x ∷ []) (with_server server (absorbed c x))) whole
-        (subst (λ v. FollowsBuilt system (log ++ entry_of system log head ∷ []) (with_server server (absorbed v (entry_of system log head)))) (sym same)
+        subst (λ x. Follows system (log ++ x ∷ []) (with_server server (absorbed c x))) whole
+        (subst (λ v. Follows system (log ++ entry_of system log head ∷ []) (with_server server (absorbed v (entry_of system log head)))) (sym same)
         (follows (subst (λ (v : ClusterView). AllOwn v.cursor v.here) same own) (subst (λ x. IsOpen MayStand system (log ++ x ∷ [])) (sym whole) next)
         (subst (λ x. Serves (placement system log) x v.server server) (sym whole) (subst (λ (v : ClusterView). Serves (placement system log) e v.server server) same serves))))
       where
@@ -451,7 +451,7 @@ follows_own_renewal c log e server valid own now next s y serves = by_form y.to 
         same = s.sent ∙ ap (after_sent b) posts ∙ sent
 
     by_form : (to : Option ClusterNo) (indices : List ℕ) → b.queue ≡ renewing_left b.number to y.pid state indices → y.to ≡ to → y.indices ≡ indices
-        → FollowsBuilt system (log ++ e ∷ []) (with_server server (absorbed c e))
+        → Follows system (log ++ e ∷ []) (with_server server (absorbed c e))
     by_form None [] posts goes is = let none : ◌≡◌ {A = Option Entry} None (Some e) = ap (λ ps. option_map (entry_of system log) (head_of ps)) (sym posts) ∙ s.head in cc
     by_form (Some to) [] posts goes is = from_head (fresh_post b.number to y.pid state) [] v posts refl follows
       where
@@ -462,9 +462,9 @@ follows_own_renewal c log e server valid own now next s y serves = by_form y.to 
         v = record b { here = with_renewed y.pid b.here; queue = []; tried = false }
 
         follows : AllOwn v.cursor v.here → IsOpen MayStand system (log ++ x ∷ []) → Serves (placement system log) x v.server server
-            → FollowsBuilt system (log ++ x ∷ []) (with_server server (absorbed v x))
+            → Follows system (log ++ x ∷ []) (with_server server (absorbed v x))
         follows own next serves =
-            subst (λ v. FollowsBuilt system (log ++ x ∷ []) (with_server server v)) (sym (renewal_taken v x to true (renewed_record y.pid state ∷ []) refl))
+            subst (λ v. Follows system (log ++ x ∷ []) (with_server server v)) (sym (renewal_taken v x to true (renewed_record y.pid state ∷ []) refl))
             (follows_fresh system valid log b s.followed s.tried y to (subst (PagesMay system log b.number y.pid state) is y.may) own now next server serves)
     by_form to (i ∷ indices) posts goes is = from_head (page_left b.number y.pid state i) (renewing_left b.number to y.pid state indices) v posts refl follows
       where
@@ -482,6 +482,6 @@ follows_own_renewal c log e server valid own now next s y serves = by_form y.to 
         taken = ap (λ ps. record (with_entry v x) { queue = ps }) (renewal_falls b.number to y.pid state b.places (what x) indices) ∙ sync_taken (left b rest) x refl
 
         follows : AllOwn v.cursor v.here → IsOpen MayStand system (log ++ x ∷ []) → Serves (placement system log) x v.server server
-            → FollowsBuilt system (log ++ x ∷ []) (with_server server (absorbed v x))
+            → Follows system (log ++ x ∷ []) (with_server server (absorbed v x))
         follows own next serves =
-            subst (λ v. FollowsBuilt system (log ++ x ∷ []) (with_server server v)) (sym taken) (page_follows system log b i indices valid s.tried own now s.followed y is next server serves)
+            subst (λ v. Follows system (log ++ x ∷ []) (with_server server v)) (sym taken) (page_follows system log b i indices valid s.tried own now s.followed y is next server serves)

@@ -37,7 +37,7 @@ use Rattle.backup_mode.specs.Posts.{fresh_post}
 use Rattle.backup_laws.specs.Posts.{CountsFrom}
 use Rattle.backup_laws.proofs.RenewalMarks.{pages_marked}
 use Rattle.backup_laws.proofs.RenewalStands.{pages_are_new, pages_keep_limits, pages_stand, renewal_is_new, renewal_keeps_limits, renewal_stands}
-use Rattle.cluster_core.specs.Sent.{SentMayFollow}
+use Rattle.cluster_core.specs.Sent.{SentMayStand}
 use Rattle.cluster_core.specs.Queue.{IsQueueLegal, left_queued, move_of, state_by, state_now, with_queue}
 use Rattle.cluster_core.specs.View.{ClusterView, head_of}
 use Rattle.cluster_core.specs.Holds.{CarriesMarks, MarkedIfThere, is_fetch_queued}
@@ -129,21 +129,21 @@ module _ (k : ClusterNo) (to : Option ClusterNo) (p : Pid) (s : ProcState) where
         renewal_calls heard (log ++ entry_of system log (page_left k p s i) ∷ []) j js ∙ calls_still k p s [] None system heard log (entry_of system log (page_left k p s i)) j refl
 
     -- the posts of a process that has its pages may follow where they stand, are new and keep the limits
-    legal_so : (log : List Entry) (indices : List ℕ) → has_its_pages system log p ≡ true → AllStand system log (posts indices) → AllNew system log (posts indices) → AllKeepLimits system log (posts indices) → IsQueueLegal SentMayFollow system log (posts indices)
+    legal_so : (log : List Entry) (indices : List ℕ) → has_its_pages system log p ≡ true → AllStand system log (posts indices) → AllNew system log (posts indices) → AllKeepLimits system log (posts indices) → IsQueueLegal SentMayStand system log (posts indices)
     legal_so log [] has stand new keep = by_fresh to stand new keep
       where
-        by_fresh : (o : Option ClusterNo) → AllStand system log (fresh_left k o p s) → AllNew system log (fresh_left k o p s) → AllKeepLimits system log (fresh_left k o p s) → IsQueueLegal SentMayFollow system log (fresh_left k o p s)
+        by_fresh : (o : Option ClusterNo) → AllStand system log (fresh_left k o p s) → AllNew system log (fresh_left k o p s) → AllKeepLimits system log (fresh_left k o p s) → IsQueueLegal SentMayStand system log (fresh_left k o p s)
         by_fresh None stand new keep = tt
-        by_fresh (Some j) stand new keep = (record { stands = stand.0; built = refl; limits = keep.0; new_page = new.0; pages = has }, tt)
+        by_fresh (Some j) stand new keep = (record { stands = stand.0; of_kind = refl; limits = keep.0; new_page = new.0; pages = has }, tt)
     legal_so log (i ∷ js) has stand new keep =
         let e : Entry = entry_of system log (page_left k p s i) in (
-          record { stands = stand.0; built = refl; limits = keep.0; new_page = new.0; pages = has },
+          record { stands = stand.0; of_kind = refl; limits = keep.0; new_page = new.0; pages = has },
           legal_so (log ++ e ∷ []) js (has_pages_still system log e p stand.0 refl (moves_none system log e refl p) has) stand.1 new.1 keep.1,
         )
 
     -- The posts of a process that has its pages and is within its limits may follow, one after the other, where its new backup is the one that it is to get.
     pub renewal_legal : (log : List Entry) (indices : List ℕ) → is_system system ≡ true → IsLegalBy Stands system log → has_its_pages system log p ≡ true → keeps_limits system log p s ≡ true → PagesMay system log k p s indices
-        → IfSome to (λ j. next_backup_at (placement system log) p ≡ Some j) → IsQueueLegal SentMayFollow system log (posts indices)
+        → IfSome to (λ j. next_backup_at (placement system log) p ≡ Some j) → IsQueueLegal SentMayStand system log (posts indices)
     renewal_legal log indices valid legal has within may owed = legal_so log indices has (stand to owed) (new to) (keep to)
       where
         bare : map (page_left k p s) indices ++ [] ≡ map (page_left k p s) indices

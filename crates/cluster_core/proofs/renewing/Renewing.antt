@@ -20,9 +20,9 @@ use Rattle.checkpoint_laws.specs.marks.Sent.{SentUpto}
 use Rattle.checkpoint_laws.specs.posts.Batched.{log_with}
 use Rattle.checkpoint_laws.specs.batches.Underway.{page_left}
 use Rattle.checkpoint_laws.proofs.batches.QueuedBatch.{pages_sent_before}
-use Rattle.log_laws.proofs.records.Standing.{built_stands}
+use Rattle.log_laws.proofs.records.Standing.{all_stand}
 use Rattle.std.proofs.lemmas.List.{append-nil}
-use Rattle.cluster_core.specs.Sent.{SentMayFollow}
+use Rattle.cluster_core.specs.Sent.{SentMayStand}
 use Rattle.cluster_core.specs.View.{ClusterView, disk_calls, held_at}
 use Rattle.residents.specs.Held.{Held, Runs}
 use Rattle.residents.specs.Residents.{pids_in}
@@ -30,11 +30,11 @@ use Rattle.residents.proofs.Changing.{pid_same}
 use Rattle.cluster_core.specs.Queue.{Nothing, IsQueueLegal, with_queue}
 use Rattle.cluster_core.specs.Holds.{CarriesMarks, IsHeldAs, MarkedIfThere, unended_process}
 use Rattle.cluster_core.specs.Renewing.{Renews, renewing_left}
-use Rattle.cluster_core.specs.Follows.{FollowsBuilt, IsOpen}
+use Rattle.cluster_core.specs.Follows.{Follows, IsOpen}
 use Rattle.cluster_core.proofs.renewing.RenewalPosts.{renewal_calls, renewal_fetches_none, renewal_legal, renewal_log, renewal_marks_before, renewal_marks_others, renewal_marks_own, renewal_moves_other, renewal_own, renewal_state}
 use Rattle.cluster_core.proofs.here.Beside.{FollowsBeside, HeldOf, any_of, one_of_them}
 use Rattle.cluster_core.proofs.here.Here.{is_among}
-use Rattle.cluster_core.proofs.losses.Homes.{differ_built, home_here}
+use Rattle.cluster_core.proofs.losses.Homes.{pids_apart, home_here}
 use Rattle.cluster_core.proofs.syncs.Batching.{all_but, arrived_low, held_alike, unqueued}
 
 module _ (system : System) (log : List Entry) (c : ClusterView) (y : Renews system log c) (valid : is_system system ≡ true) (open_log : IsOpen MayStand system log) where
@@ -48,7 +48,7 @@ module _ (system : System) (log : List Entry) (c : ClusterView) (y : Renews syst
   posts = renewing_left c.number y.to p s y.indices
 
   legal : IsLegalBy Stands system log
-  legal = built_stands system log open_log.0
+  legal = all_stand system log open_log.0
 
   -- one that is held at its pid is the process
   mine : (q : Pid) (h : Held) → same_pid p q ≡ true → held_at c q ≡ Some h → h ≡ Runs y.process
@@ -57,14 +57,14 @@ module _ (system : System) (log : List Entry) (c : ClusterView) (y : Renews syst
       cc
 
   unended_of : (q : Pid) (h : Held) → rising (pids_in c.here) ≡ rising (home_pids system log c.number) → held_at c q ≡ Some h → IsUnended system log q
-  unended_of q h once there = ap is_some (home_here (placement system log) c.number (pids_in c.here) q (differ_built system log valid open_log.0) once (is_among c.here q h there)).found
+  unended_of q h once there = ap is_some (home_here (placement system log) c.number (pids_in c.here) q (pids_apart system log valid open_log.0) once (is_among c.here q h there)).found
 
   calls : least_calls system log (with_queue system log c.queue) c.number ≡ least_calls system log log c.number
   calls = ap (λ ps. least_calls system log (with_queue system log ps) c.number) y.posts ∙ renewal_calls c.number y.to p s system log log c.number y.indices
 
   -- ---- beside the posts
 
-  pub without_renewal : FollowsBuilt system log c → FollowsBeside (all_but p) system log (unqueued c)
+  pub without_renewal : Follows system log c → FollowsBeside (all_but p) system log (unqueued c)
   without_renewal f = record {
     log = record { cursor = (f.log).cursor; places = (f.log).places };
     processes = record { held = held; each_once = (f.processes).each_once };
@@ -107,7 +107,7 @@ module _ (system : System) (log : List Entry) (c : ClusterView) (y : Renews syst
           not_it false is = refl
 
   -- of no later step than its own was a page of the process sent
-  pub sent_there : FollowsBuilt system log c → SentUpto system log p ((y.process).small).steps
+  pub sent_there : Follows system log c → SentUpto system log p ((y.process).small).steps
   sent_there f =
       let m : MarkedIfThere CarriesMarks system (with_queue system log posts) p (unended_process (Runs y.process)) = subst (λ ps. MarkedIfThere CarriesMarks system (with_queue system log ps) p (unended_process (Runs y.process))) y.posts (f.marks p (Runs y.process) y.there) in
       let there : CarriesMarks system (with_queue system log posts) p y.process = subst (λ b. MarkedIfThere CarriesMarks system (with_queue system log posts) p (cond b None (Some y.process))) (y.may).runs m in
@@ -116,13 +116,13 @@ module _ (system : System) (log : List Entry) (c : ClusterView) (y : Renews syst
 
   -- ---- with them
 
-  pub with_renewal : FollowsBeside (all_but p) system log (unqueued c) → SentUpto system log p ((y.process).small).steps → FollowsBuilt system log c
+  pub with_renewal : FollowsBeside (all_but p) system log (unqueued c) → SentUpto system log p ((y.process).small).steps → Follows system log c
   with_renewal f sent = record {
     log = record { cursor = (f.log).cursor; places = (f.log).places };
     processes = record { held = held; each_once = (f.processes).each_once };
     queue = record {
       own = ap (λ ps. list_all_own ps) y.posts ∙ renewal_own c.number y.to p s y.indices;
-      legal = subst (IsQueueLegal SentMayFollow system log) (sym y.posts) (renewal_legal c.number y.to p s system log y.indices valid legal (f.pages p (Runs y.process) y.there refl) y.within y.may y.owed);
+      legal = subst (IsQueueLegal SentMayStand system log) (sym y.posts) (renewal_legal c.number y.to p s system log y.indices valid legal (f.pages p (Runs y.process) y.there refl) y.within y.may y.owed);
     };
     queued = inr (inr (inr (inr y)));
     steps = record { counted = (f.steps).counted };

@@ -26,11 +26,11 @@ use Rattle.cert_sched.specs.Rules.{home_at, is_by_home, keeps_limits}
 use Rattle.cert_sched.specs.Schedule.{placement}
 use Rattle.cert_sched.specs.Simulation.{IsUnended}
 use Rattle.cert_sched.specs.Steps.{numbers_read, saved_of, start_steps}
-use Rattle.cert_sched.proofs.BuiltCuts.{by_home_there}
+use Rattle.cert_sched.proofs.CutLaws.{by_home_there}
 use Rattle.cert_sched.proofs.LogLaws.{IsLegal-last}
 use Rattle.cert_sched.proofs.RisingLaws.{rising-any}
 use Rattle.log_laws.proofs.letters.RollingReads.{silent_next}
-use Rattle.log_laws.proofs.records.Standing.{built_stands}
+use Rattle.log_laws.proofs.records.Standing.{all_stand}
 use Rattle.checkpoint_laws.specs.marks.Sent.{SentUpto}
 use Rattle.checkpoint_laws.specs.posts.Marked.{arrived_below}
 use Rattle.checkpoint_laws.proofs.marks.LetterMarks.{letter_kept}
@@ -46,11 +46,11 @@ use Rattle.residents.specs.Held.{Held, Runs, held_of}
 use Rattle.residents.specs.Residents.{pids_in}
 use Rattle.cluster_core.specs.View.{ClusterView, held_at}
 use Rattle.cluster_core.specs.Renewing.{Renews, renewing_left}
-use Rattle.cluster_core.specs.Follows.{FollowsBuilt, IsOpen}
+use Rattle.cluster_core.specs.Follows.{Follows, IsOpen}
 use Rattle.cluster_core.proofs.here.Beside.{FollowsBeside}
 use Rattle.cluster_core.proofs.here.Here.{is_among}
 use Rattle.cluster_core.proofs.losses.HeldAtHome.{held_there, home_found, home_listed}
-use Rattle.cluster_core.proofs.losses.Homes.{HomeHere, differ_built, home_here, home_lives}
+use Rattle.cluster_core.proofs.losses.Homes.{HomeHere, pids_apart, home_here, home_lives}
 use Rattle.cluster_core.proofs.renewing.Renewing.{sent_there, with_renewal}
 use Rattle.cluster_core.proofs.syncs.Batching.{all_but, unqueued}
 use Rattle.cluster_core.proofs.syncs.Marking.{not_later}
@@ -92,7 +92,7 @@ counts_told system log p letters process now read since state counts = record {
 
 module _ (c : ClusterView) (log : List Entry) (e : Entry) (y : Renews c.system log c) (valid : is_system c.system ≡ true)
     (now : IsOpen MayStand c.system log) (next : IsOpen MayStand c.system (log ++ e ∷ []))
-    (f : FollowsBuilt c.system log c) (foreign : is_by_cluster c.number e ≡ false) where
+    (f : Follows c.system log c) (foreign : is_by_cluster c.number e ≡ false) where
   abbrev later : List Entry
   later = log ++ e ∷ []
 
@@ -103,12 +103,12 @@ module _ (c : ClusterView) (log : List Entry) (e : Entry) (y : Renews c.system l
   s = state_of y.process
 
   pub home_now : HomeHere (placement c.system log) p c.number
-  home_now = home_here (placement c.system log) c.number (pids_in c.here) p (differ_built c.system log valid now.0) (f.processes).each_once (is_among c.here p (Runs y.process) y.there)
+  home_now = home_here (placement c.system log) c.number (pids_in c.here) p (pids_apart c.system log valid now.0) (f.processes).each_once (is_among c.here p (Runs y.process) y.there)
 
   -- Beside the posts the cluster follows the log with the entry, by which the process neither moved nor changed but for letters that came: then it does so with the pages that are left.
   pub stays_renewing : (new : ClusterView) → new.system ≡ c.system → new.number ≡ c.number → new.queue ≡ renewing_left c.number None p s y.indices
       → FollowsBeside (all_but p) c.system later (unqueued new) → home_at (placement c.system later) p ≡ home_at (placement c.system log) p
-      → ((h : Held) → held_at new p ≡ Some h → RunsStill (letter_for p (what e)) y.process h) → FollowsBuilt c.system later new
+      → ((h : Held) → held_at new p ≡ Some h → RunsStill (letter_for p (what e)) y.process h) → Follows c.system later new
   stays_renewing new system_is number queue beside same_home stays = with_renewal c.system later new still valid next beside sent_still
     where
       home_then : HomeHere (placement c.system later) p c.number
@@ -138,7 +138,7 @@ module _ (c : ClusterView) (log : List Entry) (e : Entry) (y : Renews c.system l
       stands = (IsLegal-last MayStand c.system log e next.0).stands
 
       legal : IsLegalBy Stands c.system log
-      legal = built_stands c.system log now.0
+      legal = all_stand c.system log now.0
 
       between : ComesBetween c.system log e c.number p
       between = others_between c.system log e c.number p valid legal stands foreign (by_home_of log now home_now) next.1 (by_home_of later next home_then)

@@ -15,7 +15,7 @@ use Rattle.cert_sched.specs.Simulation.{IsUnended}
 use Rattle.cert_sched.proofs.ThereLaws.{unended_there}
 use Rattle.log_laws.proofs.records.Standing.{legal_stands}
 use Rattle.replay_laws.specs.rolling.Behind.{RollsBehind}
-use Rattle.replay_laws.proofs.rolling.ByRule.{built_caught_up, standing_behind}
+use Rattle.replay_laws.proofs.rolling.ByRule.{stand_caught_up, standing_behind}
 use Rattle.replay_laws.proofs.rolling.Reaching.{led_unended}
 use Rattle.replay_laws.proofs.rolling.Stepping.{went_on}
 use Rattle.residents.specs.Held.{Held, Runs, Rolls, Waits}
@@ -66,6 +66,6 @@ module _ (system : System) (log : List Entry) (p : Pid) (valid : is_system syste
       let on = rolls.2 in
       let behind = standing_behind system log p (n + 0) n (going s counts births) (going q left unborn) valid stands unended held.1 on.runs_out (omega arith) on.rolled in
       let none = none_left n (going s counts births) (going q left unborn) held.1 on.runs_out on.rolled in
-      at_once system log p (state_of q) (built_caught_up system log p (state_of q) left unborn valid open_log.0 open_log.1 unended behind none)
+      at_once system log p (state_of q) (stand_caught_up system log p (state_of q) left unborn valid open_log.0 open_log.1 unended behind none)
   rolled_held n (Rolls s counts births) (Waits waiting) held rolls = absurd rolls
   rolled_held n (Waits waiting) between held rolls = absurd rolls

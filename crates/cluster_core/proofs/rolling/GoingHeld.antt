@@ -11,9 +11,9 @@ use Rattle.roll_forward.specs.RunsOut.{nothing_left}
 use Rattle.cert_sched.specs.Legal.{MayStand}
 use Rattle.cert_sched.specs.Legal.{IsLegalBy, Stands}
 use Rattle.cert_sched.specs.Simulation.{IsUnended}
-use Rattle.log_laws.proofs.records.Standing.{built_stands}
+use Rattle.log_laws.proofs.records.Standing.{all_stand}
 use Rattle.replay_laws.specs.rolling.Behind.{RollsBehind}
-use Rattle.replay_laws.proofs.rolling.ByRule.{built_caught_up}
+use Rattle.replay_laws.proofs.rolling.ByRule.{stand_caught_up}
 use Rattle.replay_laws.proofs.costs.CaughtLimits.{caught_keeps}
 use Rattle.residents.specs.Held.{Runs, Rolls, IsHeldWithin}
 use Rattle.cluster_core.specs.View.{limits_of}
@@ -27,7 +27,7 @@ module _ (system : System) (log : List Entry) (p : Pid) (process : Process) (cou
     (behind : RollsBehind system log p (state_of process) counts births) where
   -- with nothing left it has caught up
   runs_held : nothing_left counts births ≡ true → IsHeldAs system log [] p (Runs process)
-  runs_held none = at_once system log p (state_of process) (built_caught_up system log p (state_of process) counts births valid go.0 go.1 unended behind none)
+  runs_held none = at_once system log p (state_of process) (stand_caught_up system log p (state_of process) counts births valid go.0 go.1 unended behind none)
 
   -- it is held as the log says
   pub going_is_held : IsHeldAs system log [] p (going_held process counts births)
@@ -43,7 +43,7 @@ module _ (system : System) (log : List Entry) (p : Pid) (process : Process) (cou
     where
       by_left : (b : Bool) → nothing_left counts births ≡ b → IsHeldWithin (limits_of system) (cond b (Runs process) (Rolls process counts births))
       by_left true none =
-          let all : IsLegalBy Stands system log = built_stands system log go.0 in
+          let all : IsLegalBy Stands system log = all_stand system log go.0 in
           sym (own_within system log p process (runs_marked system log p process valid (runs_held none) all unended carries))
           ∙ caught_keeps system log p (state_of process) counts births valid go.0 go.1 unended behind none
       by_left false some = tt

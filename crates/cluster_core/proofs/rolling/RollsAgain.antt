@@ -10,7 +10,7 @@ use Rattle.residents.specs.Held.{Held, Waits}
 use Rattle.residents.specs.Changed.{with_changed}
 use Rattle.cluster_core.specs.Queue.{Nothing, with_queue}
 use Rattle.cluster_core.specs.Holds.{CarriesMarks, IsHeldAs, MarkedIfThere, process_in, unended_process}
-use Rattle.cluster_core.specs.Follows.{FollowsBuilt, IsOpen}
+use Rattle.cluster_core.specs.Follows.{Follows, IsOpen}
 use Rattle.residents.specs.Quantum.{RollsTo}
 use Rattle.cluster_core.proofs.forks.ForksAgain.{forks_changed, rolled_forks}
 use Rattle.residents.proofs.Changing.{pids_changed}
@@ -21,8 +21,8 @@ rolled_in : (n : ℕ) (was now : Held) → RollsTo n was now → is_some (proces
 rolled_in n (Waits w) now rolls = absurd rolls
 rolled_in n _ now rolls = refl
 
-pub rolls_again_follows : (c : ClusterView) (log : List Entry) (p : Pid) (n : ℕ) (was now : Held) → is_system c.system ≡ true → c.queue ≡ [] → IsOpen MayStand c.system log → FollowsBuilt c.system log c → held_at c p ≡ Some was → 1 ≤ n → RollsTo n was now
-    → FollowsBuilt c.system log (record c { here = with_changed p now c.here })
+pub rolls_again_follows : (c : ClusterView) (log : List Entry) (p : Pid) (n : ℕ) (was now : Held) → is_system c.system ≡ true → c.queue ≡ [] → IsOpen MayStand c.system log → Follows c.system log c → held_at c p ≡ Some was → 1 ≤ n → RollsTo n was now
+    → Follows c.system log (record c { here = with_changed p now c.here })
 rolls_again_follows c log p n was now valid empty go f there some rolls = record {
   log = record { cursor = (f.log).cursor; places = (f.log).places };
   processes = record {

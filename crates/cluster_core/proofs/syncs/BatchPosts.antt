@@ -15,7 +15,7 @@ use Rattle.bus_msg.specs.declared.entry.Entry.{Entry}
 use Rattle.bus_msg.specs.Places.{same_pid}
 use Rattle.bus_msg.specs.PlacedAfter.{what}
 use Rattle.cert_sched.specs.Appended.{entry_of}
-use Rattle.cluster_core.specs.Sent.{SentMayFollow}
+use Rattle.cluster_core.specs.Sent.{SentMayStand}
 use Rattle.cert_sched.specs.Deeds.{arrived_count}
 use Rattle.cert_sched.specs.Legal.{IsLegalBy, Stands, KeepsLimits}
 use Rattle.cert_sched.specs.Losses.{is_by_cluster, is_from, is_page_is_entry, least_calls}
@@ -76,16 +76,16 @@ module _ (k : ClusterNo) (p : Pid) (s : ProcState) (read : List ℕ) (took : Opt
         batch_calls heard (log ++ entry_of system log (page_left k p s i) ∷ []) j js ∙ calls_still heard log (entry_of system log (page_left k p s i)) j refl
 
     -- the posts of a process that has its pages may follow where they stand, are new and keep the limits
-    legal_so : (log : List Entry) (indices : List ℕ) → has_its_pages system log p ≡ true → AllStand system log (posts_left k p s read took indices) → AllNew system log (posts_left k p s read took indices) → AllKeepLimits system log (posts_left k p s read took indices) → IsQueueLegal SentMayFollow system log (posts_left k p s read took indices)
-    legal_so log [] has stand new keep = (record { stands = stand.0; built = refl; limits = keep.0; new_page = new.0; pages = has }, tt)
+    legal_so : (log : List Entry) (indices : List ℕ) → has_its_pages system log p ≡ true → AllStand system log (posts_left k p s read took indices) → AllNew system log (posts_left k p s read took indices) → AllKeepLimits system log (posts_left k p s read took indices) → IsQueueLegal SentMayStand system log (posts_left k p s read took indices)
+    legal_so log [] has stand new keep = (record { stands = stand.0; of_kind = refl; limits = keep.0; new_page = new.0; pages = has }, tt)
     legal_so log (i ∷ js) has stand new keep =
         let e : Entry = entry_of system log (page_left k p s i) in (
-          record { stands = stand.0; built = refl; limits = keep.0; new_page = new.0; pages = has },
+          record { stands = stand.0; of_kind = refl; limits = keep.0; new_page = new.0; pages = has },
           legal_so (log ++ e ∷ []) js (pages_kept system log e p stand.0 refl (moves_none system log e refl p) has) stand.1 new.1 keep.1,
         )
 
     -- The posts of a process that has its pages and whose synchronisation keeps the limits may follow, one after the other.
-    pub batch_legal : (log : List Entry) (indices : List ℕ) → is_system system ≡ true → IsLegalBy Stands system log → has_its_pages system log p ≡ true → KeepsLimits system log (Sync p s.small read took) → BatchMay system log k p s read took indices → IsQueueLegal SentMayFollow system log (posts_left k p s read took indices)
+    pub batch_legal : (log : List Entry) (indices : List ℕ) → is_system system ≡ true → IsLegalBy Stands system log → has_its_pages system log p ≡ true → KeepsLimits system log (Sync p s.small read took) → BatchMay system log k p s read took indices → IsQueueLegal SentMayStand system log (posts_left k p s read took indices)
     batch_legal log indices valid legal has keeps b =
         legal_so log indices has (rest_stands system log k p s read took indices valid legal b) (rest_is_new system log k p s read took indices b) (rest_keeps_limits system log k p s read took indices keeps)
 

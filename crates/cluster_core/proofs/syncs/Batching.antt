@@ -13,7 +13,7 @@ use Rattle.bus_msg.specs.declared.entry.Entry.{Entry}
 use Rattle.bus_msg.specs.Places.{same_pid}
 use Rattle.bus_msg.specs.PlacedAfter.{what}
 use Rattle.cert_sched.specs.Appended.{entry_of}
-use Rattle.cluster_core.specs.Sent.{SentMayFollow}
+use Rattle.cluster_core.specs.Sent.{SentMayStand}
 use Rattle.cert_sched.specs.Deeds.{arrived_count}
 use Rattle.cert_sched.specs.Legal.{IsLegalBy, Stands, MayStand}
 use Rattle.cert_sched.specs.Losses.{capped, is_from, least_calls}
@@ -27,20 +27,20 @@ use Rattle.checkpoint_laws.specs.marks.Sent.{SentUpto}
 use Rattle.checkpoint_laws.proofs.posts.TakeLeaves.{takes_leave}
 use Rattle.checkpoint_laws.specs.batches.Underway.{BatchMay, page_left, posts_left, sync_left}
 use Rattle.checkpoint_laws.proofs.batches.QueuedBatch.{queued_sent_before}
-use Rattle.log_laws.proofs.records.Standing.{built_stands}
+use Rattle.log_laws.proofs.records.Standing.{all_stand}
 use Rattle.cluster_core.specs.View.{ClusterView, disk_calls, head_of, held_at}
 use Rattle.residents.specs.Held.{Held, Runs, Rolls, Waits}
 use Rattle.residents.specs.Residents.{pids_in}
 use Rattle.cluster_core.specs.Queue.{Nothing, IsQueueLegal, move_of, state_by, with_queue}
 use Rattle.cluster_core.specs.Holds.{CarriesMarks, IsHeldAs, MarkedIfThere, is_fetch_queued, unended_process}
 use Rattle.cluster_core.specs.Syncing.{Synchronises}
-use Rattle.cluster_core.specs.Follows.{FollowsBuilt, IsOpen}
+use Rattle.cluster_core.specs.Follows.{Follows, IsOpen}
 use Rattle.cluster_core.proofs.syncs.BatchPosts.{batch_calls, batch_fetches_none, batch_legal, batch_log, batch_marks_others, batch_marks_others_before, batch_marks_own, batch_moves, batch_moves_other, batch_own}
 use Rattle.cluster_core.proofs.here.Beside.{FollowsBeside, HeldOf, any_of, one_of_them}
 use Rattle.cluster_core.proofs.absorbing.ByKind.{is_of_sync}
 use Rattle.cluster_core.proofs.here.Here.{is_among}
 use Rattle.residents.proofs.Changing.{pid_same}
-use Rattle.cluster_core.proofs.losses.Homes.{differ_built, home_here}
+use Rattle.cluster_core.proofs.losses.Homes.{pids_apart, home_here}
 use Rattle.cluster_core.proofs.syncs.Marking.{came_to}
 use Rattle.replay_laws.proofs.forks.EitherWait.{so_alike}
 
@@ -89,7 +89,7 @@ module _ (system : System) (log : List Entry) (c : ClusterView) (y : Synchronise
   posts = posts_left c.number p s y.read y.took y.indices
 
   legal : IsLegalBy Stands system log
-  legal = built_stands system log open_log.0
+  legal = all_stand system log open_log.0
 
   -- one that is held at its pid is the process
   mine : (q : Pid) (h : Held) → same_pid p q ≡ true → held_at c q ≡ Some h → h ≡ Runs y.process
@@ -98,11 +98,11 @@ module _ (system : System) (log : List Entry) (c : ClusterView) (y : Synchronise
       cc
 
   unended_of : (q : Pid) (h : Held) → rising (pids_in c.here) ≡ rising (home_pids system log c.number) → held_at c q ≡ Some h → IsUnended system log q
-  unended_of q h once there = ap is_some (home_here (placement system log) c.number (pids_in c.here) q (differ_built system log valid open_log.0) once (is_among c.here q h there)).found
+  unended_of q h once there = ap is_some (home_here (placement system log) c.number (pids_in c.here) q (pids_apart system log valid open_log.0) once (is_among c.here q h there)).found
 
   -- ---- beside the batch
 
-  pub without_batch : FollowsBuilt system log c → FollowsBeside (all_but p) system log (unqueued c)
+  pub without_batch : Follows system log c → FollowsBeside (all_but p) system log (unqueued c)
   without_batch f = record {
     log = record { cursor = (f.log).cursor; places = (f.log).places };
     processes = record { held = held; each_once = (f.processes).each_once };
@@ -148,7 +148,7 @@ module _ (system : System) (log : List Entry) (c : ClusterView) (y : Synchronise
           not_it false is = refl
 
   -- of no later step than its own was a page of the process sent
-  pub sent_there : FollowsBuilt system log c → SentUpto system log p ((y.process).small).steps
+  pub sent_there : Follows system log c → SentUpto system log p ((y.process).small).steps
   sent_there f =
       let m : MarkedIfThere CarriesMarks system (with_queue system log posts) p (unended_process (Runs y.process)) = subst (λ ps. MarkedIfThere CarriesMarks system (with_queue system log ps) p (unended_process (Runs y.process))) y.posts (f.marks p (Runs y.process) y.there) in
       let there : CarriesMarks system (with_queue system log posts) p y.process = subst (λ b. MarkedIfThere CarriesMarks system (with_queue system log posts) p (cond b None (Some y.process))) (y.may).runs m in
@@ -156,13 +156,13 @@ module _ (system : System) (log : List Entry) (c : ClusterView) (y : Synchronise
 
   -- ---- with the batch
 
-  pub with_batch : FollowsBeside (all_but p) system log (unqueued c) → SentUpto system log p ((y.process).small).steps → FollowsBuilt system log c
+  pub with_batch : FollowsBeside (all_but p) system log (unqueued c) → SentUpto system log p ((y.process).small).steps → Follows system log c
   with_batch f sent = record {
     log = record { cursor = (f.log).cursor; places = (f.log).places };
     processes = record { held = held; each_once = (f.processes).each_once };
     queue = record {
       own = ap (λ ps. list_all_own ps) y.posts ∙ batch_own c.number p s y.read y.took y.indices;
-      legal = subst (IsQueueLegal SentMayFollow system log) (sym y.posts) (batch_legal c.number p s y.read y.took system log y.indices valid legal (f.pages p (Runs y.process) y.there refl) y.within y.may);
+      legal = subst (IsQueueLegal SentMayStand system log) (sym y.posts) (batch_legal c.number p s y.read y.took system log y.indices valid legal (f.pages p (Runs y.process) y.there refl) y.within y.may);
     };
     queued = inr (inl y);
     steps = record { counted = (f.steps).counted };

@@ -21,7 +21,7 @@ use Rattle.cert_sched.specs.Steps.{silent_upto}
 use Rattle.cert_sched.specs.Legal.{IsLegalBy, Stands, MayStand}
 use Rattle.cert_sched.specs.Losses.{capped, least_calls, least_steps}
 use Rattle.cert_sched.specs.Rules.{has_its_pages, keeps_limits}
-use Rattle.log_laws.proofs.records.Standing.{built_stands}
+use Rattle.log_laws.proofs.records.Standing.{all_stand}
 use Rattle.sync_point.specs.Batch.{batch, cut_of, marked_pages, synced, took_by}
 use Rattle.sync_point.specs.Due.{is_due_by}
 use Rattle.sync_point.proofs.Cuts.{Keeps, cut_keeps}
@@ -38,11 +38,11 @@ use Rattle.residents.specs.Changed.{with_changed}
 use Rattle.cluster_core.specs.Queue.{Nothing, with_queue}
 use Rattle.cluster_core.specs.Holds.{CarriesMarks, IsHeldAs, MarkedIfThere, unended_process}
 use Rattle.cluster_core.specs.Syncing.{Synchronises}
-use Rattle.cluster_core.specs.Follows.{FollowsBuilt, IsOpen}
+use Rattle.cluster_core.specs.Follows.{Follows, IsOpen}
 use Rattle.cluster_core.specs.Calls.{GoesOn}
 use Rattle.residents.proofs.Changing.{FoundChanged, changed_there, found_changed, pids_changed}
 use Rattle.cluster_core.proofs.here.Here.{is_among}
-use Rattle.cluster_core.proofs.losses.Homes.{HomeHere, differ_built, home_here, home_lives}
+use Rattle.cluster_core.proofs.losses.Homes.{HomeHere, pids_apart, home_here, home_lives}
 use Rattle.cluster_core.proofs.syncs.Batching.{all_but, unqueued, with_batch}
 use Rattle.cluster_core.proofs.forks.ForksAgain.{forks_changed}
 use Rattle.cluster_core.proofs.here.Beside.{FollowsBeside, HeldOf, any_of}
@@ -72,7 +72,7 @@ due_or_takes system process new due = either (is_due_by process system.syncreads
 
 -- so it is in each log that the cluster follows
 abbrev pub MayCutIn : ClusterView → Pid → Process → Type 0
-MayCutIn c p process = (log : List Entry) → IsOpen MayStand c.system log → FollowsBuilt c.system log c → MayCut c.system log p process
+MayCutIn c p process = (log : List Entry) → IsOpen MayStand c.system log → Follows c.system log c → MayCut c.system log p process
 
 -- after its synchronisation it is as it is after the take
 synced_state : (process : Process) → state_of (synced process) ≡ state_of (cut_of process)
@@ -80,13 +80,13 @@ synced_state process = ap (λ (r : Ram). record { small = (cut_of process).small
 
 -- ---- a process of a cluster that follows a log, where nothing is queued and the process may synchronise
 
-module _ (c : ClusterView) (p : Pid) (process : Process) (valid : is_system c.system ≡ true) (empty : c.queue ≡ []) (there : held_at c p ≡ Some (Runs process)) (log : List Entry) (go : IsOpen MayStand c.system log) (f : FollowsBuilt c.system log c)
+module _ (c : ClusterView) (p : Pid) (process : Process) (valid : is_system c.system ≡ true) (empty : c.queue ≡ []) (there : held_at c p ≡ Some (Runs process)) (log : List Entry) (go : IsOpen MayStand c.system log) (f : Follows c.system log c)
     (may : MayCut c.system log p process) where
   legal : IsLegalBy Stands c.system log
-  legal = built_stands c.system log go.0
+  legal = all_stand c.system log go.0
 
   home_of : (q : Pid) (h : Held) → held_at c q ≡ Some h → HomeHere (placement c.system log) q c.number
-  home_of q h at = home_here (placement c.system log) c.number (pids_in c.here) q (differ_built c.system log valid go.0) (f.processes).each_once (is_among c.here q h at)
+  home_of q h at = home_here (placement c.system log) c.number (pids_in c.here) q (pids_apart c.system log valid go.0) (f.processes).each_once (is_among c.here q h at)
 
   held_so : (q : Pid) (h : Held) → held_at c q ≡ Some h → IsHeldAs c.system log [] q h
   held_so q h at = subst (λ ps. IsHeldAs c.system log ps q h) empty ((f.processes).held q h at)
@@ -188,7 +188,7 @@ module _ (c : ClusterView) (p : Pid) (process : Process) (valid : is_system c.sy
     disk = f.disk;
   }
 
-  follows_batch : FollowsBuilt c.system log new
+  follows_batch : Follows c.system log new
   unfolding synchronises
   follows_batch = with_batch c.system log new synchronises valid go beside (subst (SentUpto c.system log p) (sym kept.steps) carries.sent)
 

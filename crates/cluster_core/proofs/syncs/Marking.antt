@@ -25,7 +25,7 @@ use Rattle.bus_msg.specs.PlacedAfter.{what}
 use Rattle.cert_sched.specs.Account.{is_exit_of}
 use Rattle.cert_sched.specs.Appended.{entry_of}
 use Rattle.cert_sched.specs.Rules.{tells_or_closes}
-use Rattle.cluster_core.specs.Sent.{SentMayFollow}
+use Rattle.cluster_core.specs.Sent.{SentMayStand}
 use Rattle.cert_sched.specs.Deeds.{arrived_count, is_birth_of, is_cut, is_end_of}
 use Rattle.cert_sched.specs.Legal.{IsLegalBy, Stands}
 use Rattle.cert_sched.specs.Losses.{is_from}
@@ -307,7 +307,7 @@ exit_other p q at (Sent letter) w tells other = ap (is_exit_of p) tells.1
 exit_other p q at (Ended end) w tells other = ap (is_exit_of p) tells ∙ ne_eqb q.0 p.0 (λ same. other (sym same))
 
 -- a queue whose posts may follow tells what the log says
-pub queue_tells : (system : System) (log : List Entry) (k : ClusterNo) (q : Queued) → list_all (λ (post : Post). is_from k post.by) (posts_of q) ≡ true → IsQueueLegal SentMayFollow system log (posts_of q) → TellsAs system log q
+pub queue_tells : (system : System) (log : List Entry) (k : ClusterNo) (q : Queued) → list_all (λ (post : Post). is_from k post.by) (posts_of q) ≡ true → IsQueueLegal SentMayStand system log (posts_of q) → TellsAs system log q
 queue_tells system log k Nothing own legal = tt
 queue_tells system log k (One post) own legal = λ tells.
     let from : is_from k post.by ≡ true = (and_parts (is_from k post.by) true own).0 in

@@ -10,7 +10,7 @@ use Rattle.bus_msg.specs.PlacedAfter.{what}
 use Rattle.cert_sched.specs.Legal.{MayStand}
 use Rattle.cert_sched.specs.Legal.{IsLegalBy}
 use Rattle.cert_sched.specs.Simulation.{IsUnended}
-use Rattle.log_laws.proofs.pages.StartPages.{built_waits}
+use Rattle.log_laws.proofs.pages.StartPages.{stand_waits}
 use Rattle.checkpoint_laws.specs.posts.Marked.{IsMarked}
 use Rattle.checkpoint_laws.specs.marks.Sent.{SentUpto}
 use Rattle.checkpoint_laws.proofs.marks.BegunMarks.{begun_marked, begun_sent}
@@ -23,10 +23,10 @@ goes_on_marked : (system : System) (log : List Entry) (e : Entry) (p : Pid) (i :
     → IsUnended system (log ++ e ∷ []) p → what e ≡ PageIs p i bytes → WaitsAs system (log ++ e ∷ []) p queued w → (goes : GoesOnAs system (log ++ e ∷ []) p w) → IsMarked system (log ++ e ∷ []) p (goes.rolling).process
 goes_on_marked system log e p i bytes queued w valid legal unended is waits goes =
     subst (λ (r : RollingState). IsMarked system (log ++ e ∷ []) p r.process) (sym goes.begins)
-    (begun_marked MayStand built_waits system log e p i bytes goes.start w.kept valid legal unended is goes.started waits.kept)
+    (begun_marked MayStand stand_waits system log e p i bytes goes.start w.kept valid legal unended is goes.started waits.kept)
 
 goes_on_unsent : (system : System) (log : List Entry) (e : Entry) (p : Pid) (i : ℕ) (bytes : List ℕ) (n : ℕ) → IsLegalBy MayStand system (log ++ e ∷ []) → what e ≡ PageIs p i bytes → SentUpto system (log ++ e ∷ []) p n
-goes_on_unsent = begun_sent MayStand built_waits
+goes_on_unsent = begun_sent MayStand stand_waits
 
 -- so it carries the marks of the log
 pub goes_on_carries : (system : System) (log : List Entry) (e : Entry) (p : Pid) (i : ℕ) (bytes : List ℕ) (queued : ℕ → Bool) (w : WaitingState) → is_system system ≡ true → IsLegalBy MayStand system (log ++ e ∷ [])

@@ -16,7 +16,7 @@ use Rattle.bus_msg.specs.Places.{Places, same_pid}
 use Rattle.bus_msg.specs.PlacedAfter.{placed_after, what}
 use Rattle.cert_sched.specs.Appended.{entry_of}
 use Rattle.cert_sched.specs.Legal.{MayStand}
-use Rattle.cluster_core.specs.Sent.{SentMayFollow}
+use Rattle.cluster_core.specs.Sent.{SentMayStand}
 use Rattle.cert_sched.specs.Losses.{is_from, is_page_entry, least_calls}
 use Rattle.cert_sched.specs.Parts.{rising}
 use Rattle.cert_sched.specs.Rests.{home_pids}
@@ -36,7 +36,7 @@ use Rattle.cluster_core.specs.Parts.{AllOwn}
 use Rattle.cluster_core.specs.Queue.{Nothing, IsQueueLegal, is_rebackup, move_of, state_by, state_now, with_queue}
 use Rattle.cluster_core.specs.Holds.{IsHeldAs, is_fetch_queued, CarriesMarks, MarkedIfThere, unended_process}
 use Rattle.cluster_core.specs.Syncing.{Synchronises}
-use Rattle.cluster_core.specs.Follows.{FollowsBuilt, IsOpen, QueuedIn, StandsBetween}
+use Rattle.cluster_core.specs.Follows.{Follows, IsOpen, QueuedIn, StandsBetween}
 use Rattle.cluster_core.specs.Calls.{with_entry}
 use Rattle.cluster_core.specs.Serving.{Serves}
 use Rattle.cluster_core.proofs.births.FamilyNext.{family_next}
@@ -92,7 +92,7 @@ batch_aside k p s read took indices = record { moves = λ q. batch_moves_other k
 abbrev pub left : ClusterView → List Post → ClusterView
 left b rest = record b { queue = rest; tried = false }
 
-module _ (system : System) (valid : is_system system ≡ true) (log : List Entry) (b : ClusterView) (f : FollowsBuilt system log b) (tried : b.tried ≡ true) (own : AllOwn b.cursor b.here) (p : Pid) (process : Process) (there : held_at b p ≡ Some (Runs process)) (head : Post) (rest : List Post) (posts : b.queue ≡ head ∷ rest) (of : is_of_sync head.what ≡ true) (told : process_of head.what ≡ Some p)
+module _ (system : System) (valid : is_system system ≡ true) (log : List Entry) (b : ClusterView) (f : Follows system log b) (tried : b.tried ≡ true) (own : AllOwn b.cursor b.here) (p : Pid) (process : Process) (there : held_at b p ≡ Some (Runs process)) (head : Post) (rest : List Post) (posts : b.queue ≡ head ∷ rest) (of : is_of_sync head.what ≡ true) (told : process_of head.what ≡ Some p)
     (now : IsOpen MayStand system log) (next : IsOpen MayStand system (log ++ entry_of system log head ∷ [])) where
   abbrev e : Entry
   e = entry_of system log head
@@ -143,7 +143,7 @@ module _ (system : System) (valid : is_system system ≡ true) (log : List Entry
       omega (arith, same, pages)
 
   pub follows_head : (server : Option PagerState) → Serves (placement system log) e b.server server → AsideOf p (head ∷ rest) → AsideOf p rest → state_now system later rest p (process.small).steps ≡ Some (state_of process)
-      → QueuedIn system later (with_server server (passed (left b rest) e)) → FollowsBuilt system later (with_server server (passed (left b rest) e))
+      → QueuedIn system later (with_server server (passed (left b rest) e)) → Follows system later (with_server server (passed (left b rest) e))
   follows_head server serves aside_all aside runs queued = record {
     log = record {
       cursor = ap (λ m. m + 1) (f.log).cursor ∙ sym (length-append log (e ∷ []));
@@ -152,7 +152,7 @@ module _ (system : System) (valid : is_system system ≡ true) (log : List Entry
     processes = record { held = held aside_all aside runs; each_once = once ∙ ap rising (sym (pids_same system valid log e of now next b.number)) };
     queue = record {
       own = (and_parts (is_from b.number head.by) _ (subst (λ ps. list_all (λ (post : Post). is_from b.number post.by) ps ≡ true) posts (f.queue).own)).1;
-      legal = (subst (IsQueueLegal SentMayFollow system log) posts (f.queue).legal).1;
+      legal = (subst (IsQueueLegal SentMayStand system log) posts (f.queue).legal).1;
     };
     queued = queued;
     steps = record { counted = λ kept. counted_own system log e b.number b.tried b.steps tried ((f.steps).counted (lost_before log e b.number kept)) };
@@ -172,7 +172,7 @@ module _ (system : System) (valid : is_system system ≡ true) (log : List Entry
 
 -- After the entry that the head of its batch became, a cluster follows the log with it: it has the rest of the batch to send, or nothing once that was the cut.
 pub follows_own_batch : (c : ClusterView) (log : List Entry) (e : Entry) (server : Option PagerState) → is_system c.system ≡ true → AllOwn c.cursor c.here → IsOpen MayStand c.system log → IsOpen MayStand c.system (log ++ e ∷ [])
-    → (s : StandsBetween FollowsBuilt c.system log e c) → Synchronises c.system log s.before → Serves (placement c.system log) e c.server server → FollowsBuilt c.system (log ++ e ∷ []) (with_server server (with_entry c e))
+    → (s : StandsBetween Follows c.system log e c) → Synchronises c.system log s.before → Serves (placement c.system log) e c.server server → Follows c.system (log ++ e ∷ []) (with_server server (with_entry c e))
 follows_own_batch c log e server valid own now next s y serves = by_indices y.indices y.posts y.may
   where
     system : System
@@ -188,11 +188,11 @@ follows_own_batch c log e server valid own now next s y serves = by_indices y.in
     from_head : (head : Post) (rest : List Post) → b.queue ≡ head ∷ rest → after_sent b (head ∷ rest) ≡ left b rest → is_of_sync head.what ≡ true → process_of head.what ≡ Some y.pid → AsideOf y.pid (head ∷ rest) → AsideOf y.pid rest
         → state_now system (log ++ entry_of system log head ∷ []) rest y.pid ((y.process).small).steps ≡ Some state
         → QueuedIn system (log ++ entry_of system log head ∷ []) (with_server server (passed (left b rest) (entry_of system log head)))
-        → FollowsBuilt system (log ++ e ∷ []) (with_server server (with_entry c e))
+        → Follows system (log ++ e ∷ []) (with_server server (with_entry c e))
     from_head head rest posts sent of told aside_all aside runs queued =
-        subst (λ x. FollowsBuilt system (log ++ x ∷ []) (with_server server (with_entry c x))) whole
-        (subst (λ v. FollowsBuilt system (log ++ entry_of system log head ∷ []) (with_server server (with_entry v (entry_of system log head)))) (sym same)
-        (subst (λ v. FollowsBuilt system (log ++ entry_of system log head ∷ []) (with_server server v)) (sym (sync_taken (left b rest) (entry_of system log head) of))
+        subst (λ x. Follows system (log ++ x ∷ []) (with_server server (with_entry c x))) whole
+        (subst (λ v. Follows system (log ++ entry_of system log head ∷ []) (with_server server (with_entry v (entry_of system log head)))) (sym same)
+        (subst (λ v. Follows system (log ++ entry_of system log head ∷ []) (with_server server v)) (sym (sync_taken (left b rest) (entry_of system log head) of))
         (follows_head system valid log b s.followed s.tried (subst (λ (v : ClusterView). AllOwn v.cursor v.here) same own) y.pid y.process y.there head rest posts of told now (subst (λ x. IsOpen MayStand system (log ++ x ∷ [])) (sym whole) next)
         server (subst (λ x. Serves (placement system log) x b.server server) (sym whole) (subst (λ (v : ClusterView). Serves (placement system log) e v.server server) same serves)) aside_all aside runs queued)))
       where
@@ -202,7 +202,7 @@ follows_own_batch c log e server valid own now next s y serves = by_indices y.in
         same : c ≡ left b rest
         same = s.sent ∙ ap (after_sent b) posts ∙ sent
 
-    by_indices : (indices : List ℕ) → b.queue ≡ posts_left b.number y.pid state y.read y.took indices → BatchMay system log b.number y.pid state y.read y.took indices → FollowsBuilt system (log ++ e ∷ []) (with_server server (with_entry c e))
+    by_indices : (indices : List ℕ) → b.queue ≡ posts_left b.number y.pid state y.read y.took indices → BatchMay system log b.number y.pid state y.read y.took indices → Follows system (log ++ e ∷ []) (with_server server (with_entry c e))
     by_indices [] posts may =
         from_head (sync_left b.number y.pid state y.read y.took) [] posts refl refl refl (batch_aside b.number y.pid state y.read y.took []) (none_aside y.pid)
         (at_once system _ y.pid state (cut_process system log _ y.pid state (last_cuts system log b.number y.pid state y.read y.took may))) (inl (record { queued = Nothing; posts = refl; together = tt }))

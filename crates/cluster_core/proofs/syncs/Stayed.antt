@@ -33,17 +33,17 @@ use Rattle.checkpoint_laws.specs.batches.Underway.{BatchMay, posts_left, with_le
 use Rattle.checkpoint_laws.proofs.batches.EntryBetween.{batch_stays}
 use Rattle.checkpoint_laws.proofs.batches.OtherSenders.{others_between}
 use Rattle.checkpoint_laws.proofs.limits.RestLimits.{between_keeps}
-use Rattle.log_laws.proofs.records.Standing.{built_stands}
+use Rattle.log_laws.proofs.records.Standing.{all_stand}
 use Rattle.cluster_core.specs.View.{ClusterView, held_at}
 use Rattle.residents.specs.Held.{Held, Runs, arrived, arrived_held, held_of, page_held}
 use Rattle.residents.specs.Residents.{pids_in}
 use Rattle.cluster_core.specs.Syncing.{Synchronises}
-use Rattle.cluster_core.specs.Follows.{FollowsBuilt, IsOpen}
+use Rattle.cluster_core.specs.Follows.{Follows, IsOpen}
 use Rattle.cluster_core.proofs.syncs.Batching.{all_but, sent_there, unqueued, with_batch}
 use Rattle.cluster_core.proofs.here.Beside.{FollowsBeside}
 use Rattle.cluster_core.proofs.absorbing.ByKind.{by_kind, by_page, is_of_page}
 use Rattle.cluster_core.proofs.here.Here.{arrival_at, is_among}
-use Rattle.cluster_core.proofs.losses.Homes.{HomeHere, differ_built, home_here, home_lives}
+use Rattle.cluster_core.proofs.losses.Homes.{HomeHere, pids_apart, home_here, home_lives}
 use Rattle.cluster_core.proofs.paging.Paged.{page_at}
 use Rattle.cluster_core.proofs.working.Working.{home_by}
 use Rattle.t32_base.specs.declared.letter.To.{To}
@@ -95,7 +95,7 @@ same_posts k p s t read took indices small memory =
 -- ---- the whole
 
 module _ (c : ClusterView) (log : List Entry) (e : Entry) (y : Synchronises c.system log c) (valid : is_system c.system ≡ true) (now : IsOpen MayStand c.system log) (next : IsOpen MayStand c.system (log ++ e ∷ []))
-    (f : FollowsBuilt c.system log c) (foreign : is_by_cluster c.number e ≡ false) where
+    (f : Follows c.system log c) (foreign : is_by_cluster c.number e ≡ false) where
   abbrev later : List Entry
   later = log ++ e ∷ []
 
@@ -103,11 +103,11 @@ module _ (c : ClusterView) (log : List Entry) (e : Entry) (y : Synchronises c.sy
   p = y.pid
 
   pub home_now : HomeHere (placement c.system log) p c.number
-  home_now = home_here (placement c.system log) c.number (pids_in c.here) p (differ_built c.system log valid now.0) (f.processes).each_once (is_among c.here p (Runs y.process) y.there)
+  home_now = home_here (placement c.system log) c.number (pids_in c.here) p (pids_apart c.system log valid now.0) (f.processes).each_once (is_among c.here p (Runs y.process) y.there)
 
   -- beside the batch the cluster follows the log with the entry, by which the process neither moved nor changed but for letters that came: then it does so with the batch
   pub stays_with_batch : (new : ClusterView) → new.system ≡ c.system → new.number ≡ c.number → new.queue ≡ c.queue → FollowsBeside (all_but p) c.system later (unqueued new) → home_at (placement c.system later) p ≡ home_at (placement c.system log) p
-      → ((h : Held) → held_at new p ≡ Some h → RunsStill (letter_for p (what e)) y.process h) → FollowsBuilt c.system later new
+      → ((h : Held) → held_at new p ≡ Some h → RunsStill (letter_for p (what e)) y.process h) → Follows c.system later new
   stays_with_batch new system_is number queue beside same_home stays = with_batch c.system later new still valid next beside sent_still
     where
       home_then : HomeHere (placement c.system later) p c.number
@@ -136,7 +136,7 @@ module _ (c : ClusterView) (log : List Entry) (e : Entry) (y : Synchronises c.sy
       stands = (IsLegal-last MayStand c.system log e next.0).stands
 
       between : ComesBetween c.system log e c.number p
-      between = others_between c.system log e c.number p valid (built_stands c.system log now.0) stands foreign (by_home_of log now home_now) next.1 (by_home_of later next home_then)
+      between = others_between c.system log e c.number p valid (all_stand c.system log now.0) stands foreign (by_home_of log now home_now) next.1 (by_home_of later next home_then)
 
       may : BatchMay c.system later c.number p (state_of r.now) y.read y.took y.indices
       may =

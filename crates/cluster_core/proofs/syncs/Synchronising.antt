@@ -36,7 +36,7 @@ use Rattle.checkpoint_laws.proofs.posts.SyncMade.{sync_made}
 use Rattle.backup_records.specs.Records.{record_after, records_after, with_cut}
 use Rattle.log_laws.specs.records.Kept.{KeepsRecords, changes_in_place}
 use Rattle.log_laws.proofs.records.KeptLaws.{records_kept}
-use Rattle.log_laws.proofs.records.Standing.{built_stands}
+use Rattle.log_laws.proofs.records.Standing.{all_stand}
 use Rattle.page_server.specs.Account.{PagerState}
 use Rattle.page_waits.specs.Waiting.{WaitingState}
 use Rattle.cluster_core.specs.Families.{family_after}
@@ -54,7 +54,7 @@ use Rattle.cluster_core.specs.Serving.{Serves}
 use Rattle.cluster_core.proofs.absorbing.ByKind.{by_sync, is_of_sync}
 use Rattle.cluster_core.proofs.absorbing.Following.{by_home_of, by_one}
 use Rattle.residents.proofs.Changing.{pid_same}
-use Rattle.cluster_core.proofs.losses.Homes.{HomeHere, differ_built, pids_home}
+use Rattle.cluster_core.proofs.losses.Homes.{HomeHere, pids_apart, pids_home}
 use Rattle.cluster_core.proofs.syncs.SyncedHomes.{home_kept, pids_synced, synced_found}
 use Rattle.cluster_core.proofs.absorbing.Unmoved.{emission_same, silent_same}
 use Rattle.cert_sched.specs.Account.{is_exit_of}
@@ -86,7 +86,7 @@ module _ (system : System) (valid : is_system system ≡ true) (log : List Entry
   stands = (IsLegal-last MayStand system log e next.0).stands
 
   pub differ : pids_differ places.placed ≡ true
-  differ = differ_built system log valid now.0
+  differ = pids_apart system log valid now.0
 
   -- ---- the process that synchronises
 
@@ -212,7 +212,7 @@ module _ (system : System) (valid : is_system system ≡ true) (log : List Entry
   held_still k q p h together home other own held = held_stays system valid log e now next brings_nothing k q p h together home (spares_other p other) own held
 
   pub records_stay : (k : ClusterNo) (recs : List BackRec) → KeepsRecords system log k recs → KeepsRecords system later k (records_after k (what e) recs)
-  records_stay k recs keeps = records_kept system log e k recs valid (built_stands system later next.0) (by_sync (λ w. changes_in_place w ≡ true) (λ pid at index bytes. refl) (λ pid small read took. refl) (what e) of) keeps
+  records_stay k recs keeps = records_kept system log e k recs valid (all_stand system later next.0) (by_sync (λ w. changes_in_place w ≡ true) (λ pid at index bytes. refl) (λ pid small read took. refl) (what e) of) keeps
 
   pub follows_sync : (which : Pid → Bool) (c : ClusterView) (server : Option PagerState) → AllOwn c.cursor c.here → Serves places e c.server server → FollowsBeside which system log c → is_by_cluster c.number e ≡ false
       → FollowsBeside which system later (with_server server (with_entry c e))

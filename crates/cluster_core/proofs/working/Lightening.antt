@@ -31,7 +31,7 @@ use Rattle.cluster_core.proofs.here.HeldLoads.{fewer_loads, held_weight, one_lig
 use Rattle.residents.specs.ForkingAgain.{RollsAgain}
 use Rattle.cluster_core.specs.View.{ClusterView, has_moved, held_load, limits_of, load, process_load}
 use Rattle.residents.specs.Held.{Held, Runs, asked_held, held_of}
-use Rattle.cluster_core.specs.Follows.{FollowsBuilt}
+use Rattle.cluster_core.specs.Follows.{Follows}
 use Rattle.cluster_core.specs.Calls.{FollowsSome, QueuesBatch, QueuesBirth, QueuesFresh, QueuesFetch, QueuesOne, WorkIs}
 use Rattle.residents.specs.Quantum.{Moves}
 use Rattle.residents.specs.Residents.{pids_in}
@@ -83,7 +83,7 @@ homes_apart : (system : System) (log : List Entry) (k : ClusterNo) → is_system
 homes_apart system log k valid legal =
     apart_fewer (is_at_home k) (placement system log).placed (two_apart system log (all_roll MayStand (λ system log e may. may.stands) system log valid legal))
 
-pub pids_apart : (c : ClusterView) (log : List Entry) → is_system c.system ≡ true → IsLegalBy MayStand c.system log → FollowsBuilt c.system log c → NoTwo (pids_in c.here)
+pub pids_apart : (c : ClusterView) (log : List Entry) → is_system c.system ≡ true → IsLegalBy MayStand c.system log → Follows c.system log c → NoTwo (pids_in c.here)
 pids_apart c log valid legal f = apart_unsorted (pids_in c.here) (subst NoTwo (sym (f.processes).each_once) (rising-apart (home_pids c.system log c.number) (homes_apart c.system log c.number valid legal)))
 
 pub held_apart : (c : ClusterView) → is_system c.system ≡ true → FollowsSome c → NoTwo (pids_in c.here)

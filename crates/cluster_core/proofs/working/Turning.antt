@@ -37,8 +37,8 @@ use Rattle.residents.specs.Quantum.{ComesToFork, Sends, Syncs, forking_of, post_
 use Rattle.cluster_core.specs.Work.{AnswersNext, NoPages, QueuesAnswer, QueuesFetch, RunsNext, WorksOn, WorksUnowed, birth_told, child_of, fetch_post, owes_answer}
 use Rattle.residents.specs.Asking.{AsksNext, any_lacks, any_waits}
 use Rattle.standing_backups.specs.Standing.{IsNextStanding}
-use Rattle.cluster_core.proofs.handing.Queued.{handed_built, handed_goes_on, handed_own, handed_work}
-use Rattle.cluster_core.proofs.paging.Answering.{answered_built, answered_goes_on, answered_own, answered_work}
+use Rattle.cluster_core.proofs.handing.Queued.{handed_sent, handed_goes_on, handed_own, handed_work}
+use Rattle.cluster_core.proofs.paging.Answering.{answered_sent, answered_goes_on, answered_own, answered_work}
 use Rattle.cluster_core.proofs.paging.Fetching.{asked_goes_on, asked_work, fetch_own}
 use Rattle.cluster_core.proofs.paging.Lacking.{rested_work, waited_work}
 use Rattle.cluster_core.proofs.births.BirthTurn.{birth_goes_on}
@@ -50,7 +50,7 @@ use Rattle.residents.specs.ChildrenFirst.{comes_after, comes_after_children}
 use Rattle.residents.specs.Duty.{backup_owed, is_able, is_owed}
 use Rattle.backup_mode.specs.Renewal.{cleared, renewal}
 use Rattle.bus_msg.specs.NewBackup.{next_backup_at}
-use Rattle.cluster_core.proofs.renewing.BeginRenewal.{own_cleared, renewal_built, renewal_goes_on, renewal_own}
+use Rattle.cluster_core.proofs.renewing.BeginRenewal.{own_cleared, renewal_sent, renewal_goes_on, renewal_own}
 use Rattle.residents.specs.Held.{is_running}
 use Rattle.residents.proofs.Changing.{pids_changed}
 use Rattle.cluster_core.proofs.births.ChildrenKept.{synced_where_none}
@@ -64,14 +64,14 @@ use Rattle.cluster_core.proofs.rolling.OwningAgain.{own_again}
 use Rattle.residents.proofs.RollingParts.{none_again}
 use Rattle.cluster_core.proofs.working.Working.{moved_view, moved_goes_on, moved_work, posted_goes_on, posted_view, posted_work, goes_on_rested}
 
--- what is posted is the cluster's own, and of a kind that is built
+-- what is posted is the cluster's own, and of a kind that clusters send
 told_own : (k : ClusterNo) (p : Pid) (at : ℕ) (e : Emission) → (is_from k (post_told k p at e).by && true) ≡ true
 told_own k p at (SentMail letter) = ap (λ b. b && true) (eq-eqb k.0 k.0 refl)
 told_own k p at (SentExit end) = ap (λ b. b && true) (eq-eqb k.0 k.0 refl)
 
-told_built : (k : ClusterNo) (p : Pid) (at : ℕ) (e : Emission) → (is_sent (post_told k p at e).what && true) ≡ true
-told_built k p at (SentMail letter) = refl
-told_built k p at (SentExit end) = refl
+told_sent : (k : ClusterNo) (p : Pid) (at : ℕ) (e : Emission) → (is_sent (post_told k p at e).what && true) ≡ true
+told_sent k p at (SentMail letter) = refl
+told_sent k p at (SentExit end) = refl
 
 -- so is each page of a batch, and its state
 each_post : (test : Post → Bool) (p : Process) (k : ClusterNo) (indices : List ℕ) → ((i : ℕ) → test (page_post p k i) ≡ true) → test (sync_post p k) ≡ true → list_all test (map (page_post p k) indices ++ sync_post p k ∷ []) ≡ true
@@ -81,8 +81,8 @@ each_post test p k (i ∷ indices) pages state = and_from (test (page_post p k i
 synced_own : (k : ClusterNo) (p : Process) → list_all (λ (post : Post). is_from k post.by) (batch p k) ≡ true
 synced_own k p = each_post (λ (post : Post). is_from k post.by) p k (marked_pages p) (λ i. eq-eqb k.0 k.0 refl) (eq-eqb k.0 k.0 refl)
 
-synced_built : (k : ClusterNo) (p : Process) → list_all (λ (post : Post). is_sent post.what) (batch p k) ≡ true
-synced_built k p = each_post (λ (post : Post). is_sent post.what) p k (marked_pages p) (λ i. refl) refl
+synced_sent : (k : ClusterNo) (p : Process) → list_all (λ (post : Post). is_sent post.what) (batch p k) ≡ true
+synced_sent k p = each_post (λ (post : Post). is_sent post.what) p k (marked_pages p) (λ i. refl) refl
 
 -- the cluster with what is here, what it keeps as a page server and what is queued after a work
 abbrev pub worked_view : ClusterView → List (Pid × Held) → Option PagerState → List Post → ClusterView
@@ -95,7 +95,7 @@ pub record Works (c : ClusterView) (worked : Worked) (here : List (Pid × Held))
   pub residents : AllOwn c.cursor here
   pub pids : pids_in here ≡ pids_in c.here
   pub own : list_all (λ (post : Post). is_from c.number post.by) queue ≡ true
-  pub built : list_all (λ (post : Post). is_sent post.what) queue ≡ true
+  pub of_kind : list_all (λ (post : Post). is_sent post.what) queue ≡ true
 
 module _ (c : ClusterView) (some : FollowsSome c) (empty : c.queue ≡ []) (own : AllOwn c.cursor c.here) (valid : is_system c.system ≡ true) (has : (c.number).0 < (c.system).clusters) where
   abbrev Took : Pid → Quantum → List (Pid × Held) → Type 0
@@ -109,7 +109,7 @@ module _ (c : ClusterView) (some : FollowsSome c) (empty : c.queue ≡ []) (own 
     residents = own;
     pids = refl;
     own = handed_own c post next;
-    built = handed_built c post next;
+    of_kind = handed_sent c post next;
   }
 
   -- an answer is queued
@@ -120,7 +120,7 @@ module _ (c : ClusterView) (some : FollowsSome c) (empty : c.queue ≡ []) (own 
     residents = own;
     pids = refl;
     own = answered_own c served post owed answers;
-    built = answered_built c served post owed answers;
+    of_kind = answered_sent c served post owed answers;
   }
 
   -- a fetch is queued
@@ -131,7 +131,7 @@ module _ (c : ClusterView) (some : FollowsSome c) (empty : c.queue ≡ []) (own 
     residents = subst (AllOwn c.cursor) (sym asks.new_is) (own_changed c.cursor pid (asked_held asks.was) c.here own (own_asked c.cursor pid asks.was (own_at c.cursor c.here pid asks.was own asks.there)));
     pids = ap pids_in asks.new_is ∙ pids_changed pid (asked_held asks.was) c.here;
     own = fetch_own c.number pid index;
-    built = refl;
+    of_kind = refl;
   }
 
   -- who acts there does not let all rest
@@ -162,7 +162,7 @@ module _ (c : ClusterView) (some : FollowsSome c) (empty : c.queue ≡ []) (own 
         residents = own_changed c.cursor pid one.now one.mid mine (own_quantum (limits_of c.system) c.cursor pid one.made one.was one.now (own_at c.cursor one.mid pid one.was mine one.there) one.ran);
         pids = pids_turned pid one.made one.mid one.now one.again;
         own = refl;
-        built = refl;
+        of_kind = refl;
       })
 
   -- or sent something
@@ -186,7 +186,7 @@ module _ (c : ClusterView) (some : FollowsSome c) (empty : c.queue ≡ []) (own 
         residents = own_changed c.cursor pid (Runs s.now) one.mid all now_own;
         pids = pids_turned pid one.made one.mid (Runs s.now) one.again;
         own = told_own c.number sending.pid sending.at sending.emission;
-        built = told_built c.number sending.pid sending.at sending.emission;
+        of_kind = told_sent c.number sending.pid sending.at sending.emission;
       })
 
   -- a process that may be cut synchronised, where one could move
@@ -203,7 +203,7 @@ module _ (c : ClusterView) (some : FollowsSome c) (empty : c.queue ≡ []) (own 
         residents = own_changed c.cursor pid (Runs (synced process)) c.here own (own_synced c.cursor pid process (own_at c.cursor c.here pid (Runs process) own there));
         pids = pids_changed pid (Runs (synced process)) c.here;
         own = synced_own c.number process;
-        built = synced_built c.number process;
+        of_kind = synced_sent c.number process;
       })
 
   -- or synchronised,
@@ -254,7 +254,7 @@ module _ (c : ClusterView) (some : FollowsSome c) (empty : c.queue ≡ []) (own 
         residents = own_changed c.cursor pid (Runs k.now) one.mid all mine;
         pids = pids_turned pid one.made one.mid (Runs k.now) one.again;
         own = ap (λ b. b && true) (eq-eqb (c.number).0 (c.number).0 refl);
-        built = refl;
+        of_kind = refl;
       }))
 
   -- or what brings it its new backup is queued
@@ -276,14 +276,14 @@ module _ (c : ClusterView) (some : FollowsSome c) (empty : c.queue ≡ []) (own 
         residents = own_changed c.cursor pid (Runs (cleared r.process)) c.here own (own_cleared c.cursor pid r.process (own_at c.cursor c.here pid (Runs r.process) own r.there));
         pids = pids_changed pid (Runs (cleared r.process)) c.here;
         own = renewal_own c.number r.process turn.to;
-        built = renewal_built r.process turn.to c.number;
+        of_kind = renewal_sent r.process turn.to c.number;
       }))
 
   -- or nothing can move
   still : (worked : Worked) → WorkIs c worked (counted_once c) → Works c worked c.here c.server []
   still worked work =
       let whole : worked_view c c.here c.server [] ≡ counted_once c = λ i. record c { queue = sym empty i; steps = next_count c.steps } in
-      record { goes_on = subst (GoesOn c) (sym whole) (goes_on_rested c); work = subst (WorkIs c worked) (sym whole) work; residents = own; pids = refl; own = refl; built = refl }
+      record { goes_on = subst (GoesOn c) (sym whole) (goes_on_rested c); work = subst (WorkIs c worked) (sym whole) work; residents = own; pids = refl; own = refl; of_kind = refl }
 
   -- a turn by the limits of the system is one of a process of the cluster
   turn_here : (old new : ResidentsView) (quantum : Quantum) → old.duty ≡ duty_of c → old.here ≡ c.here → ChosenTurn c.number c.family old quantum new → HasTurn (duty_of c) c.number c.family (pid_of new.last) c.here quantum new.here

@@ -26,7 +26,7 @@ use Rattle.cert_sched.specs.Rules.{has_awaited_backup, has_its_pages, keeps_limi
 use Rattle.birth_notice.specs.Family.{first_unsynced}
 use Rattle.cert_sched.specs.Kinds.{ChildrenSynced, KindHolds}
 use Rattle.cert_sched.specs.Legal.{IsLegalBy, Stands, MayStand, KeepsWaits}
-use Rattle.cluster_core.specs.Sent.{is_sent, SentMayFollow}
+use Rattle.cluster_core.specs.Sent.{is_sent, SentMayStand}
 use Rattle.cert_sched.specs.Losses.{least_steps, capped, is_from, is_page_is_entry}
 use Rattle.cert_sched.specs.Appended.{entry_of}
 use Rattle.cert_sched.proofs.StepLaws.{Tells, sent_applies}
@@ -41,7 +41,7 @@ use Rattle.cluster_core.proofs.absorbing.Served.{accounts_queued}
 use Rattle.cluster_core.specs.Queue.{IsQueueLegal, Nothing, One, is_lone, move_of, taken_by, state_by, state_now, with_queue}
 use Rattle.cluster_core.specs.Holds.{CarriesMarks, HoldsLimits, HoldsPages, IsHeldAs, MarkedIfThere, is_fetch_queued, process_in, unended_process}
 use Rattle.cluster_core.specs.Standing.{HoldsBackups, has_begun}
-use Rattle.cluster_core.specs.Follows.{FollowsBuilt, IsOpen, QueuedIn}
+use Rattle.cluster_core.specs.Follows.{Follows, IsOpen, QueuedIn}
 use Rattle.cluster_core.specs.Calls.{GoesOn, OwesNothing, WorkIs, is_resting}
 use Rattle.residents.specs.declared.quantum.Sending.{Sending}
 use Rattle.residents.specs.Quantum.{EndsChildless, Moves, RollsTo, RunsTo, Sends, told_of, post_told}
@@ -57,8 +57,8 @@ use Rattle.replay_laws.proofs.forks.EitherWait.{so_alike}
 use Rattle.cluster_core.proofs.forks.ForksAgain.{forks_changed, ran_forks, run_forks}
 use Rattle.cluster_core.proofs.syncs.Marking.{marked_queued, queue_tells}
 use Rattle.cluster_core.proofs.syncs.RunMarks.{marked_ran, marked_rolled, marked_runs, marked_sends}
-use Rattle.log_laws.proofs.records.Standing.{built_stands}
-use Rattle.cluster_core.proofs.losses.Homes.{HomeHere, differ_built, home_here, home_lives}
+use Rattle.log_laws.proofs.records.Standing.{all_stand}
+use Rattle.cluster_core.proofs.losses.Homes.{HomeHere, pids_apart, home_here, home_lives}
 use Rattle.std.proofs.lemmas.Bool.{or_parts}
 use Rattle.sync_point.specs.Due.{is_due_by}
 
@@ -128,7 +128,7 @@ ahead_sent system log p s b t n e is silent sends =
 -- ---- the processes here
 
 -- a process that is here, in the log
-pub held_before : (c : ClusterView) (log : List Entry) (p : Pid) (s : Process) → c.queue ≡ [] → FollowsBuilt c.system log c → held_at c p ≡ Some (Runs s) → silent_upto c.system log p (s.small).steps ≡ Some (state_of s)
+pub held_before : (c : ClusterView) (log : List Entry) (p : Pid) (s : Process) → c.queue ≡ [] → Follows c.system log c → held_at c p ≡ Some (Runs s) → silent_upto c.system log p (s.small).steps ≡ Some (state_of s)
 held_before c log p s empty f there = ap (λ ps. state_now c.system log ps p (s.small).steps) (sym empty) ∙ (f.processes).held p (Runs s) there
 
 -- ---- what is queued
@@ -203,7 +203,7 @@ more_tried n s true h = omega (arith, h)
 more_tried n s false h = omega (arith, h)
 
 -- a head that is tried is one kernel step more
-pub follows_tried : (c : ClusterView) (log : List Entry) → FollowsBuilt c.system log c → FollowsBuilt c.system log (tried_once c)
+pub follows_tried : (c : ClusterView) (log : List Entry) → Follows c.system log c → Follows c.system log (tried_once c)
 follows_tried c log f = record {
   log = record { cursor = (f.log).cursor; places = (f.log).places };
   processes = record { held = (f.processes).held; each_once = (f.processes).each_once };
@@ -234,7 +234,7 @@ pub moved_work : (c : ClusterView) (p : Pid) (made : ℕ) (mid : List (Pid × He
 moved_work c p made mid was now nothing busy again there moves = (nothing, busy, record { pid = p; made = made; mid = mid; again = again; was = was; now = now; there = there; moves = moves; rest = refl })
 
 -- what is held after one process has changed, where the others are held as before
-pub held_beside : (c : ClusterView) (log : List Entry) (p : Pid) (now : Held) (queue : List Post) → FollowsBuilt c.system log c
+pub held_beside : (c : ClusterView) (log : List Entry) (p : Pid) (now : Held) (queue : List Post) → Follows c.system log c
     → IsHeldAs c.system log queue p now → ((q : Pid) (h : Held) → same_pid q p ≡ false → IsHeldAs c.system log c.queue q h → IsHeldAs c.system log queue q h)
     → (q : Pid) (h : Held) → held_of (with_changed p now c.here) q ≡ Some h → IsHeldAs c.system log queue q h
 held_beside c log p now queue f mine others q h at = by_pid (same_pid q p) refl
@@ -297,7 +297,7 @@ limits_beside c p now limits mine q h at = by_pid (same_pid q p) refl
     by_pid false other = subst (IsHeldWithin (limits_of c.system)) (sym (w.is.1 other)) (limits q w.was w.there)
 
 -- the others are marked as before
-pub marks_beside : (c : ClusterView) (log : List Entry) (p : Pid) (now : Held) (queue : List Post) → FollowsBuilt c.system log c → MarkedIfThere CarriesMarks c.system (with_queue c.system log queue) p (unended_process now)
+pub marks_beside : (c : ClusterView) (log : List Entry) (p : Pid) (now : Held) (queue : List Post) → Follows c.system log c → MarkedIfThere CarriesMarks c.system (with_queue c.system log queue) p (unended_process now)
     → ((q : Pid) (h : Held) → same_pid q p ≡ false → held_at c q ≡ Some h → MarkedIfThere CarriesMarks c.system (with_queue c.system log c.queue) q (unended_process h) → MarkedIfThere CarriesMarks c.system (with_queue c.system log queue) q (unended_process h))
     → (q : Pid) (h : Held) → held_of (with_changed p now c.here) q ≡ Some h → MarkedIfThere CarriesMarks c.system (with_queue c.system log queue) q (unended_process h)
 marks_beside c log p now queue f mine others q h at = by_pid (same_pid q p) refl
@@ -313,18 +313,18 @@ marks_beside c log p now queue f mine others q h at = by_pid (same_pid q p) refl
         subst (λ (x : Held). MarkedIfThere CarriesMarks c.system (with_queue c.system log queue) q (unended_process x)) (sym (w.is.1 other)) (others q w.was other w.there (f.marks q w.was w.there))
 
 -- with a post that is queued where nothing was a process has the marks that it had
-pub marks_queued : (c : ClusterView) (log : List Entry) (post : Post) → is_system c.system ≡ true → c.queue ≡ [] → IsOpen MayStand c.system log → FollowsBuilt c.system log c → is_lone post.what ≡ true → is_from c.number post.by ≡ true
-    → SentMayFollow c.system log (entry_of c.system log post) → (q : Pid) (h : Held) → held_at c q ≡ Some h → IsHeldAs c.system log (post ∷ []) q h → MarkedIfThere CarriesMarks c.system (with_queue c.system log c.queue) q (unended_process h)
+pub marks_queued : (c : ClusterView) (log : List Entry) (post : Post) → is_system c.system ≡ true → c.queue ≡ [] → IsOpen MayStand c.system log → Follows c.system log c → is_lone post.what ≡ true → is_from c.number post.by ≡ true
+    → SentMayStand c.system log (entry_of c.system log post) → (q : Pid) (h : Held) → held_at c q ≡ Some h → IsHeldAs c.system log (post ∷ []) q h → MarkedIfThere CarriesMarks c.system (with_queue c.system log c.queue) q (unended_process h)
     → MarkedIfThere CarriesMarks c.system (with_queue c.system log (post ∷ [])) q (unended_process h)
 marks_queued c log post valid empty go f lone own may q h there held m =
-    let home = home_here (placement c.system log) c.number (pids_in c.here) q (differ_built c.system log valid go.0) (f.processes).each_once (is_among c.here q h there) in
-    marked_queued c.system log q valid (built_stands c.system log go.0) (ap is_some home.found) (One post) h lone (queue_tells c.system log c.number (One post) (ap (λ b. b && true) own) (may, tt)) held
+    let home = home_here (placement c.system log) c.number (pids_in c.here) q (pids_apart c.system log valid go.0) (f.processes).each_once (is_among c.here q h there) in
+    marked_queued c.system log q valid (all_stand c.system log go.0) (ap is_some home.found) (One post) h lone (queue_tells c.system log c.number (One post) (ap (λ b. b && true) own) (may, tt)) held
     (subst (λ ps. MarkedIfThere CarriesMarks c.system (with_queue c.system log ps) q (unended_process h)) empty m)
 
 -- a process of a cluster that follows a log, with its cluster
-module _ (c : ClusterView) (p : Pid) (was : Held) (empty : c.queue ≡ []) (there : held_at c p ≡ Some was) (valid : is_system c.system ≡ true) (log : List Entry) (now : IsOpen MayStand c.system log) (f : FollowsBuilt c.system log c) where
+module _ (c : ClusterView) (p : Pid) (was : Held) (empty : c.queue ≡ []) (there : held_at c p ≡ Some was) (valid : is_system c.system ≡ true) (log : List Entry) (now : IsOpen MayStand c.system log) (f : Follows c.system log c) where
   pub home_of_it : HomeHere (placement c.system log) p c.number
-  home_of_it = home_here (placement c.system log) c.number (pids_in c.here) p (differ_built c.system log valid now.0) (f.processes).each_once (is_among c.here p was there)
+  home_of_it = home_here (placement c.system log) c.number (pids_in c.here) p (pids_apart c.system log valid now.0) (f.processes).each_once (is_among c.here p was there)
 
   -- it is held as the log says, where nothing is queued
   pub held_there : IsHeldAs c.system log [] p was
@@ -350,7 +350,7 @@ module _ (c : ClusterView) (p : Pid) (was : Held) (empty : c.queue ≡ []) (ther
   marked_now = subst (λ ps. MarkedIfThere CarriesMarks c.system (with_queue c.system log ps) p (unended_process was)) empty (f.marks p was there)
 
   legal_now : IsLegalBy Stands c.system log
-  legal_now = built_stands c.system log now.0
+  legal_now = all_stand c.system log now.0
 
   pub marked_between : (n : ℕ) (between : Held) → RollsTo n was between → MarkedIfThere CarriesMarks c.system log p (unended_process between)
   marked_between n between rolls = marked_rolled c.system log p valid legal_now (ap is_some home_of_it.found) n was between held_there rolls marked_now
@@ -389,10 +389,10 @@ moved_goes_on c p made was new valid empty there moves log go f = record {
 abbrev pub posted_view : ClusterView → List (Pid × Held) → Post → ClusterView
 posted_view c here post = record c { here = here; queue = post ∷ []; steps = next_count c.steps }
 
--- whatever is posted is of a kind that is built
-built_of : (pid : Pid) (at : ℕ) (e : Emission) → is_sent (told_of pid at e) ≡ true
-built_of pid at (Sent letter) = refl
-built_of pid at (Ended end) = refl
+-- whatever is posted is of a kind that clusters send
+sent_of : (pid : Pid) (at : ℕ) (e : Emission) → is_sent (told_of pid at e) ≡ true
+sent_of pid at (Sent letter) = refl
+sent_of pid at (Ended end) = refl
 
 -- and no changed page
 changed_none : (system : System) (log : List Entry) (pid : Pid) (at : ℕ) (e : Emission) → is_new_page system log (told_of pid at e) ≡ true
@@ -489,7 +489,7 @@ module _ (c : ClusterView) (p : Pid) (made : ℕ) (was : Held) (sending : Sendin
   posted_own : is_from c.number post.by ≡ true
   posted_own = ap (λ (p : Post). is_from c.number p.by) post_is ∙ eq-eqb (c.number).0 (c.number).0 refl
 
-  module _ (valid : is_system c.system ≡ true) (has : (c.number).0 < (c.system).clusters) (log : List Entry) (go : IsOpen MayStand c.system log) (f : FollowsBuilt c.system log c) where
+  module _ (valid : is_system c.system ≡ true) (has : (c.number).0 < (c.system).clusters) (log : List Entry) (go : IsOpen MayStand c.system log) (f : Follows c.system log c) where
     emission_is : emission_at c.system log p at ≡ Some (e, state_of s.now)
     emission_is = ahead_sent c.system log p (state_of s.between) (state_of s.before) (state_of s.now) s.silent e (held_there c p (Runs s.between) empty runs_there valid log go f) (s.runs).silent s.sends
 
@@ -500,7 +500,7 @@ module _ (c : ClusterView) (p : Pid) (made : ℕ) (was : Held) (sending : Sendin
     marked_before : MarkedIfThere CarriesMarks c.system log p (unended_process (Runs s.before))
     marked_before =
         let home = home_of_it c p was empty there valid log go f in
-        let legal = built_stands c.system log go.0 in
+        let legal = all_stand c.system log go.0 in
         marked_ran c.system log p valid legal (ap is_some home.found) s.silent s.between s.before (held_there c p (Runs s.between) empty runs_there valid log go f) s.runs
         (marked_now c p (Runs s.between) empty runs_there valid log go f)
 
@@ -508,11 +508,11 @@ module _ (c : ClusterView) (p : Pid) (made : ℕ) (was : Held) (sending : Sendin
     keeps : keeps_limits c.system log p (state_of s.now) ≡ true
     keeps =
         let unended = ap is_some (home_of_it c p was empty there valid log go f).found in
-        let legal = built_stands c.system log go.0 in
+        let legal = all_stand c.system log go.0 in
         let marked = runs_marked c.system log p s.before valid reached_before legal unended (carried c.system log p s.before valid reached_before legal unended marked_before) in
         sent_keeps c.system log p s.before e (state_of s.now) marked (or_parts (is_due_by s.before (c.system).syncreads (c.system).syncsteps) (can_take (state_of s.before)) s.undue).0 s.sends
 
-    may_follow : SentMayFollow c.system log (entry_of c.system log (post_told c.number p at e))
+    may_follow : SentMayStand c.system log (entry_of c.system log (post_told c.number p at e))
     may_follow = record {
       stands = record {
         placed = (refl, refl, go.1);
@@ -522,7 +522,7 @@ module _ (c : ClusterView) (p : Pid) (made : ℕ) (was : Held) (sending : Sendin
         applies = sent_applies c.system log (entry_of c.system log (post_told c.number p at e)) p at e (state_of s.now) emission_is tells;
         kind = kind_of_post c.system log c.number p at e (state_of s.now) tells emission_is (λ end. synced_where_none c log f p (none_is (first_unsynced c.family p) (childless end)));
       };
-      built = built_of p at e;
+      of_kind = sent_of p at e;
       limits = told_keeps c.system log p at e (state_of s.now) emission_is (told_of p at e) tells keeps;
       new_page = changed_none c.system log p at e;
       pages = waits_of_post c.system log p at c.number e tells (f.pages p was there (ap (λ (h : Held). is_some (process_in h)) s.old_is));
@@ -532,7 +532,7 @@ module _ (c : ClusterView) (p : Pid) (made : ℕ) (was : Held) (sending : Sendin
     sent_alone : MarkedIfThere CarriesMarks c.system log p (unended_process (Runs s.now))
     sent_alone =
         let home = home_of_it c p was empty there valid log go f in
-        let legal = built_stands c.system log go.0 in
+        let legal = all_stand c.system log go.0 in
         marked_sends c.system log p valid legal (ap is_some home.found) s.before s.now e s.sends s.touches marked_before
 
     -- the others are held as before, since the post moves none of them
@@ -546,8 +546,8 @@ module _ (c : ClusterView) (p : Pid) (made : ℕ) (was : Held) (sending : Sendin
       so_alike c.system log q (is_fetch_queued q c.queue) (is_fetch_queued q (post ∷ [])) waiting (λ i. ap (λ ps. is_fetch_queued q ps i) empty ∙ sym (ap (λ (x : Post). is_fetch_queued q (x ∷ []) i) post_is ∙ fetches_none p q at c.number e i)) as_before.1,
     )
 
-    may_post : SentMayFollow c.system log (entry_of c.system log post)
-    may_post = subst (λ (q : Post). SentMayFollow c.system log (entry_of c.system log q)) (sym post_is) may_follow
+    may_post : SentMayStand c.system log (entry_of c.system log post)
+    may_post = subst (λ (q : Post). SentMayStand c.system log (entry_of c.system log q)) (sym post_is) may_follow
 
     lone_post : is_lone post.what ≡ true
     lone_post = ap (λ (q : Post). is_lone q.what) post_is ∙ lone_of p at e
@@ -560,7 +560,7 @@ module _ (c : ClusterView) (p : Pid) (made : ℕ) (was : Held) (sending : Sendin
     sent_marked : MarkedIfThere CarriesMarks c.system (with_queue c.system log (post ∷ [])) p (unended_process (Runs s.now))
     sent_marked =
         let home = home_of_it c p was empty there valid log go f in
-        marked_queued c.system log p valid (built_stands c.system log go.0) (ap is_some home.found) (One post) (Runs s.now) lone_post
+        marked_queued c.system log p valid (all_stand c.system log go.0) (ap is_some home.found) (One post) (Runs s.now) lone_post
         (queue_tells c.system log c.number (One post) (ap (λ b. b && true) posted_own) (may_post, tt)) held_sent sent_alone
 
     others_marked : (q : Pid) (h : Held) → same_pid q p ≡ false → held_at c q ≡ Some h → MarkedIfThere CarriesMarks c.system (with_queue c.system log c.queue) q (unended_process h)
@@ -592,7 +592,7 @@ module _ (c : ClusterView) (p : Pid) (made : ℕ) (was : Held) (sending : Sendin
     disk = f.disk;
   }
     where
-      legal_post : IsQueueLegal SentMayFollow c.system log (post ∷ [])
+      legal_post : IsQueueLegal SentMayStand c.system log (post ∷ [])
       legal_post = (may_post valid has log go f, tt)
 
       no_page : is_page_is_entry post.what ≡ false

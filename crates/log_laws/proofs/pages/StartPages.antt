@@ -34,7 +34,7 @@ use Rattle.cert_sched.proofs.RecordLaws.{start_of-snoc}
 use Rattle.cert_sched.proofs.Induction.{legal_induction}
 use Rattle.cert_sched.proofs.BornLaws.{there_not_born}
 use Rattle.cert_sched.proofs.StayingUnended.{stays_unended}
-use Rattle.cert_sched.proofs.BuiltCuts.{cut_is_of}
+use Rattle.cert_sched.proofs.CutLaws.{cut_is_of}
 use Rattle.cert_sched.proofs.OpenLaws.{unended_open}
 use Rattle.cert_sched.proofs.PageLaws.{all_kept_pages}
 use Rattle.log_laws.specs.pages.Next.{moves_next, ends_wait_next}
@@ -208,11 +208,8 @@ page_in_log system before after e p i bytes start valid legal is none started =
 abbrev pub IsWaitingRule : (System → List Entry → Entry → Type 0) → Type 0
 IsWaitingRule May = (system : System) (log : List Entry) (e : Entry) → May system log e → Stands system log e × KeepsWaits system log e
 
-pub legal_waits : IsWaitingRule MayFollow
-legal_waits system log e may = (may.stands, may.pages)
-
-pub built_waits : IsWaitingRule MayStand
-built_waits system log e may = (may.stands, may.pages)
+pub stand_waits : IsWaitingRule MayStand
+stand_waits system log e may = (may.stands, may.pages)
 
 -- a cut waits for the pages of its process
 cut_awaits : (p : Pid) (w : What) → is_cut p w ≡ true → awaits_pages w ≡ true

@@ -16,7 +16,7 @@ use Rattle.cert_sched.specs.Moved.{any_since_moved, moved_with_state, waiting_fe
 use Rattle.cert_sched.specs.Rules.{has_its_pages, awaits_pages, holds_of}
 use Rattle.cert_sched.specs.Steps.{page_count, process_of}
 use Rattle.cert_sched.specs.Kinds.{KindHolds, FetchHolds, PageIsHolds}
-use Rattle.cert_sched.specs.Legal.{IsLegalBy, Stands, MayFollow}
+use Rattle.cert_sched.specs.Legal.{IsLegalBy, Stands, MayStand}
 use Rattle.cert_sched.proofs.Induction.{legal_induction}
 use Rattle.log_laws.specs.pages.Next.{moves_next, ends_wait_next}
 use Rattle.log_laws.specs.pages.Waited.{is_wait_for, is_waited}
@@ -195,7 +195,7 @@ waited_has_not system log p i legal waited =
     zero_more : (n : ℕ) → 0 + n ≡ n
     zero_more n = omega arith
 
-pub who_acts_waits_not : (system : System) (log : List Entry) (e : Entry) (p : Pid) (i : ℕ) → IsLegalBy Stands system log → MayFollow system log e → awaits_pages (what e) ≡ true → process_of (what e) ≡ Some p → is_waited system log p i ≡ false
+pub who_acts_waits_not : (system : System) (log : List Entry) (e : Entry) (p : Pid) (i : ℕ) → IsLegalBy Stands system log → MayStand system log e → awaits_pages (what e) ≡ true → process_of (what e) ≡ Some p → is_waited system log p i ≡ false
 who_acts_waits_not system log e p i legal may awaits tells = by_either (either (is_waited system log p i))
   where
     has : has_its_pages system log p ≡ true

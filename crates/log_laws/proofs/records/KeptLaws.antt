@@ -210,40 +210,6 @@ counted_below system log e at letter kept now valid legal is unended kept_is the
     let below = count_below system log e at letter kept rolls.made (refilled (log ++ e ∷ []) p rolls.start) now is out kept_is rolls.replays in
     omega (arith, steps, starts, below)
 
--- the limit of steps fits
-few_steps : (system : System) → is_system system ≡ true → system.syncsteps ≤ 100000
-few_steps system valid =
-    let steps = and_parts (is_within 2 16 system.clusters && is_pair system.clusters (system.pager).0 (system.pager).1 && is_within 1 1000 system.syncreads) (is_within 64 100000 system.syncsteps) (tests system valid).header in
-    let most = and_parts (nat_le 64 system.syncsteps) (nat_le system.syncsteps 100000) steps.1 in
-    at_most system.syncsteps most.1
-  where
-    at_most : (n : ℕ) → nat_le n 100000 ≡ true → n ≤ 100000
-    at_most n h = grind (arith, nat_tests)
-
--- so a legal log lets its record count it
-can_count : (system : System) (log : List Entry) (e : Entry) (at : ℕ) (letter : Letter) (kept : BackRec) → is_system system ≡ true → IsLegal system (log ++ e ∷ []) → what e ≡ Mail at letter → IsUnended system log letter.from
-    → backup_record system log letter.from ≡ Some kept → (letter.out < 32) × (count_for kept.counts letter < 2 ^ 32 - 1)
-can_count system log e at letter kept valid legal is unended kept_is = by_process (process_after system (log ++ e ∷ []) letter.from) refl (unended_there Stands itself system (log ++ e ∷ []) letter.from valid stands later)
-  where
-    stands : IsLegalBy Stands system (log ++ e ∷ [])
-    stands = legal_stands MayFollow (λ system log e may. may.stands) system (log ++ e ∷ []) legal
-
-    later : IsUnended system (log ++ e ∷ []) letter.from
-    later = still_unended system log e at letter letter.from is unended
-
-    out : letter.out < 32
-    out = letter_out system log e at letter (IsLegal-last Stands system log e stands) is
-
-    by_process : (o : Option ProcState) → process_after system (log ++ e ∷ []) letter.from ≡ o → is_some o ≡ true → (letter.out < 32) × (count_for kept.counts letter < 2 ^ 32 - 1)
-    by_process None there some = absurd (true≢false (sym some))
-    by_process (Some now) there some =
-        let open_now : has_ended (now.small).status ≡ false = unended_open Stands itself system (log ++ e ∷ []) letter.from valid stands later now there in
-        let l = all_limited system (log ++ e ∷ []) valid legal letter.from now there open_now in
-        let below = count_below system log e at letter kept l.first (refilled (log ++ e ∷ []) letter.from l.start) l.there is out kept_is (sharp_replays l.first (refilled (log ++ e ∷ []) letter.from l.start) l.there (since (log ++ e ∷ []) letter.from) l.sharp) in
-        let within = l.within in
-        let few = few_steps system valid in
-        (out, omega (arith, below, within, few))
-
 -- a record that is kept is that of a process that has not ended
 record Found (system : System) (log : List Entry) (p : Pid) (r : BackRec) : Type 0 where
   pub unended : IsUnended system log p
@@ -298,8 +264,3 @@ note_by system log e k recs valid legal room keeps can = by_what (what e) refl
     by_what (Sync q small read took) is = cut_fits q small read took is
     by_what (Rebackup to fresh more) is = can_bring system log e k to fresh more recs valid legal is keeps
     by_what _ is = tt
-
--- each entry of a legal log may be noted
-pub can_note : (system : System) (log : List Entry) (e : Entry) (k : ClusterNo) (recs : List BackRec) → is_system system ≡ true → IsLegal system (log ++ e ∷ []) → length log < 2 ^ 64 - 1 → KeepsRecords system log k recs → CanNote (what e) recs
-can_note system log e k recs valid legal room keeps =
-    note_by system log e k recs valid (legal_stands MayFollow (λ system log e may. may.stands) system (log ++ e ∷ []) legal) room keeps (λ at letter kept is unended kept_is. can_count system log e at letter kept valid legal is unended kept_is)

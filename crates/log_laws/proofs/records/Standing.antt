@@ -15,8 +15,8 @@ unfolding IsLegalBy
 legal_stands May standing system log legal = stands_from May standing system [] log legal
 
 -- so it does in a log of the entries that are built so far
-pub built_stands : (system : System) (log : List Entry) → IsLegalBy MayStand system log → IsLegalBy Stands system log
-built_stands = legal_stands MayStand (λ system log e may. may.stands)
+pub all_stand : (system : System) (log : List Entry) → IsLegalBy MayStand system log → IsLegalBy Stands system log
+all_stand = legal_stands MayStand (λ system log e may. may.stands)
 
 pub itself : IsStandingRule Stands
 itself system log e stands = stands

@@ -16,8 +16,7 @@ ghost use Rattle.cert_sched.specs.Moved.{any_since_moved, moved_with_state, wait
 ghost use Rattle.cert_sched.specs.Steps.{page_count};
 ghost use Rattle.cert_sched.specs.Kinds.{PageIsHolds};
 ghost use Rattle.cert_sched.specs.Rules.{has_its_pages};
-ghost use Rattle.cert_sched.specs.Legal.{MayStand};
-ghost use Rattle.cert_sched.specs.Legal.{IsLegal, IsLegalBy, Stands};
+ghost use Rattle.cert_sched.specs.Legal.{IsLegalBy, MayStand, Stands};
 ghost use Rattle.cert_sched.specs.Simulation.{IsUnended};
 ghost use Rattle.log_laws.specs.pages.Waited.{is_waited};
 
@@ -39,8 +38,6 @@ pub fn starts_stay()
     ensures one { (system : System) (log : List Entry) (e : Entry) (p : Pid) → is_cut p (what e) ≡ false → is_birth_of p (what e) ≡ false → start_of system (log ++ e ∷ []) p ≡ start_of system log p }
     // so each page that came and was followed by no cut of the process is that of the start.
     ensures came { (system : System) (before after : List Entry) (e : Entry) (p : Pid) (i : ℕ) (bytes : List ℕ) (start : ProcState) → is_system system ≡ true → IsLegalBy Stands system (before ++ e ∷ after) → what e ≡ PageIs p i bytes → list_any (λ (f : Entry). is_cut p (what f)) after ≡ false → start_of system (before ++ e ∷ after) p ≡ Some start → bytes ≡ page_at start.memory i }
-    // While it has not got its pages it was not cut since a crash moved it, in a legal log,
-    ensures uncut { (system : System) (log : List Entry) (p : Pid) → IsLegal system log → has_its_pages system log p ≡ false → any_since_moved system log p (is_cut p) ≡ false }
-    // and in one by the rule that is in force.
-    ensures built { (system : System) (log : List Entry) (p : Pid) → IsLegalBy MayStand system log → has_its_pages system log p ≡ false → any_since_moved system log p (is_cut p) ≡ false }
+    // While it has not got its pages it was not cut since a crash moved it.
+    ensures uncut { (system : System) (log : List Entry) (p : Pid) → IsLegalBy MayStand system log → has_its_pages system log p ≡ false → any_since_moved system log p (is_cut p) ≡ false }
 {}

@@ -22,10 +22,10 @@ ghost use Rattle.cert_sched.specs.Simulation.{IsUnended};
 ghost use Rattle.backup_records.specs.Records.{CanNote, record_after, record_in, record_of_child, records_after};
 ghost use Rattle.log_laws.specs.records.Kept.{KeepsRecords, changes_in_place, is_renewed};
 
-/// A law and no code: in a legal log each entry stands, and so it does in one of the entries that are built so far.
+/// A law and no code: in a legal log each entry stands, and so it does in one by all rules but that of new backups.
 pub fn legal_logs_stand()
     ensures legal { (system : System) (log : List Entry) → IsLegal system log → IsLegalBy Stands system log }
-    ensures built { (system : System) (log : List Entry) → IsLegalBy MayStand system log → IsLegalBy Stands system log }
+    ensures standing { (system : System) (log : List Entry) → IsLegalBy MayStand system log → IsLegalBy Stands system log }
 {}
 
 /// A law and no code: an entry that is no new backup for a process after it has run makes of its record, where it has
@@ -58,7 +58,5 @@ pub fn entries_can_be_noted()
     // Of the letters that a process sent since it started, its record has counted fewer than the steps that it has made with the next one.
     ensures counts { (system : System) (log : List Entry) (e : Entry) (at : ℕ) (letter : Letter) (kept : BackRec) (now : ProcState) → is_system system ≡ true → IsLegalBy Stands system (log ++ e ∷ []) → what e ≡ Mail at letter → IsUnended system log letter.from → backup_record system log letter.from ≡ Some kept → process_after system (log ++ e ∷ []) letter.from ≡ Some now → count_for kept.counts letter < steps_since system (log ++ e ∷ []) letter.from now }
     // So each entry of a legal log may be noted.
-    ensures legal { (system : System) (log : List Entry) (e : Entry) (k : ClusterNo) (recs : List BackRec) → is_system system ≡ true → IsLegal system (log ++ e ∷ []) → length log < 2 ^ 64 - 1 → KeepsRecords system log k recs → CanNote (what e) recs }
-    // And so may each of a log of the entries that are built so far.
-    ensures built { (system : System) (log : List Entry) (e : Entry) (k : ClusterNo) (recs : List BackRec) → is_system system ≡ true → IsLegalBy MayStand system (log ++ e ∷ []) → length log < 2 ^ 64 - 1 → KeepsRecords system log k recs → CanNote (what e) recs }
+    ensures legal { (system : System) (log : List Entry) (e : Entry) (k : ClusterNo) (recs : List BackRec) → is_system system ≡ true → IsLegalBy MayStand system (log ++ e ∷ []) → length log < 2 ^ 64 - 1 → KeepsRecords system log k recs → CanNote (what e) recs }
 {}

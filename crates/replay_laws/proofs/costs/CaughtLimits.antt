@@ -23,13 +23,13 @@ use Rattle.cert_sched.specs.Rules.{is_over, keeps_limits}
 use Rattle.cert_sched.specs.Rolling.{refilled}
 use Rattle.cert_sched.specs.Legal.{IsLegalBy, MayStand}
 use Rattle.cert_sched.specs.Simulation.{IsUnended}
-use Rattle.cert_sched.proofs.LimitLaws.{Limited, built_limited}
+use Rattle.cert_sched.proofs.LimitLaws.{Limited, stand_limited}
 use Rattle.cert_sched.proofs.OpenLaws.{unended_open}
 use Rattle.cert_sched.proofs.ReadLaws.{read_count}
 use Rattle.cert_sched.proofs.ReplayLaws.{Sharp, first_is, replays_computes, replays_counts, replays_goes_on, sharp_replays}
 use Rattle.cert_sched.proofs.RunsOutLaws.{replays_fine, runs_out_once, sharp_runs_out, start_ends}
 use Rattle.replay_laws.specs.rolling.Behind.{RollsBehind}
-use Rattle.replay_laws.proofs.rolling.ByRule.{built_caught_up, built_stands}
+use Rattle.replay_laws.proofs.rolling.ByRule.{stand_caught_up, standing}
 use Rattle.replay_laws.proofs.rolling.CaughtUp.{caught_up_after}
 use Rattle.replay_laws.proofs.rolling.Exact.{IsExact, exact_unended}
 
@@ -74,24 +74,24 @@ module _ (system : System) (log : List Entry) (p : Pid) (now : ProcState) (goes_
 -- ---- in a log of what is built
 
 -- each process that has not ended is within its limits, where the log is not over
-pub built_keeps : (system : System) (log : List Entry) (p : Pid) (now : ProcState) → is_system system ≡ true → IsLegalBy MayStand system log → is_over system log ≡ false → IsUnended system log p
+pub stand_keeps : (system : System) (log : List Entry) (p : Pid) (now : ProcState) → is_system system ≡ true → IsLegalBy MayStand system log → is_over system log ≡ false → IsUnended system log p
     → process_after system log p ≡ Some now → keeps_limits system log p now ≡ true
-built_keeps system log p now valid legal open_log unended there =
-    let goes_on = unended_open MayStand built_stands system log p valid legal unended now there in
-    let l = built_limited system log valid legal p now there goes_on in
-    ap (keeps_limits system log p) (sym (at_last system log p now goes_on l (exact_unended MayStand built_stands system log p now valid legal open_log unended there)))
+stand_keeps system log p now valid legal open_log unended there =
+    let goes_on = unended_open MayStand standing system log p valid legal unended now there in
+    let l = stand_limited system log valid legal p now there goes_on in
+    ap (keeps_limits system log p) (sym (at_last system log p now goes_on l (exact_unended MayStand standing system log p now valid legal open_log unended there)))
     ∙ last_keeps system log p now goes_on l
 
 -- so is one that rolls forward, is not beyond where it was and has nothing left
 pub caught_keeps : (system : System) (log : List Entry) (p : Pid) (s : ProcState) (counts : Counts) (births : List Pid) → is_system system ≡ true → IsLegalBy MayStand system log → is_over system log ≡ false → IsUnended system log p
     → RollsBehind system log p s counts births → nothing_left counts births ≡ true → keeps_limits system log p s ≡ true
 caught_keeps system log p s counts births valid legal open_log unended rolls none =
-    built_keeps system log p s valid legal open_log unended (built_caught_up system log p s counts births valid legal open_log unended rolls none)
+    stand_keeps system log p s valid legal open_log unended (stand_caught_up system log p s counts births valid legal open_log unended rolls none)
 
 -- and one that has made all the steps ahead
 pub caught_limits : (system : System) (log : List Entry) (p : Pid) (process q : Process) (counts left : Counts) (births unborn : List Pid) (n : ℕ) → is_system system ≡ true → IsLegalBy MayStand system log
     → is_over system log ≡ false → IsUnended system log p → RollsBehind system log p (state_of process) counts births → RunsOut (state_of process) counts births n
     → rolled_on n (going process counts births) ≡ Some (going q left unborn) → keeps_limits system log p (state_of q) ≡ true
 caught_limits system log p process q counts left births unborn n valid legal open_log unended rolls runs made =
-    built_keeps system log p (state_of q) valid legal open_log unended
-    (caught_up_after MayStand built_stands system log p n (going process counts births) (going q left unborn) valid legal open_log unended rolls runs made)
+    stand_keeps system log p (state_of q) valid legal open_log unended
+    (caught_up_after MayStand standing system log p n (going process counts births) (going q left unborn) valid legal open_log unended rolls runs made)

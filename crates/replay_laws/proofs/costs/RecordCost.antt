@@ -19,12 +19,12 @@ use Rattle.cert_sched.specs.Record.{backup_record}
 use Rattle.cert_sched.specs.Rolling.{refilled}
 use Rattle.cert_sched.specs.Legal.{IsLegalBy, MayStand}
 use Rattle.cert_sched.specs.Simulation.{IsUnended, RecordLeads}
-use Rattle.cert_sched.proofs.LimitLaws.{Ahead, built_record_ahead}
+use Rattle.cert_sched.proofs.LimitLaws.{Ahead, stand_record_ahead}
 use Rattle.cert_sched.proofs.OpenLaws.{unended_open}
 use Rattle.cert_sched.proofs.ReplayLaws.{first_is}
 use Rattle.cert_sched.proofs.RunsOutLaws.{record_leads, runs_out_once}
 use Rattle.cert_sched.proofs.ThereLaws.{unended_there}
-use Rattle.replay_laws.proofs.rolling.ByRule.{built_stands}
+use Rattle.replay_laws.proofs.rolling.ByRule.{standing}
 
 -- where the process is, and how its record leads there
 record Found (system : System) (log : List Entry) (p : Pid) (kept : BackRec) : Type 0 where
@@ -33,14 +33,14 @@ record Found (system : System) (log : List Entry) (p : Pid) (kept : BackRec) : T
   pub ahead : Ahead system kept leads.there leads.ahead
 
 found : (system : System) (log : List Entry) (p : Pid) (kept : BackRec) → is_system system ≡ true → IsLegalBy MayStand system log → IsUnended system log p → backup_record system log p ≡ Some kept → Found system log p kept
-found system log p kept valid legal unended is = by_process (process_after system log p) refl (unended_there MayStand built_stands system log p valid legal unended)
+found system log p kept valid legal unended is = by_process (process_after system log p) refl (unended_there MayStand standing system log p valid legal unended)
   where
     by_process : (o : Option ProcState) → process_after system log p ≡ o → is_some o ≡ true → Found system log p kept
     by_process None there some = absurd (true≢false (sym some))
     by_process (Some now) there some =
-        let goes_on = unended_open MayStand built_stands system log p valid legal unended now there in
-        let leads = record_leads MayStand built_stands system log p now kept valid legal there goes_on is in
-        record { now = now; leads = leads; ahead = built_record_ahead system log p now kept valid legal there goes_on leads is }
+        let goes_on = unended_open MayStand standing system log p valid legal unended now there in
+        let leads = record_leads MayStand standing system log p now kept valid legal there goes_on is in
+        record { now = now; leads = leads; ahead = stand_record_ahead system log p now kept valid legal there goes_on leads is }
 
 module _ (system : System) (log : List Entry) (p : Pid) (start : ProcState) (kept : BackRec) (ram : Memory) (n : ℕ) (f : Found system log p kept) (begins : start_of system log p ≡ Some start) (bytes : ram.bytes ≡ start.memory)
     (runs : RunsOut (started start.small ram kept.saved kept.next) kept.counts kept.births n) where

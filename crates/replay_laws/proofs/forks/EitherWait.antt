@@ -13,7 +13,7 @@ use Rattle.cert_sched.specs.Moved.{any_since_moved, is_fetch, is_page_is}
 use Rattle.cert_sched.specs.Record.{backup_record, has_state}
 use Rattle.cert_sched.specs.Simulation.{IsUnended}
 use Rattle.backup_records.specs.Records.{record_after}
-use Rattle.log_laws.proofs.records.Standing.{built_stands}
+use Rattle.log_laws.proofs.records.Standing.{all_stand}
 use Rattle.log_laws.specs.pages.Next.{moves_next}
 use Rattle.log_laws.proofs.pages.MovedStated.{moved_stated}
 use Rattle.checkpoint_laws.specs.marks.Beside.{is_some_page}
@@ -43,7 +43,7 @@ lacks_pages system log p queued w i (inr waits) lacks = absurd (true≢false (sy
 
 -- and its record has one where it waits for pages
 pub stated_record : (system : System) (log : List Entry) (p : Pid) (queued : ℕ → Bool) (w : WaitingState) → IsLegalBy MayStand system log → WaitsAs system log p queued w → is_some (w.kept).state ≡ true
-stated_record system log p queued w legal waits = record_stated system log p w.kept waits.kept ∙ moved_stated system log p (built_stands system log legal) waits.moved
+stated_record system log p queued w legal waits = record_stated system log p w.kept waits.kept ∙ moved_stated system log p (all_stand system log legal) waits.moved
 
 -- so where its record has none it waits for its parent's fork
 pub for_fork : (system : System) (log : List Entry) (p : Pid) (queued : ℕ → Bool) (w : WaitingState) → IsLegalBy MayStand system log → WaitsSo system log p queued w → (w.kept).state ≡ None → WaitsForFork system log p w
@@ -69,18 +69,18 @@ pub so_begins : (system : System) (log : List Entry) (e : Entry) (p : Pid) (kept
 so_begins system log e p kept valid legal unended moves is = by_state (has_state system log p) refl
   where
     by_state : (b : Bool) → has_state system log p ≡ b → WaitsSo system (log ++ e ∷ []) p none_queued (first_wait kept)
-    by_state true stated = inl (pages_begin system log e p kept valid (built_stands system (log ++ e ∷ []) legal) unended stated moves is)
-    by_state false stateless = inr (begins_so system log e p kept valid (built_stands system (log ++ e ∷ []) legal) unended stateless moves is)
+    by_state true stated = inl (pages_begin system log e p kept valid (all_stand system (log ++ e ∷ []) legal) unended stated moves is)
+    by_state false stateless = inr (begins_so system log e p kept valid (all_stand system (log ++ e ∷ []) legal) unended stateless moves is)
 
 -- it waits on after an entry by which no page of it comes or is sent, that does not cut it and tells of no deed of it
 pub so_follows : (system : System) (log : List Entry) (e : Entry) (p : Pid) (queued : ℕ → Bool) (w : WaitingState) → is_system system ≡ true → IsLegalBy MayStand system (log ++ e ∷ []) → IsUnended system log p → moves_next system log e p ≡ false
     → is_cut p (what e) ≡ false → deeds_in p (what e) ≡ [] → ((i : ℕ) → is_page_is p i (what e) ≡ false) → is_some_page p (what e) ≡ false → WaitsSo system log p (λ i. is_fetch p i (what e) || queued i) w → WaitsSo system (log ++ e ∷ []) p queued (record w { kept = record_after (what e) w.kept })
 so_follows system log e p queued w valid legal unended stays no_cut none no_page unsent (inl is) = inl (other_entry system log e p queued w valid legal unended stays no_cut none no_page is)
-so_follows system log e p queued w valid legal unended stays no_cut none no_page unsent (inr is) = inr (follows_so system log e p w valid (built_stands system (log ++ e ∷ []) legal) unended no_cut unsent is)
+so_follows system log e p queued w valid legal unended stays no_cut none no_page unsent (inr is) = inr (follows_so system log e p w valid (all_stand system (log ++ e ∷ []) legal) unended no_cut unsent is)
 
 -- a page that comes is of a process that waits for pages
 pub page_for : (system : System) (log : List Entry) (e : Entry) (p : Pid) (i : ℕ) (bytes : List ℕ) (queued : ℕ → Bool) (w : WaitingState) → IsLegalBy MayStand system (log ++ e ∷ []) → what e ≡ PageIs p i bytes → WaitsSo system log p queued w → WaitsAs system log p queued w
 page_for system log e p i bytes queued w legal is (inl waits) = waits
 page_for system log e p i bytes queued w legal is (inr waits) =
     let here : is_page_is p i (what e) ≡ true = ap (is_page_is p i) is ∙ (λ k. eq-eqb p.0 p.0 refl k && eq-eqb i i refl k) in
-    absurd (true≢false (sym here ∙ none_comes system log e p i (built_stands system (log ++ e ∷ []) legal) waits.stateless))
+    absurd (true≢false (sym here ∙ none_comes system log e p i (all_stand system (log ++ e ∷ []) legal) waits.stateless))

@@ -20,7 +20,7 @@ use Rattle.cert_sched.specs.Told.{cluster_lost}
 use Rattle.cert_sched.proofs.LogLaws.{IsLegal-before, IsLegal-last}
 use Rattle.cert_sched.proofs.StayingUnended.{no_deed_no_exit}
 use Rattle.cert_sched.proofs.ThereLaws.{unended_there}
-use Rattle.log_laws.proofs.records.Standing.{built_stands, itself}
+use Rattle.log_laws.proofs.records.Standing.{all_stand, itself}
 use Rattle.backup_records.specs.Records.{record_after}
 use Rattle.log_laws.specs.pages.Next.{moves_next}
 use Rattle.log_laws.proofs.pages.Keeping.{kept_still}
@@ -131,13 +131,13 @@ module _ (system : System) (log : List Entry) (e : Entry) (p : Pid) (queued : �
 -- an entry that is no page of it, and does not cut it
 pub other_entry : (system : System) (log : List Entry) (e : Entry) (p : Pid) (queued : ℕ → Bool) (w : WaitingState) → is_system system ≡ true → IsLegalBy MayStand system (log ++ e ∷ []) → IsUnended system log p → moves_next system log e p ≡ false
     → is_cut p (what e) ≡ false → deeds_in p (what e) ≡ [] → ((i : ℕ) → is_page_is p i (what e) ≡ false) → WaitsAs system log p (λ i. is_fetch p i (what e) || queued i) w → WaitsAs system (log ++ e ∷ []) p queued (record w { kept = record_after (what e) w.kept })
-other_entry system log e p queued w valid legal = other_so system log e p queued w valid (built_stands system (log ++ e ∷ []) legal)
+other_entry system log e p queued w valid legal = other_so system log e p queued w valid (all_stand system (log ++ e ∷ []) legal)
 
 -- a page of it
 pub page_within : (system : System) (log : List Entry) (e : Entry) (p : Pid) (queued : ℕ → Bool) (w : WaitingState) → is_system system ≡ true → IsLegalBy MayStand system (log ++ e ∷ []) → (i : ℕ) (bytes : List ℕ) → what e ≡ PageIs p i bytes
     → WaitsAs system log p queued w → i < length w.come
-page_within system log e p queued w valid legal = within_so system log e p queued w valid (built_stands system (log ++ e ∷ []) legal)
+page_within system log e p queued w valid legal = within_so system log e p queued w valid (all_stand system (log ++ e ∷ []) legal)
 
 pub page_entry : (system : System) (log : List Entry) (e : Entry) (p : Pid) (queued : ℕ → Bool) (w : WaitingState) → is_system system ≡ true → IsLegalBy MayStand system (log ++ e ∷ []) → (i : ℕ) (bytes : List ℕ) → what e ≡ PageIs p i bytes
     → WaitsAs system log p queued w → IsUnended system log p → WaitsAs system (log ++ e ∷ []) p queued (with_page i bytes w)
-page_entry system log e p queued w valid legal = page_so system log e p queued w valid (built_stands system (log ++ e ∷ []) legal)
+page_entry system log e p queued w valid legal = page_so system log e p queued w valid (all_stand system (log ++ e ∷ []) legal)

@@ -14,7 +14,7 @@ use Rattle.replay_laws.specs.rolling.Behind.{RollsBehind}
 use Rattle.replay_laws.proofs.rolling.ByRule.{itself, standing_always, standing_from_start}
 use Rattle.replay_laws.proofs.rolling.FromStart.{stated_at_start}
 use Rattle.replay_laws.proofs.rolling.Reaching.{LedThere, led_there}
-use Rattle.log_laws.proofs.records.Standing.{built_stands}
+use Rattle.log_laws.proofs.records.Standing.{all_stand}
 use Rattle.log_laws.proofs.pages.SizesStay.{start_sized}
 use Rattle.log_laws.proofs.pages.StartPages.{kept_pages}
 use Rattle.page_waits.specs.Pages.{AreAllPages}
@@ -69,8 +69,8 @@ module _ (system : System) (log : List Entry) (p : Pid) (queued : ℕ → Bool) 
 
 -- in a log of the entries that are built so far
 pub can_go_on : (system : System) (log : List Entry) (p : Pid) (queued : ℕ → Bool) (w : WaitingState) → is_system system ≡ true → IsLegalBy MayStand system log → IsUnended system log p → WaitsAs system log p queued w → is_whole w ≡ true → CanGoOn w
-can_go_on system log p queued w valid legal = can_go_on_so system log p queued w valid (built_stands system log legal)
+can_go_on system log p queued w valid legal = can_go_on_so system log p queued w valid (all_stand system log legal)
 
 pub goes_on : (system : System) (log : List Entry) (p : Pid) (queued : ℕ → Bool) (w : WaitingState) → is_system system ≡ true → IsLegalBy MayStand system log → IsUnended system log p → WaitsAs system log p queued w → is_whole w ≡ true
     → GoesOnAs system log p w
-goes_on system log p queued w valid legal = goes_on_so system log p queued w valid (built_stands system log legal)
+goes_on system log p queued w valid legal = goes_on_so system log p queued w valid (all_stand system log legal)

@@ -15,10 +15,10 @@ use Rattle.cert_sched.specs.Steps.{page_count}
 use Rattle.cert_sched.specs.Legal.{MayStand}
 use Rattle.cert_sched.specs.Legal.{IsLegalBy, Stands}
 use Rattle.cert_sched.specs.Simulation.{IsUnended}
-use Rattle.replay_laws.proofs.rolling.ByRule.{built_stands, itself}
+use Rattle.replay_laws.proofs.rolling.ByRule.{standing, itself}
 use Rattle.replay_laws.proofs.rolling.FromStart.{stated_at_start}
 use Rattle.replay_laws.proofs.rolling.Reaching.{led_there}
-use Rattle.log_laws.proofs.records.Standing.{built_stands as all_stand}
+use Rattle.log_laws.proofs.records.Standing.{all_stand}
 use Rattle.page_waits.specs.Waiting.{page_count as pages_of}
 use Rattle.replay_laws.proofs.pages.PageCounts.{few_pages, start_count}
 
@@ -57,5 +57,5 @@ pub record StartsSo (system : System) (log : List Entry) (p : Pid) : Type 0 wher
 
 pub starts_so : (system : System) (log : List Entry) (p : Pid) → is_system system ≡ true → IsLegalBy MayStand system log → IsUnended system log p → StartsSo system log p
 starts_so system log p valid legal unended =
-    let there = led_there MayStand built_stands system log p valid legal unended in
+    let there = led_there MayStand standing system log p valid legal unended in
     record { start = (there.led).start; started = (there.led).started }

@@ -43,8 +43,8 @@ use Rattle.replay_laws.proofs.rolling.CaughtUp.{standing_caught_up, caught_up_af
 pub itself : IsStandingRule Stands
 itself system log e stands = stands
 
-pub built_stands : IsStandingRule MayStand
-built_stands system log e may = may.stands
+pub standing : IsStandingRule MayStand
+standing system log e may = may.stands
 
 pub begins_behind : (system : System) (log : List Entry) (p : Pid) (start : ProcState) (kept : BackRec) (small : SmallState) (ram : Memory) → is_system system ≡ true → IsLegalBy Stands system log → IsUnended system log p → start_of system log p ≡ Some start
     → backup_record system log p ≡ Some kept → kept.state ≡ Some small → ram.bytes ≡ start.memory → RollsBehind system log p (started small ram kept.saved kept.next) kept.counts kept.births
@@ -163,10 +163,10 @@ pub standing_from : (system : System) (log : List Entry) (p : Pid) (ahead : ℕ)
 standing_from = caught_up_from Stands itself
 
 -- in a log of the entries that are built so far
-pub built_caught_up : (system : System) (log : List Entry) (p : Pid) (s : ProcState) (counts : Counts) (births : List Pid) → is_system system ≡ true → IsLegalBy MayStand system log → is_over system log ≡ false → IsUnended system log p
+pub stand_caught_up : (system : System) (log : List Entry) (p : Pid) (s : ProcState) (counts : Counts) (births : List Pid) → is_system system ≡ true → IsLegalBy MayStand system log → is_over system log ≡ false → IsUnended system log p
     → RollsBehind system log p s counts births → nothing_left counts births ≡ true → process_after system log p ≡ Some s
-built_caught_up = standing_caught_up MayStand built_stands
+stand_caught_up = standing_caught_up MayStand standing
 
-pub built_silent : (system : System) (log : List Entry) (p : Pid) (s : ProcState) (counts : Counts) (births : List Pid) → is_system system ≡ true → IsLegalBy MayStand system log → is_over system log ≡ false → IsUnended system log p
+pub stand_silent : (system : System) (log : List Entry) (p : Pid) (s : ProcState) (counts : Counts) (births : List Pid) → is_system system ≡ true → IsLegalBy MayStand system log → is_over system log ≡ false → IsUnended system log p
     → RollsBehind system log p s counts births → nothing_left counts births ≡ true → silent_upto system log p (s.small).steps ≡ Some s
-built_silent system log p s counts births valid legal goes_on unended rolls none = silent_here system log p s (built_caught_up system log p s counts births valid legal goes_on unended rolls none)
+stand_silent system log p s counts births valid legal goes_on unended rolls none = silent_here system log p s (stand_caught_up system log p s counts births valid legal goes_on unended rolls none)

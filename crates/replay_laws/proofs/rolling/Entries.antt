@@ -31,7 +31,7 @@ use Rattle.cert_sched.proofs.MailLaws.{boot_arrived}
 use Rattle.cert_sched.proofs.ReplayLaws.{Replays, replays_all_delivered}
 use Rattle.cert_sched.proofs.CameLaws.{IsStandingRule}
 use Rattle.cert_sched.proofs.StayingUnended.{stays_unended}
-use Rattle.cert_sched.proofs.BuiltCuts.{cut_unended}
+use Rattle.cert_sched.proofs.CutLaws.{cut_unended}
 use Rattle.cert_sched.proofs.RollLaws.{Rolls, all_roll, refilled_more}
 use Rattle.cert_sched.proofs.OpenLaws.{unended_open}
 use Rattle.cert_sched.proofs.ThereLaws.{unended_there}

@@ -25,7 +25,7 @@ use Rattle.cert_sched.specs.Rolling.{refilled, RollsAs}
 use Rattle.cert_sched.specs.Legal.{Stands}
 use Rattle.cert_sched.proofs.StepLaws.{process_after-own}
 use Rattle.cert_sched.proofs.CameLaws.{same_of}
-use Rattle.cert_sched.proofs.BuiltCuts.{cut_by_home}
+use Rattle.cert_sched.proofs.CutLaws.{cut_by_home}
 use Rattle.cert_sched.proofs.ReplayLaws.{replays_counts}
 use Rattle.replay_laws.proofs.rolling.Replaying.{rolling_of}
 

@@ -28,7 +28,7 @@ use Rattle.cert_sched.specs.Legal.{IsLegalBy, MayStand}
 use Rattle.cert_sched.specs.Simulation.{IsUnended}
 use Rattle.cert_sched.proofs.Systems.{cluster, two_system, two_words}
 use Rattle.replay_laws.specs.rolling.Behind.{RollsBehind}
-use Rattle.replay_laws.proofs.rolling.ByRule.{built_caught_up}
+use Rattle.replay_laws.proofs.rolling.ByRule.{stand_caught_up}
 
 -- the system of two letters, with a name for its image
 abbrev named_system : System
@@ -107,7 +107,7 @@ unfolding placement
 unended = refl
 
 there : process_after named_system log writer ≡ Some (after 6)
-there = built_caught_up named_system log writer (after 6) (counts_of []) [] valid legal not_over unended withheld refl
+there = stand_caught_up named_system log writer (after 6) (counts_of []) [] valid legal not_over unended withheld refl
 
 -- a silent step beyond leaves what it has done again, and is no longer where it was: so its steps are to be counted too
 beyond : RollsAs named_system log writer (after 7) (counts_of []) []

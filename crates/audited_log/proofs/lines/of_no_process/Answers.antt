@@ -3,7 +3,7 @@ use Rattle.cert_sched.specs.Legal.{MayStand}
 use Rattle.entry_lines.specs.declared.told.Told.{Told}
 use Rattle.entry_lines.specs.declared.told.ToldWhat.TheVariants.{PageIs}
 use Rattle.log_audit.specs.Decides.{Decides}
-use Rattle.log_laws.proofs.records.Standing.{built_stands}
+use Rattle.log_laws.proofs.records.Standing.{all_stand}
 use Rattle.page_accounts.proofs.WaitLaws.{earliest_is_kept}
 use Rattle.audited_log.specs.Common.{IsCommonOf}
 use Rattle.audited_log.specs.Answers.{entry_of}
@@ -13,7 +13,7 @@ use Rattle.audited_log.proofs.lines.of_no_process.Goals as goal
 pub page_is-requires : goal.page_is-requires
 page_is-requires c =
     let some = c.requires.ready.some in
-    earliest_is_kept some.system some.log (c.args.state.now.common).pager some.valid (built_stands some.system some.log some.legal) ((some.is).common).accounts
+    earliest_is_kept some.system some.log (c.args.state.now.common).pager some.valid (all_stand some.system some.log some.legal) ((some.is).common).accounts
 
 pub returns-in_ok-answer-in-PageIs-clause-leads : goal.returns-in_ok-answer-in-PageIs-clause-leads
 returns-in_ok-answer-in-PageIs-clause-leads c =

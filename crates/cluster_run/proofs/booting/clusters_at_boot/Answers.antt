@@ -11,7 +11,7 @@ use Rattle.cert_sched.specs.Losses.{was_lost_in}
 use Rattle.cert_sched.specs.Scripted.{is_server}
 use Rattle.page_server.specs.declared.mem_disk.MemDisk.{MemDisk}
 use Rattle.cluster_core.specs.Calls.{IsFirst}
-use Rattle.cluster_core.specs.Follows.{FollowsBuilt}
+use Rattle.cluster_core.specs.Follows.{Follows}
 use Rattle.cluster_core.specs.Serving.{IsFailing}
 use Rattle.cluster_core.specs.View.{ClusterView, failing_in}
 use Rattle.cluster_turns.specs.Disks.{HasFailed, IsDiskOf, calls_for}
@@ -71,7 +71,7 @@ loop-number-preserved c =
     disk : IsDiskOf c.args.script.now [] v
     disk = at_boot ∙ sym (λ i. cond (whole (is_server v.system v.number) (was_lost_in (take v.cursor []) v.number) none_lost i) (Some (Some (calls_for v.number c.args.script.now))) None)
 
-    by_failed : (o : Option ℕ) → v.failed ≡ o → IfSome o (λ call. IsFailing v.server call × (v.here ≡ [])) → ((v.failed ≡ None) × FollowsBuilt system [] v) ⊎ HasFailed c.args.script.now v
+    by_failed : (o : Option ℕ) → v.failed ≡ o → IfSome o (λ call. IsFailing v.server call × (v.here ≡ [])) → ((v.failed ≡ None) × Follows system [] v) ⊎ HasFailed c.args.script.now v
     by_failed None unfailed fails = inl (unfailed, c.in_ok-cluster.ensures.follows unfailed (ahead c.in_ok-disk.disk c.in_ok-disk.ensures.unused))
     by_failed (Some call) failed fails =
         let named = disk_named c.args.script.now [] v call disk fails.0 in

@@ -4,7 +4,7 @@ use Rattle.sys_text.specs.Valid.{is_system}
 use Rattle.bus_msg.specs.declared.entry.Entry.{Entry}
 use Rattle.cert_sched.specs.Legal.{IsLegalBy, Stands}
 use Rattle.cert_sched.specs.Counted.{counted}
-use Rattle.log_laws.proofs.records.Standing.{built_stands}
+use Rattle.log_laws.proofs.records.Standing.{all_stand}
 use Rattle.report_text.specs.Good.{EndsAs}
 use Rattle.cluster_run.proofs.Ended.{ends_finished}
 use Rattle.cluster_run.proofs.GoodRun.{good_run}
@@ -18,7 +18,7 @@ pub counts_of-requires-clause-legal : goal.counts_of-requires-clause-legal
 counts_of-requires-clause-legal c =
     let Of : System → Type 0 = λ system. IsLegalBy Stands system c.args.bus.log in
     let At : List Entry → Type 0 = λ log. IsLegalBy Stands c.args.system.now log in
-    subst At (sym (c.as_slice.ensures ∙ c.in_ok-log.ensures.log)) (subst Of c.requires.system (built_stands c.args.bus.system c.args.bus.log c.in_ok-log.ensures.lawful.legal))
+    subst At (sym (c.as_slice.ensures ∙ c.in_ok-log.ensures.log)) (subst Of c.requires.system (all_stand c.args.bus.system c.args.bus.log c.in_ok-log.ensures.lawful.legal))
 
 pub returns-clause-good : goal.returns-clause-good
 returns-clause-good c =

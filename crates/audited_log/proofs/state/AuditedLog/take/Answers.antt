@@ -6,7 +6,7 @@ use Rattle.channel_table.specs.Changes.{CanBeAbsorbed}
 use Rattle.cert_sched.specs.Legal.{MayStand}
 use Rattle.cert_sched.proofs.LogLaws.{IsLegal-snoc}
 use Rattle.cert_sched.proofs.NextChildren.{may_be_absorbed}
-use Rattle.log_laws.proofs.records.Standing.{built_stands}
+use Rattle.log_laws.proofs.records.Standing.{all_stand}
 use Rattle.log_processes.specs.Families.{CanBear}
 use Rattle.log_processes.proofs.Children.{can_bear}
 use Rattle.audited_log.proofs.Taking.{goes_on_so}
@@ -28,7 +28,7 @@ pub take-requires-2-clause-records : goal.take-requires-2-clause-records
 take-requires-2-clause-records c =
     let r = c.requires in
     let e = c.args.answer.entry in
-    c.entries_can_be_taken.ensures r.system r.log e (c.args.self.now.common).records r.valid (built_stands r.system (r.log ++ e ∷ []) (IsLegal-snoc MayStand r.system r.log e r.legal r.may)) r.room
+    c.entries_can_be_taken.ensures r.system r.log e (c.args.self.now.common).records r.valid (all_stand r.system (r.log ++ e ∷ []) (IsLegal-snoc MayStand r.system r.log e r.legal r.may)) r.room
     ((r.is).common).records
 
 pub returns-clause-takes : goal.returns-clause-takes

@@ -13,7 +13,7 @@ use Rattle.cluster_core.specs.View.{ClusterView, limits_of}
 use Rattle.residents.specs.Owing.{duty_in}
 use Rattle.residents.specs.Held.{Held}
 use Rattle.cluster_core.specs.Booting.{AreBooted}
-use Rattle.cluster_core.specs.Follows.{FollowsBuilt}
+use Rattle.cluster_core.specs.Follows.{Follows}
 use Rattle.cluster_core.specs.Parts.{AllOwn}
 use Rattle.cluster_core.specs.Serving.{BeginsToServe, IsFailing}
 use Rattle.cluster_core.proofs.boot.Booted.{boot_view, boot_follows, boot_own, placed_at_boot}
@@ -37,7 +37,7 @@ returns-clause-follows g c unfailed ahead =
     let sound = c.in_ok-parts.ensures.ahead unfailed ahead in
     let old : ClusterView = record (boot_view system c.args.number here recs server failed) { system = arc_value c.in_ok-clone.field-0; places = c.in_ok-places.places; family = c.none.result; owed = c.none-2.result; queue = c.new.result.items } in
     let same : old ≡ boot_view system c.args.number here recs server failed = λ i. record (boot_view system c.args.number here recs server failed) { system = shared i; places = places i; family = c.none.ensures i; owed = c.none-2.ensures i; queue = c.new.ensures.items i } in
-    subst (FollowsBuilt system []) (sym same) (boot_follows system c.args.number here recs server failed c.requires.valid booted kept (c.in_ok-parts.ensures.there ∙ c.requires.disk) begins (unfailed, sound))
+    subst (Follows system []) (sym same) (boot_follows system c.args.number here recs server failed c.requires.valid booted kept (c.in_ok-parts.ensures.there ∙ c.requires.disk) begins (unfailed, sound))
 
 pub invariant_of-result : goal.invariant_of-result
 invariant_of-result g c =
@@ -49,7 +49,7 @@ invariant_of-result g c =
       duty_are = c.in_ok-parts.ensures.duty ∙ ap (λ (s : System). duty_in (limits_of s) c.in_ok-places.places here) (c.deref-2.ensures ∙ sym shared);
       residents = by_failed c.in_ok-parts.parts.failed refl;
       own = ap (list_all (λ (post : Post). is_from c.args.number post.by)) c.new.ensures.items;
-      built = ap (list_all (λ (post : Post). is_sent post.what)) c.new.ensures.items;
+      of_kind = ap (list_all (λ (post : Post). is_sent post.what)) c.new.ensures.items;
     }
   where
     here : List (Pid × Held)

@@ -17,7 +17,7 @@ use Rattle.cluster_core.proofs.paging.Answering.{can_answer}
 use Rattle.cluster_core.proofs.absorbing.Serials.{next_fits}
 use Rattle.cluster_core.proofs.working.Turning.{worked_view, works}
 use Rattle.cluster_core.proofs.handing.Posts.{next_can}
-use Rattle.log_laws.proofs.records.Standing.{built_stands}
+use Rattle.log_laws.proofs.records.Standing.{all_stand}
 use Rattle.standing_backups.specs.Standing.{CanBeNext}
 use Rattle.cluster_core.proofs.cluster.Cluster.do_work.Goals as goal
 
@@ -30,7 +30,7 @@ work_on-requires-clause-standing g c =
     let own = subst (λ (v : ClusterView). AllOwn v.cursor v.here) c.self.view_is c.self.invariant.residents in
     let valid = subst (λ (v : ClusterView). is_system v.system ≡ true) c.self.view_is c.self.invariant.valid in
     let some = c.requires.follows in
-    subst (λ (v : ClusterView). CanBeNext v.places v.family v.here v.owed) (sym c.self.view_is) (next_can old some.log valid (built_stands old.system some.log some.open_log.0) some.follows own)
+    subst (λ (v : ClusterView). CanBeNext v.places v.family v.here v.owed) (sym c.self.view_is) (next_can old some.log valid (all_stand old.system some.log some.open_log.0) some.follows own)
 
 pub work_on-requires-clause-can : goal.work_on-requires-clause-can
 work_on-requires-clause-can g c =
@@ -90,5 +90,5 @@ invariant_of-self-2 g c =
       duty_are = c.work_on.ensures.duty ∙ c.self.invariant.duty_are ∙ ap (λ pids. record { limits = limits_of (arc_value c.self.inside.system); owing = owing_in c.self.inside.places pids }) (ap (λ (v : ClusterView). pids_in v.here) c.self.view_is ∙ sym done.pids);
       residents = subst (λ (v : ClusterView). AllOwn v.cursor c.work_on.new.here.here) (sym c.self.view_is) done.residents;
       own = subst (λ (v : ClusterView). list_all (λ (post : Post). is_from v.number post.by) c.work_on.new.queue.items ≡ true) (sym c.self.view_is) done.own;
-      built = done.built;
+      of_kind = done.of_kind;
     }

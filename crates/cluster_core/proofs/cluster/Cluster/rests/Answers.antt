@@ -6,6 +6,7 @@ use Rattle.residents.specs.Residents.{are_rising, are_settled, pids_in}
 use Rattle.residents.specs.Told.{rests_in}
 use Rattle.cluster_core.proofs.working.Resting.{told_rests}
 use Rattle.cluster_core.proofs.cluster.Cluster.rests.Goals as goal
+use Rattle.sys_text.specs.Valid.{is_system}
 
 pub returns-clause-rests : goal.returns-clause-rests
 returns-clause-rests g c =
@@ -15,4 +16,4 @@ returns-clause-rests g c =
 pub returns-clause-idle : goal.returns-clause-idle
 returns-clause-idle g c =
     let ordered = subst (λ (v : ClusterView). are_rising (pids_in v.here) ≡ true) c.self.view_is c.rests.ensures.ordered in
-    told_rests c.args.self.now c.rests.result ordered (returns-clause-rests g c)
+    told_rests c.args.self.now c.rests.result (subst (λ (v : ClusterView). is_system v.system ≡ true) c.self.view_is c.self.invariant.valid) ordered (returns-clause-rests g c)

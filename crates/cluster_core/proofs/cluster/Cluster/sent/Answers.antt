@@ -19,5 +19,5 @@ invariant_of-self g c = record {
   duty_are = c.renew.ensures.duty ∙ c.self.invariant.duty_are ∙ ap (λ pids. record { limits = limits_of (arc_value c.self.inside.system); owing = owing_in c.self.inside.places pids }) (sym (ap pids_in c.renew.ensures.here ∙ pids_by_head c.self.inside.queue.items c.self.inside.here.here));
   residents = subst (AllOwn c.self.inside.cursor) (sym c.renew.ensures.here) (own_by_head c.self.inside.cursor c.self.inside.queue.items c.self.inside.here.here c.self.invariant.residents);
   own = behind_all (λ (post : Post). is_from c.self.inside.number post.by) c.pop_front.result c.self.inside.queue.items c.pop_front.new.self.items c.pop_front.ensures.items c.self.invariant.own;
-  built = behind_all (λ (post : Post). is_sent post.what) c.pop_front.result c.self.inside.queue.items c.pop_front.new.self.items c.pop_front.ensures.items c.self.invariant.built;
+  of_kind = behind_all (λ (post : Post). is_sent post.what) c.pop_front.result c.self.inside.queue.items c.pop_front.new.self.items c.pop_front.ensures.items c.self.invariant.of_kind;
 }

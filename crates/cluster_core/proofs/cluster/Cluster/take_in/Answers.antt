@@ -100,7 +100,7 @@ invariant_of-self-in-Err g c =
       duty_are = c.none.ensures.duty ∙ (λ i. record { limits = limits i; owing = owing_in c.take_entry-taken.new.places (pids_in (sym c.none.ensures.here i)) });
       residents = subst (AllOwn c.self.inside.cursor) (sym c.none.ensures.here) tt;
       own = subst (λ posts. list_all (λ (post : Post). is_from c.self.inside.number post.by) posts ≡ true) (sym c.drop_fallen.ensures) (left_all (λ (post : Post). is_from c.self.inside.number post.by) c.self.inside.places (what c.args.entry.now) c.self.inside.queue.items c.self.invariant.own);
-      built = subst (λ posts. list_all (λ (post : Post). is_sent post.what) posts ≡ true) (sym c.drop_fallen.ensures) (left_all (λ (post : Post). is_sent post.what) c.self.inside.places (what c.args.entry.now) c.self.inside.queue.items c.self.invariant.built);
+      of_kind = subst (λ posts. list_all (λ (post : Post). is_sent post.what) posts ≡ true) (sym c.drop_fallen.ensures) (left_all (λ (post : Post). is_sent post.what) c.self.inside.places (what c.args.entry.now) c.self.inside.queue.items c.self.invariant.of_kind);
     }
 
 pub invariant_of-self-2 : goal.invariant_of-self-2
@@ -121,7 +121,7 @@ invariant_of-self-2 g c =
       duty_are = c.in_default.ensures.duty ∙ ap (λ (d : DutyView). duty_in d.limits c.take_entry-taken.new.places c.take_entry-taken.new.here.here) c.self.invariant.duty_are;
       residents = subst (AllOwn (c.self.inside.cursor + 1)) (sym c.in_default.ensures.here) mine;
       own = subst (λ posts. list_all (λ (post : Post). is_from c.self.inside.number post.by) posts ≡ true) (sym c.drop_fallen.ensures) (left_all (λ (post : Post). is_from c.self.inside.number post.by) c.self.inside.places (what c.args.entry.now) c.self.inside.queue.items c.self.invariant.own);
-      built = subst (λ posts. list_all (λ (post : Post). is_sent post.what) posts ≡ true) (sym c.drop_fallen.ensures) (left_all (λ (post : Post). is_sent post.what) c.self.inside.places (what c.args.entry.now) c.self.inside.queue.items c.self.invariant.built);
+      of_kind = subst (λ posts. list_all (λ (post : Post). is_sent post.what) posts ≡ true) (sym c.drop_fallen.ensures) (left_all (λ (post : Post). is_sent post.what) c.self.inside.places (what c.args.entry.now) c.self.inside.queue.items c.self.invariant.of_kind);
     }
 
 pub returns-clause-follows : goal.returns-clause-follows

@@ -1,6 +1,6 @@
-use Rattle.log_laws.proofs.records.BuiltLaws.{built_can_note}
+use Rattle.log_laws.proofs.records.Noted.{can_note}
 use Rattle.log_laws.proofs.records.Counts.{next_fits}
-use Rattle.log_laws.proofs.records.KeptLaws.{can_note, counted_below}
+use Rattle.log_laws.proofs.records.KeptLaws.{counted_below}
 use Rattle.log_laws.proofs.records.one_entry.entries_can_be_noted.Goals as goal
 
 pub returns-clause-room : goal.returns-clause-room
@@ -11,6 +11,3 @@ returns-clause-counts c = counted_below
 
 pub returns-clause-legal : goal.returns-clause-legal
 returns-clause-legal c = can_note
-
-pub returns-clause-built : goal.returns-clause-built
-returns-clause-built c = built_can_note

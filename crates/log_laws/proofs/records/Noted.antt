@@ -21,12 +21,12 @@ use Rattle.backup_records.specs.Records.{CanNote}
 use Rattle.log_laws.specs.records.Kept.{KeepsRecords}
 use Rattle.log_laws.proofs.records.KeptLaws.{counted_below, note_by, still_unended}
 use Rattle.log_laws.proofs.records.OneRecord.{letter_out}
-use Rattle.log_laws.proofs.records.Standing.{built_stands, itself}
+use Rattle.log_laws.proofs.records.Standing.{all_stand, itself}
 
 -- the record of the sender of a letter may count it
-built_count : (system : System) (log : List Entry) (e : Entry) (at : ℕ) (letter : Letter) (kept : BackRec) → is_system system ≡ true → IsLegalBy Stands system (log ++ e ∷ []) → what e ≡ Mail at letter → IsUnended system log letter.from
+stand_count : (system : System) (log : List Entry) (e : Entry) (at : ℕ) (letter : Letter) (kept : BackRec) → is_system system ≡ true → IsLegalBy Stands system (log ++ e ∷ []) → what e ≡ Mail at letter → IsUnended system log letter.from
     → backup_record system log letter.from ≡ Some kept → (letter.out < 32) × (count_for kept.counts letter < 2 ^ 32 - 1)
-built_count system log e at letter kept valid legal is unended kept_is =
+stand_count system log e at letter kept valid legal is unended kept_is =
     by_process (process_after system (log ++ e ∷ []) letter.from) refl (unended_there Stands itself system (log ++ e ∷ []) letter.from valid legal (still_unended system log e at letter letter.from is unended))
   where
     by_process : (o : Option ProcState) → process_after system (log ++ e ∷ []) letter.from ≡ o → is_some o ≡ true → (letter.out < 32) × (count_for kept.counts letter < 2 ^ 32 - 1)
@@ -38,7 +38,7 @@ built_count system log e at letter kept valid legal is unended kept_is =
         (out, omega (arith, below, few))
 
 -- each entry of a log of the entries that are built so far may be noted
-pub built_can_note : (system : System) (log : List Entry) (e : Entry) (k : ClusterNo) (recs : List BackRec) → is_system system ≡ true → IsLegalBy MayStand system (log ++ e ∷ []) → length log < 2 ^ 64 - 1 → KeepsRecords system log k recs
+pub can_note : (system : System) (log : List Entry) (e : Entry) (k : ClusterNo) (recs : List BackRec) → is_system system ≡ true → IsLegalBy MayStand system (log ++ e ∷ []) → length log < 2 ^ 64 - 1 → KeepsRecords system log k recs
     → CanNote (what e) recs
-built_can_note system log e k recs valid legal room keeps =
-    note_by system log e k recs valid (built_stands system (log ++ e ∷ []) legal) room keeps (λ at letter kept is unended kept_is. built_count system log e at letter kept valid (built_stands system (log ++ e ∷ []) legal) is unended kept_is)
+can_note system log e k recs valid legal room keeps =
+    note_by system log e k recs valid (all_stand system (log ++ e ∷ []) legal) room keeps (λ at letter kept is unended kept_is. stand_count system log e at letter kept valid (all_stand system (log ++ e ∷ []) legal) is unended kept_is)
