@@ -16,7 +16,7 @@ use Rattle.cert_sched.specs.declared.script.ScriptWord.TheVariants.{CrashAt, Cra
 use Rattle.cert_sched.specs.CertAfter.{CertView}
 use Rattle.cert_sched.specs.Schedule.{placement}
 use Rattle.cert_sched.specs.Rules.{is_over}
-use Rattle.cert_sched.specs.Legal.{IsLegalBy, MayFollow}
+use Rattle.cert_sched.specs.Legal.{IsLegalBy, MayFollow, MayStand}
 use Rattle.cert_sched.specs.Looked.{Looked, gives, goes_on as goes_by, first_reached, is_bus_word, is_reached, given_by, waits_for_no_word, without_reached}
 use Rattle.cert_sched.specs.Losses.{is_scripted_cause}
 use Rattle.cert_sched.specs.Simulation.{crash_entry}
@@ -29,12 +29,12 @@ use Rattle.bus_order.proofs.LeftLaws.{word_not_bus}
 use Rattle.bus_order.proofs.Keeping.{IsMore, accounts_more, reached_bus, words_stay}
 
 -- the crash of a cluster that lives may stand next in a log that goes on
-pub crash_may_follow : (system : System) (log : List Entry) (k : ClusterNo) (cause : Cause) → IsLegalBy MayFollow system log → is_over system log ≡ false → lives_in (placement system log) k ≡ true → MayFollow system log (crash_entry system log k cause)
+pub crash_may_follow : (system : System) (log : List Entry) (k : ClusterNo) (cause : Cause) → IsLegalBy MayStand system log → is_over system log ≡ false → lives_in (placement system log) k ≡ true → MayFollow system log (crash_entry system log k cause)
 crash_may_follow system log k cause legal goes_on lives = record {
   stands = record {
     placed = (refl, refl, goes_on);
     by_right = refl;
-    applies = ap is_some (no_items system log (crash_entry system log k cause) (λ k. refl)) ∙ plain_there MayFollow (λ system log e may. may.stands) system log legal;
+    applies = ap is_some (no_items system log (crash_entry system log k cause) (λ k. refl)) ∙ plain_there MayStand (λ system log e may. may.stands) system log legal;
     kind = lives;
   };
   limits = refl;
@@ -43,7 +43,7 @@ crash_may_follow system log k cause legal goes_on lives = record {
   pages = refl;
 }
 
-pub loss_more : (b : BusView) (k : ClusterNo) (cause : Cause) (left : List ScriptWord) → IsLegalBy MayFollow b.system b.log → MayLose b k cause left → IsMore b (crash_entry b.system b.log k cause) left
+pub loss_more : (b : BusView) (k : ClusterNo) (cause : Cause) (left : List ScriptWord) → IsLegalBy MayStand b.system b.log → MayLose b k cause left → IsMore b (crash_entry b.system b.log k cause) left
 loss_more b k cause left legal may = record {
   may = crash_may_follow b.system b.log k cause legal may.goes_on may.lives;
   looked = may.looked;

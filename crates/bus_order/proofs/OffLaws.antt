@@ -17,8 +17,7 @@ use Rattle.cert_sched.specs.Parts.{last_that}
 use Rattle.cert_sched.specs.Schedule.{placement, placed_root}
 use Rattle.cert_sched.specs.Losses.{is_crash_of}
 use Rattle.cert_sched.specs.Kinds.{KindHolds}
-use Rattle.cert_sched.specs.Legal.{IsLegalBy, Stands, MayFollow}
-use Rattle.cert_sched.proofs.MayLaws.{legal_may_stand}
+use Rattle.cert_sched.specs.Legal.{IsLegalBy, Stands, MayStand}
 use Rattle.cert_sched.proofs.LogLaws.{placement-snoc}
 use Rattle.cert_sched.proofs.Induction.{legal_induction}
 use Rattle.cert_sched.proofs.FreshLaws.{kept_elsewhere, put_here}
@@ -129,21 +128,21 @@ module _ (May : System → List Entry → Entry → Type 0) (stands_in : (system
       ∙ lives_after (placement system log) (off_at log k) k e (what e) refl (λ j is. subst (KindHolds system log e) is (stands_in system log e may).kind) before
       ∙ sym (ap is_none (off_at-snoc log e k))) log legal
 
-lives_unless_off : (system : System) (log : List Entry) (k : ClusterNo) → IsLegalBy MayFollow system log → k.0 < system.clusters → lives_in (placement system log) k ≡ is_none (off_at log k)
-lives_unless_off = lives_where_not_off MayFollow (λ system log e may. may.stands)
+lives_unless_off : (system : System) (log : List Entry) (k : ClusterNo) → IsLegalBy MayStand system log → k.0 < system.clusters → lives_in (placement system log) k ≡ is_none (off_at log k)
+lives_unless_off = lives_where_not_off MayStand (λ system log e may. may.stands)
 
 is_nothing : (o : Option ℕ) → is_none o ≡ true → o ≡ None
 is_nothing None h = refl
 is_nothing (Some n) h = absurd (true≢false (sym h))
 
 -- a cluster that lives is not off
-pub living_not_off : (system : System) (log : List Entry) (k : ClusterNo) → IsLegalBy MayFollow system log → lives_in (placement system log) k ≡ true → off_at log k ≡ None
+pub living_not_off : (system : System) (log : List Entry) (k : ClusterNo) → IsLegalBy MayStand system log → lives_in (placement system log) k ≡ true → off_at log k ≡ None
 living_not_off system log k legal lives =
-    let within : k.0 < system.clusters = omega (arith, lives_within (placement system log) k lives, stand_clusters-length system log (legal_may_stand system log legal)) in
+    let within : k.0 < system.clusters = omega (arith, lives_within (placement system log) k lives, stand_clusters-length system log legal) in
     is_nothing (off_at log k) (sym (lives_unless_off system log k legal within) ∙ lives)
 
 -- and one of the system that is not off lives
-pub not_off_lives : (system : System) (log : List Entry) (k : ClusterNo) → IsLegalBy MayFollow system log → k.0 < system.clusters → off_at log k ≡ None → lives_in (placement system log) k ≡ true
+pub not_off_lives : (system : System) (log : List Entry) (k : ClusterNo) → IsLegalBy MayStand system log → k.0 < system.clusters → off_at log k ≡ None → lives_in (placement system log) k ≡ true
 not_off_lives system log k legal within none = lives_unless_off system log k legal within ∙ ap is_none none
 
 -- what is read at a place below the length is there

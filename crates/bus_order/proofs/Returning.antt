@@ -14,7 +14,7 @@ use Rattle.cert_sched.specs.declared.script.ScriptWord.TheVariants.{CrashAt, Cra
 use Rattle.cert_sched.specs.CertAfter.{CertView}
 use Rattle.cert_sched.specs.Schedule.{placement}
 use Rattle.cert_sched.specs.Rules.{is_over}
-use Rattle.cert_sched.specs.Legal.{IsLegalBy, MayFollow}
+use Rattle.cert_sched.specs.Legal.{IsLegalBy, MayFollow, MayStand}
 use Rattle.cert_sched.specs.Looked.{Looked, gives, first_reached, is_bus_word, is_reached, given_by, without_reached}
 use Rattle.cert_sched.proofs.LogLaws.{no_items}
 use Rattle.cert_sched.proofs.ThereLaws.{plain_there}
@@ -35,12 +35,12 @@ lost_within places k lost = by_cluster (slice_get places.clusters k.0) refl lost
 -- ---- its return
 
 -- it may stand next in a log that goes on
-pub return_may_follow : (system : System) (log : List Entry) (k : ClusterNo) → IsLegalBy MayFollow system log → is_over system log ≡ false → is_lost_in (placement system log) k ≡ true → MayFollow system log (return_entry system log k)
+pub return_may_follow : (system : System) (log : List Entry) (k : ClusterNo) → IsLegalBy MayStand system log → is_over system log ≡ false → is_lost_in (placement system log) k ≡ true → MayFollow system log (return_entry system log k)
 return_may_follow system log k legal goes_on lost = record {
   stands = record {
     placed = (refl, refl, goes_on);
     by_right = refl;
-    applies = ap is_some (no_items system log (return_entry system log k) (λ k. refl)) ∙ plain_there MayFollow (λ system log e may. may.stands) system log legal;
+    applies = ap is_some (no_items system log (return_entry system log k) (λ k. refl)) ∙ plain_there MayStand (λ system log e may. may.stands) system log legal;
     kind = lost;
   };
   limits = refl;
@@ -49,7 +49,7 @@ return_may_follow system log k legal goes_on lost = record {
   pages = refl;
 }
 
-pub return_more : (b : BusView) (k : ClusterNo) (left : List ScriptWord) → IsLegalBy MayFollow b.system b.log → MayReturn b k left → IsMore b (return_entry b.system b.log k) left
+pub return_more : (b : BusView) (k : ClusterNo) (left : List ScriptWord) → IsLegalBy MayStand b.system b.log → MayReturn b k left → IsMore b (return_entry b.system b.log k) left
 return_more b k left legal may = record {
   may = return_may_follow b.system b.log k legal may.goes_on may.lost;
   looked = may.looked;

@@ -11,13 +11,12 @@ use Rattle.bus_msg.specs.declared.entry.By.TheVariants.{Cluster, Bus}
 use Rattle.bus_msg.specs.declared.entry.What.TheVariants.{Done}
 use Rattle.bus_msg.specs.declared.entry.Post.{Post}
 use Rattle.cert_sched.specs.Appended.{entry_of}
-use Rattle.cluster_core.specs.Sent.{SentMayStand}
-use Rattle.cert_sched.specs.Legal.{IsLegalBy, MayStand}
+use Rattle.cluster_core.proofs.working.Heads.{head_follows}
+use Rattle.cert_sched.specs.Legal.{IsLegalBy, MayStand, MayFollow}
 use Rattle.cert_sched.specs.Losses.{is_from, least_calls, least_steps, capped, was_lost_in}
 use Rattle.cert_sched.specs.Rests.{IsRestOf}
 use Rattle.cert_sched.specs.Rules.{is_over}
 use Rattle.cert_sched.specs.Schedule.{placement}
-use Rattle.cluster_turns.proofs.SentKinds.{may_sent}
 use Rattle.cluster_core.specs.View.{ClusterView, disk_calls, head_of}
 use Rattle.cluster_core.specs.Follows.{Follows, IsOpen}
 use Rattle.cluster_core.specs.Calls.{OwesNoAnswer, WaitsForPages}
@@ -27,7 +26,7 @@ use Rattle.cert_sched.specs.Parts.{first_of}
 use Rattle.bus_msg.specs.Places.{servers_in}
 use Rattle.bus_msg.specs.declared.entry.Entry.{Entry}
 use Rattle.std.specs.Prelude.{List, ◌≢◌}
-use Rattle.cluster_core.specs.Queue.{IsQueueLegal, with_queue}
+use Rattle.cluster_core.specs.Queue.{with_queue}
 use Rattle.cert_sched.specs.Scripted.{is_server}
 use Rattle.bus_lock.specs.Lists.{MayAdd}
 use Rattle.bus_order.specs.Log.{author, author_of}
@@ -49,6 +48,7 @@ use Rattle.cluster_turns.proofs.Owning.{adds_more}
 use Rattle.cluster_turns.proofs.TakingIn.{seen_lives}
 use Rattle.cluster_turns.proofs.Upto.{lost_since}
 use Rattle.cluster_turns.proofs.Worded.{after_worded, looked_worded}
+use Rattle.sys_text.specs.Valid.{is_system}
 
 -- ---- what the calls ask
 
@@ -79,8 +79,8 @@ own_of b c post k along head k_is =
     let all = sym (ap (λ q. list_all (λ (p : Post). is_from c.number p.by) q) (head_first c.queue post head)) ∙ (((along.beside).follows).queue).own in
     own_post c.number post.by (and_parts (is_from c.number post.by) (list_all (λ (p : Post). is_from c.number p.by) (tail_of c.queue)) all).0 ∙ ap Cluster (sym k_is)
 
-pub may_be_sent : (b : BusView) (c : ClusterView) (post : Post) (k : ClusterNo) (n : ℕ) → IsAlong b c → head_of c.queue ≡ Some post → k ≡ c.number → n ≡ c.cursor → MayTransmit b k n post
-may_be_sent b c post k n along head k_is n_is =
+pub may_be_sent : (b : BusView) (c : ClusterView) (post : Post) (k : ClusterNo) (n : ℕ) → IsSound b → IsAlong b c → head_of c.queue ≡ Some post → k ≡ c.number → n ≡ c.cursor → MayTransmit b k n post
+may_be_sent b c post k n sound along head k_is n_is =
     let At : ClusterNo → Type 0 = λ k. MayTransmit b k n post in
     let From : ℕ → Type 0 = λ n. MayTransmit b c.number n post in
     subst At (sym k_is) (subst From (sym n_is) (record {
@@ -90,9 +90,8 @@ may_be_sent b c post k n along head k_is n_is =
           own_post c.number post.by (and_parts (is_from c.number post.by) (list_all (λ (p : Post). is_from c.number p.by) (tail_of c.queue)) all).0;
       may = λ goes_on seen.
           let follows = follows_all b c along seen in
-          let queue = subst (λ q. IsQueueLegal SentMayStand c.system b.log q) (head_first c.queue post head) (follows.queue).legal in
-          let may : SentMayStand c.system b.log (entry_of c.system b.log post) = queue.0 in
-          subst (λ s. MayStand s b.log (entry_of s b.log post)) along.system (may_sent c.system b.log (entry_of c.system b.log post) may);
+          let open_log : IsOpen MayStand c.system b.log = (subst (λ s. IsLegalBy MayStand s b.log) (sym along.system) sound.legal, ap (λ s. is_over s b.log) along.system ∙ goes_on) in
+          subst (λ s. MayFollow s b.log (entry_of s b.log post)) along.system (head_follows c b.log post (ap is_system along.system ∙ sound.valid) open_log follows head);
     }))
 
 pub may_be_told : (b : BusView) (c : ClusterView) (m : Mark) (k : ClusterNo) (n : ℕ) → IsSound b → IsAlong b c → IsToldBy c m → k ≡ c.number → n ≡ c.cursor → MayIdle b k n m

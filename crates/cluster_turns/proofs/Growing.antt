@@ -1,5 +1,5 @@
 -- A bus whose log has grown.
-use Rattle.std.proofs.Common.{◌≡◌, refl, sym, ◌∙◌, ap, List, [], ◌++◌, append-nil, append_assoc}
+use Rattle.std.proofs.Common.{refl, sym, ◌∙◌, ap, List, [], ◌++◌, append-nil, append_assoc}
 use Rattle.t32_base.specs.declared.process.ClusterNo.{ClusterNo}
 use Rattle.bus_msg.specs.declared.entry.Entry.{Entry}
 use Rattle.bus_order.specs.View.{BusView}

@@ -57,6 +57,6 @@ closes_not k places by =
     (λ at letter own right. refl) (λ parent at child end own right. refl) (λ pid at end own right. refl) (λ pid index own right. refl) (λ pid index bytes own right. refl) (λ pid at index bytes own right. refl) (λ pid small read took own right. refl) (λ to fresh recs own right. refl)
     (λ rests own right. absurd (not_bus k by own right)) (λ own right. absurd (not_bus k by own right))
 
--- it may stand next by the rule that is in force
+-- it may stand next by all rules but that of new backups
 pub may_sent : (system : System) (log : List Entry) (e : Entry) → SentMayStand system log e → MayStand system log e
-may_sent system log e may = record { stands = may.stands; of_kind = refl; limits = may.limits; new_page = may.new_page; pages = may.pages }
+may_sent system log e may = record { stands = may.stands; limits = may.limits; new_page = may.new_page; pages = may.pages }

@@ -11,7 +11,6 @@ use Rattle.t32_base.specs.declared.process.ClusterNo.{ClusterNo}
 use Rattle.sys_text.specs.declared.system.System.{System}
 use Rattle.proc_state.specs.Mail.{without_first}
 use Rattle.bus_msg.specs.declared.entry.By.TheVariants.{Bus}
-use Rattle.bus_msg.specs.declared.entry.What.{What}
 use Rattle.bus_msg.specs.declared.entry.What.TheVariants.{Crash}
 use Rattle.bus_msg.specs.declared.entry.Post.{Post}
 use Rattle.bus_msg.specs.declared.entry.Cause.TheVariants.{Step, Disk}

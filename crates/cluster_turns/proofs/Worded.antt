@@ -20,6 +20,7 @@ use Rattle.cert_sched.specs.Rules.{is_over}
 use Rattle.cert_sched.specs.Schedule.{placement}
 use Rattle.cert_sched.specs.Scripted.{is_closed, is_spread}
 use Rattle.bus_lock.specs.Lists.{MayAdd, is_author}
+use Rattle.bus_order.proofs.Lawful.{lawful_stands}
 use Rattle.bus_order.specs.Log.{author, author_of}
 use Rattle.bus_order.specs.View.{BusView, HasLooked, IsLawful, after_words, look_once, looks, with_given, with_look}
 use Rattle.bus_order.proofs.Looking.{look_over, look_some}
@@ -111,11 +112,11 @@ may_add k more none i d low = inl (none i d low)
 
 -- a bus of a valid system is sound
 pub sound_of : (b : BusView) → is_system b.system ≡ true → IsLawful b → IsSound b
-sound_of b valid lawful = record { valid = valid; legal = lawful.legal; unreturned = λ words k. none_returned b k lawful.scripted words; fits = lawful.fits }
+sound_of b valid lawful = record { valid = valid; legal = lawful_stands lawful; unreturned = λ words k. none_returned b k lawful.scripted words; fits = lawful.fits }
 
 pub sound_again : (old new : BusView) → IsSound old → new.system ≡ old.system → IsLawful new → IsSound new
 sound_again old new sound system lawful = sound_of new (ap is_system system ∙ sound.valid) lawful
 
 -- where its script is spread its losses are covered, so its log is over only where it is closed
 pub spread_closes : (b : BusView) → is_system b.system ≡ true → IsLawful b → is_spread b.system b.script ≡ true → is_over b.system b.log ≡ true → is_closed b.log ≡ true
-spread_closes b valid lawful spread over = spread_log_closes b.system b.script b.log valid spread (all_stand b.system b.log lawful.legal) (all_worded b lawful.scripted) over
+spread_closes b valid lawful spread over = spread_log_closes b.system b.script b.log valid spread (all_stand b.system b.log (lawful_stands lawful)) (all_worded b lawful.scripted) over

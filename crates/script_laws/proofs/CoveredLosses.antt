@@ -23,7 +23,7 @@ use Rattle.backup_laws.specs.LostBy.{AllLostBy}
 use Rattle.backup_laws.proofs.SpreadSafe.{spread_covered}
 use Rattle.bus_order.specs.View.{BusView, KeepsScript}
 use Rattle.bus_order.proofs.OverLaws.{closed-snoc, none_over}
-use Rattle.bus_order.proofs.Keeping.{none_legal}
+use Rattle.cert_sched.proofs.LiveLaws.{none_legal}
 use Rattle.script_laws.specs.Crashes.{is_loss, crashes}
 use Rattle.script_laws.proofs.Counts.{count-cons, count-snoc}
 use Rattle.script_laws.proofs.CrashLaws.{crashes_within}
@@ -71,7 +71,7 @@ ends_closed system log _ valid legal few h = h
 -- such a log ends only by Done or Stop
 pub few_losses_close : (system : System) (log : List Entry) → is_system system ≡ true → IsLegalBy MayStand system log → crashes log ≤ 1 → is_over system log ≡ true → is_closed log ≡ true
 few_losses_close system log valid legal =
-    (legal_induction MayStand system (Ends system) (record { legal = none_legal system; closed = λ few over. absurd (true≢false (sym over ∙ none_over system)) })
+    (legal_induction MayStand system (Ends system) (record { legal = none_legal MayStand system; closed = λ few over. absurd (true≢false (sym over ∙ none_over system)) })
     (λ log e before may. record {
       legal = IsLegal-snoc MayStand system log e before.legal may;
       closed = λ few over.

@@ -31,6 +31,7 @@ use Rattle.bus_order.proofs.Losing.{given_loses, loss_more}
 use Rattle.bus_order.proofs.Returning.{given_returns, return_more}
 use Rattle.script_laws.specs.Added.{AddsTurns, is_bus_loss, is_bus_turn, is_its_word}
 use Rattle.script_laws.specs.Crashes.{is_loss}
+use Rattle.cert_sched.proofs.MayLaws.{may_stand}
 
 -- ---- lists
 
@@ -281,14 +282,14 @@ stays_once b stays =
     let may = given_loses b (CrashAt j place) j stays.scripted goes_on first given in
     let more : IsMore b (crash_entry b.system b.log j Place) (without_reached b.log b.left) = loss_more b j Place (without_reached b.log b.left) stays.legal may in
     record {
-      legal = IsLegal-snoc MayStand b.system b.log (crash_entry b.system b.log j Place) stays.legal more.may;
+      legal = IsLegal-snoc MayStand b.system b.log (crash_entry b.system b.log j Place) stays.legal (may_stand b.system b.log (crash_entry b.system b.log j Place) more.may);
       scripted = scripted_more b (crash_entry b.system b.log j Place) (without_reached b.log b.left) (no_marks b.marks) stays.scripted more;
     })
     (λ j place goes_on first given.
     let may = given_returns b (ReturnAt j place) j stays.scripted goes_on first given in
     let more : IsMore b (return_entry b.system b.log j) (without_reached b.log b.left) = return_more b j (without_reached b.log b.left) stays.legal may in
     record {
-      legal = IsLegal-snoc MayStand b.system b.log (return_entry b.system b.log j) stays.legal more.may;
+      legal = IsLegal-snoc MayStand b.system b.log (return_entry b.system b.log j) stays.legal (may_stand b.system b.log (return_entry b.system b.log j) more.may);
       scripted = scripted_more b (return_entry b.system b.log j) (without_reached b.log b.left) (no_marks b.marks) stays.scripted more;
     })
 

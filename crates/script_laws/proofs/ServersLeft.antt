@@ -5,7 +5,6 @@ use Rattle.std.specs.Option.{option_map_or}
 use Rattle.std.specs.List.{list_all, list_any}
 use Rattle.std.proofs.lemmas.Bool.{and_parts}
 use Rattle.std.proofs.lemmas.Option.{slice_get_within}
-use Rattle.std.proofs.lemmas.List.Folds.{list_any-append}
 use Rattle.t32_base.specs.declared.process.ClusterNo.{ClusterNo}
 use Rattle.t32_base.specs.declared.process.Pid.{Pid}
 use Rattle.t32_base.proofs.Facts.{or_true}
@@ -23,14 +22,14 @@ use Rattle.cert_sched.specs.Parts.{first_of}
 use Rattle.cert_sched.specs.Schedule.{placement}
 use Rattle.cert_sched.specs.Rules.{ends_run, is_by, is_over}
 use Rattle.cert_sched.specs.Legal.{IsLegalBy, Stands}
-use Rattle.cert_sched.specs.Losses.{is_crash_of, was_lost_in}
-use Rattle.cert_sched.proofs.BirthClusters.{birth_keeps, return_keeps}
+use Rattle.cert_sched.proofs.BirthClusters.{birth_keeps}
 use Rattle.cert_sched.proofs.FreshLaws.{kept_elsewhere, put_here}
 use Rattle.cert_sched.proofs.HomesLaws.{clusters-length}
 use Rattle.cert_sched.proofs.Induction.{is_over-snoc, legal_induction}
 use Rattle.cert_sched.proofs.LogLaws.{placement-snoc}
 use Rattle.cert_sched.proofs.ServerLaws.{first_server, servers_live}
-use Rattle.bus_order.proofs.Keeping.{none_legal}
+use Rattle.cert_sched.proofs.LiveLaws.{none_legal}
+use Rattle.cert_sched.specs.Legal.{MayStand}
 use Rattle.script_laws.specs.Servers.{HasServer}
 use Rattle.script_laws.proofs.CoveredLosses.{crashless_covered}
 
@@ -129,7 +128,7 @@ more_served places _ goes served = served
 log_served : (system : System) (log : List Entry) → is_system system ≡ true → IsLegalBy Stands system log → is_over system log ≡ false → is_served (placement system log) ≡ true
 log_served system log valid legal =
     legal_induction Stands system (λ log. is_over system log ≡ false → is_served (placement system log) ≡ true)
-    (λ goes. covered_served (placement system []) (cluster_no 0) (crashless_covered system [] (cluster_no 0) valid (none_legal system) refl))
+    (λ goes. covered_served (placement system []) (cluster_no 0) (crashless_covered system [] (cluster_no 0) valid (none_legal MayStand system) refl))
     (λ log e before stands goes.
     ap is_served (placement-snoc system log e) ∙ more_served (placement system log) (what e) (sym (is_over-snoc system log e) ∙ goes) (before (stands.placed).2)) log legal
 

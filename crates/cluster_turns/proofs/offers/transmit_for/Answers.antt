@@ -7,7 +7,7 @@ use Rattle.cluster_turns.proofs.Worded.{sound_again}
 use Rattle.cluster_turns.proofs.offers.transmit_for.Goals as goal
 
 pub transmit-requires : goal.transmit-requires
-transmit-requires c = may_be_sent c.args.bus.now c.args.cluster.now c.args.post.now c.number.result c.cursor.result c.requires.along c.requires.head c.number.ensures c.cursor.ensures
+transmit-requires c = may_be_sent c.args.bus.now c.args.cluster.now c.args.post.now c.number.result c.cursor.result c.requires.sound c.requires.along c.requires.head c.number.ensures c.cursor.ensures
 
 pub returns-clause-adds : goal.returns-clause-adds
 returns-clause-adds c =

@@ -13,6 +13,7 @@ use Rattle.bus_order.proofs.Keeping.{IsMore, fits_as, kept_more, lawful_more}
 use Rattle.bus_order.proofs.OverLaws.{open_inside}
 use Rattle.bus_order.proofs.Returning.{lost_within, return_more}
 use Rattle.bus_order.proofs.bus.Bus.bring_back.Goals as goal
+use Rattle.bus_order.proofs.Lawful.{lawful_stands}
 
 pub entry_of-entry-requires : goal.entry_of-entry-requires
 entry_of-entry-requires c = lost_within (placement c.args.self.now.system c.args.self.now.log) c.args.k c.requires.may.lost
@@ -33,7 +34,7 @@ invariant_of-self-2 c =
     let e : Entry = c.entry_of-entry.result in
     let same : e ≡ return_entry b.system b.log k = c.entry_of-entry.ensures ∙ ap (λ (v : BusView). return_entry v.system v.log k) (sym c.self.view_is) in
     let may : MayReturn b k left = subst (λ (v : BusView). MayReturn v k (remove v.left c.args.number)) (sym c.self.view_is) c.requires.may in
-    let more : IsMore b e left = subst (λ e. IsMore b e left) (sym same) (return_more b k left c.self.invariant.lawful.legal may) in
+    let more : IsMore b e left = subst (λ e. IsMore b e left) (sym same) (return_more b k left (lawful_stands c.self.invariant.lawful) may) in
     let ends : over ≡ ends_run places (what e) = c.self.invariant.ended ∙ may.goes_on ∙ sym (ap (λ e. ends_run places (what e)) same) in
     let cleared : c.clear.new.marks ≡ no_marks b.marks = c.clear.ensures ∙ ap no_marks c.deref_mut.ensures.value in
     let long : length c.clear.new.marks ≡ c.self.inside.marks.len = omega (arith, c.deref_mut.ensures.len, c.clear.auto.marks) in
@@ -51,7 +52,7 @@ returns-clause-lawful c =
     let e : Entry = c.entry_of-entry.result in
     let same : e ≡ return_entry b.system b.log k = c.entry_of-entry.ensures ∙ ap (λ (v : BusView). return_entry v.system v.log k) (sym c.self.view_is) in
     let may : MayReturn b k left = subst (λ (v : BusView). MayReturn v k (remove v.left c.args.number)) (sym c.self.view_is) c.requires.may in
-    let more : IsMore b e left = subst (λ e. IsMore b e left) (sym same) (return_more b k left c.self.invariant.lawful.legal may) in
+    let more : IsMore b e left = subst (λ e. IsMore b e left) (sym same) (return_more b k left (lawful_stands c.self.invariant.lawful) may) in
     let marks = (with_items c.self.inside.marks c.clear.new.marks).items in
     subst (λ l. IsLawful (record b { left = c.remove.new.self; log = l; marks = marks })) (sym c.in_ok-place.ensures.log)
     (subst (λ ws. IsLawful (record b { left = ws; log = b.log ++ e ∷ []; marks = marks })) (sym c.remove.ensures)

@@ -13,6 +13,7 @@ use Rattle.bus_order.proofs.Keeping.{IsMore, fits_as, kept_more, lawful_more}
 use Rattle.bus_order.proofs.Losing.{loss_more}
 use Rattle.bus_order.proofs.OverLaws.{open_inside}
 use Rattle.bus_order.proofs.bus.Bus.lose.Goals as goal
+use Rattle.bus_order.proofs.Lawful.{lawful_stands}
 
 pub append-requires-clause-goes_on : goal.append-requires-clause-goes_on
 append-requires-clause-goes_on c = open_inside c.self.view_is c.self.invariant c.requires.may.goes_on
@@ -31,7 +32,7 @@ invariant_of-self-2 c =
     let e : Entry = c.entry_of-entry.result in
     let same : e ≡ crash_entry b.system b.log k cause = c.entry_of-entry.ensures ∙ ap (λ (v : BusView). crash_entry v.system v.log k cause) (sym c.self.view_is) in
     let may : MayLose b k cause left = subst (λ (v : BusView). MayLose v k cause (remove v.left c.args.number)) (sym c.self.view_is) c.requires.may in
-    let more : IsMore b e left = subst (λ e. IsMore b e left) (sym same) (loss_more b k cause left c.self.invariant.lawful.legal may) in
+    let more : IsMore b e left = subst (λ e. IsMore b e left) (sym same) (loss_more b k cause left (lawful_stands c.self.invariant.lawful) may) in
     let ends : not c.covered-over.result ≡ ends_run places (what e) = ap not c.covered-over.ensures ∙ sym (ap (λ e. ends_run places (what e)) same) in
     let cleared : c.clear.new.marks ≡ no_marks b.marks = c.clear.ensures ∙ ap no_marks c.deref_mut.ensures.value in
     let long : length c.clear.new.marks ≡ c.self.inside.marks.len = omega (arith, c.deref_mut.ensures.len, c.clear.auto.marks) in
@@ -50,7 +51,7 @@ returns-clause-lawful c =
     let e : Entry = c.entry_of-entry.result in
     let same : e ≡ crash_entry b.system b.log k cause = c.entry_of-entry.ensures ∙ ap (λ (v : BusView). crash_entry v.system v.log k cause) (sym c.self.view_is) in
     let may : MayLose b k cause left = subst (λ (v : BusView). MayLose v k cause (remove v.left c.args.number)) (sym c.self.view_is) c.requires.may in
-    let more : IsMore b e left = subst (λ e. IsMore b e left) (sym same) (loss_more b k cause left c.self.invariant.lawful.legal may) in
+    let more : IsMore b e left = subst (λ e. IsMore b e left) (sym same) (loss_more b k cause left (lawful_stands c.self.invariant.lawful) may) in
     let marks = (with_items c.self.inside.marks c.clear.new.marks).items in
     subst (λ l. IsLawful (record b { left = c.remove.new.self; log = l; marks = marks })) (sym c.in_ok-place.ensures.log)
     (subst (λ ws. IsLawful (record b { left = ws; log = b.log ++ e ∷ []; marks = marks })) (sym c.remove.ensures)

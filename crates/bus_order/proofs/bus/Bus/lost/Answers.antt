@@ -8,16 +8,17 @@ use Rattle.bus_order.proofs.OffLaws.{not_off_lives}
 use Rattle.bus_order.proofs.WordsLaws.{none-found}
 use Rattle.bus_order.proofs.Losing.{word_loses}
 use Rattle.bus_order.proofs.bus.Bus.lost.Goals as goal
+use Rattle.bus_order.proofs.Lawful.{lawful_stands}
 
 pub overflow_sub-result : goal.overflow_sub-result
 overflow_sub-result c =
     let over : is_over c.args.self.now.system c.args.self.now.log ≡ true = sym (over_as_kept c.self.view_is c.self.invariant) ∙ c.if-self.true in
-    omega (arith, over_long c.args.self.now.system c.args.self.now.log c.length.ensures.lawful.legal over, c.length.ensures.length)
+    omega (arith, over_long c.args.self.now.system c.args.self.now.log (lawful_stands c.length.ensures.lawful) over, c.length.ensures.length)
 
 pub returns-then-self-clause-loses : goal.returns-then-self-clause-loses
 returns-then-self-clause-loses c =
     let over : is_over c.args.self.now.system c.args.self.now.log ≡ true = sym (over_as_kept c.self.view_is c.self.invariant) ∙ c.if-self.true in
-    (over, omega (arith, over_long c.args.self.now.system c.args.self.now.log c.length.ensures.lawful.legal over, c.length.ensures.length), refl)
+    (over, omega (arith, over_long c.args.self.now.system c.args.self.now.log (lawful_stands c.length.ensures.lawful) over, c.length.ensures.length), refl)
 
 pub lose-requires-clause-may : goal.lose-requires-clause-may
 lose-requires-clause-may c =
@@ -33,7 +34,7 @@ lose-requires-clause-may c =
     let words : c.self.inside.left ≡ b.left = ap (λ (v : BusView). v.left) c.self.view_is in
     let first : IsFirst (is_word_for by cause) b.left c.in-Some-first_for.number c.in-Some-first_for.field-0-1 =
     subst (λ ws. IsFirst (is_word_for by cause) ws c.in-Some-first_for.number c.in-Some-first_for.field-0-1) words c.in-Some-first_for.ensures.some in
-    word_loses b over places cert c.in-Some-first_for.number c.in-Some-first_for.field-0-1 by cause kept goes_on (not_off_lives b.system b.log by kept.lawful.legal c.requires.has off) first (c.requires.may goes_on off)
+    word_loses b over places cert c.in-Some-first_for.number c.in-Some-first_for.field-0-1 by cause kept goes_on (not_off_lives b.system b.log by (lawful_stands kept.lawful) c.requires.has off) first (c.requires.may goes_on off)
 
 pub unreachable-requires : goal.unreachable-requires
 unreachable-requires c =
