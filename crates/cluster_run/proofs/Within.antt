@@ -45,8 +45,8 @@ use Rattle.cluster_turns.specs.Ends.{is_cut_off}
 use Rattle.cert_sched.proofs.KernelSums.{one_of_sum, sum_of}
 use Rattle.cert_sched.proofs.RisingLaws.{NoTwo}
 use Rattle.cert_sched.proofs.StepLaws.{sent_from, silent_from}
-use Rattle.cluster_core.specs.View.{ClusterView, after_head, after_sent, head_of, has_moved, held_load, load, process_load}
-use Rattle.residents.specs.Held.{Held, Runs, Rolls, Waits, held_of, renewed, renewed_held, with_renewed}
+use Rattle.cluster_core.specs.View.{ClusterView, after_head, after_sent, has_moved, held_load, load, process_load}
+use Rattle.residents.specs.Held.{Held, Runs, Rolls, Waits, held_of, renewed_held, with_renewed}
 use Rattle.cluster_core.specs.Holds.{IsHeldAs}
 use Rattle.cluster_core.specs.Calls.{FollowsSome}
 use Rattle.cluster_core.specs.Follows.{Follows, IsOpen, QueuedIn}

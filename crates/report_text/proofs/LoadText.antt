@@ -14,12 +14,13 @@ use Rattle.plain_kernel.specs.Apply.{plain_run}
 use Rattle.plain_kernel.specs.declared.item.Item.{Item}
 use Rattle.bus_msg.specs.declared.entry.Entry.{Entry}
 use Rattle.cert_sched.specs.Schedule.{plain_after, schedule_of}
-use Rattle.cert_sched.specs.Legal.{IsLegalBy, MayStand}
+use Rattle.cert_sched.specs.Legal.{IsLegal, MayFollow}
 use Rattle.cert_sched.proofs.Applied.{legal_runs}
 use Rattle.cert_sched.proofs.LogLaws.{plain_run-schedule_of}
 use Rattle.report_text.specs.Load.{has_exited_0, is_exit_0, load_line, load_report, outcome_load}
 use Rattle.report_text.specs.Outcome.{outcome_of}
 use Rattle.report_text.proofs.Told.{numbered, told_by}
+use Rattle.cert_sched.proofs.MayLaws.{legal_may_stand}
 use Rattle.report_text.proofs.Outcomes.{outcome-is}
 
 -- as many processes pass a test of their ends as ends pass it
@@ -39,18 +40,18 @@ counted size k =
     tty = option_map_or length (tty_at k 0) 0
 
 -- what the log of a workload's run tells is printed as the kernel after its schedule is
-pub finished_load : (system : System) (log : List Entry) (size : ℕ) → is_system system ≡ true → IsLegalBy MayStand system log
+pub finished_load : (system : System) (log : List Entry) (size : ℕ) → is_system system ≡ true → IsLegal system log
     → (kernel : Kernel) × (plain_run system (schedule_of system log) ≡ Some kernel) × (load_report size kernel ≡ outcome_load size (outcome_of system log))
 finished_load system log size valid legal =
-    let runs = legal_runs system log legal in
+    let runs = legal_runs system log (legal_may_stand system log legal) in
     let after : plain_after system log ≡ Some runs.0 = sym (plain_run-schedule_of system log) ∙ runs.1 in (
       runs.0,
       runs.1,
-      counted size runs.0 ∙ ap (outcome_load size) (outcome-is MayStand (λ system log e may. may.stands) system log valid legal runs.0 after),
+      counted size runs.0 ∙ ap (outcome_load size) (outcome-is MayFollow (λ system log e may. may.stands) system log valid legal runs.0 after),
     )
 
 -- so is the line that was made of it
-pub load_told : (system : System) (items : List Item) (log : List Entry) (size : ℕ) (made : Result (List ℕ) NoMemory) → is_system system ≡ true → IsLegalBy MayStand system log → items ≡ schedule_of system log
+pub load_told : (system : System) (items : List Item) (log : List Entry) (size : ℕ) (made : Result (List ℕ) NoMemory) → is_system system ≡ true → IsLegal system log → items ≡ schedule_of system log
     → IfOk made (λ text. text ≡ outcome_load size (outcome_of system log))
     → IfOk made (λ text. (kernel : Kernel) × (plain_run system items ≡ Some kernel) × (text ≡ load_report size kernel))
 load_told system items log size (Ok text) valid legal same is =

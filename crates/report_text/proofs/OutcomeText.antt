@@ -22,7 +22,7 @@ use Rattle.plain_kernel.proofs.Pids.{IsRising, left_true, right_true}
 use Rattle.bus_msg.specs.declared.entry.Entry.{Entry}
 use Rattle.cert_sched.specs.Schedule.{plain_after, schedule_of}
 use Rattle.cert_sched.specs.Scripted.{is_finished}
-use Rattle.cert_sched.specs.Legal.{IsLegalBy, MayStand}
+use Rattle.cert_sched.specs.Legal.{IsLegal, MayFollow}
 use Rattle.cert_sched.proofs.Applied.{finished_kernel_still, legal_runs}
 use Rattle.cert_sched.proofs.LogLaws.{plain_run-schedule_of}
 use Rattle.cert_sched.proofs.StepLaws.{plain_after-rising}
@@ -30,6 +30,7 @@ use Rattle.cert_sched.proofs.StillLaws.{found_later}
 use Rattle.report_text.specs.Report.{newline, pid_part, pids_report, plain_report, status_text, ttys_report}
 use Rattle.report_text.specs.Outcome.{end_of, end_part, outcome_of, outcome_report, standing_text}
 use Rattle.report_text.proofs.Told.{numbered, told_by}
+use Rattle.cert_sched.proofs.MayLaws.{legal_may_stand}
 use Rattle.report_text.proofs.Outcomes.{outcome-is}
 
 -- a process without a step has ended or waits
@@ -59,13 +60,13 @@ pub still_report : (k : Kernel) → IsRising k → is_still k ≡ true → plain
 still_report k rising still = ap (λ lines. ttys_report k (range_with_len 0 16) ++ lines) (lines_are k k.processes (λ q s found. found) rising (none_acts (list_any can_act k.processes) still))
 
 -- what a log that came to its end tells is printed as the kernel after its schedule is
-pub finished_report : (system : System) (log : List Entry) → is_system system ≡ true → IsLegalBy MayStand system log → is_finished log ≡ true
+pub finished_report : (system : System) (log : List Entry) → is_system system ≡ true → IsLegal system log → is_finished log ≡ true
     → (kernel : Kernel) × (plain_run system (schedule_of system log) ≡ Some kernel) × (plain_report kernel ≡ outcome_report (outcome_of system log))
 finished_report system log valid legal finished =
-    let runs = legal_runs system log legal in
+    let runs = legal_runs system log (legal_may_stand system log legal) in
     let after : plain_after system log ≡ Some runs.0 = sym (plain_run-schedule_of system log) ∙ runs.1 in (
       runs.0,
       runs.1,
-      still_report runs.0 (plain_after-rising system log runs.0 after) (finished_kernel_still system log runs.0 legal finished runs.1)
-          ∙ ap outcome_report (outcome-is MayStand (λ system log e may. may.stands) system log valid legal runs.0 after),
+      still_report runs.0 (plain_after-rising system log runs.0 after) (finished_kernel_still system log runs.0 (legal_may_stand system log legal) finished runs.1)
+          ∙ ap outcome_report (outcome-is MayFollow (λ system log e may. may.stands) system log valid legal runs.0 after),
     )

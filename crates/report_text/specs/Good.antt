@@ -1,5 +1,5 @@
 -- When a run is what its system and its script allow.
-use Rattle.std.specs.Prelude.{ℕ, ◌≡◌, Bool, true, false, List, [], Option, Some, None}
+use Rattle.std.specs.Prelude.{ℕ, ◌≡◌, Bool, true, false, List, Option, Some, None}
 use Rattle.t32_base.specs.declared.process.ClusterNo.{ClusterNo}
 use Rattle.sys_text.specs.declared.system.System.{System}
 use Rattle.bus_msg.specs.declared.entry.Entry.{Entry}
@@ -9,7 +9,7 @@ use Rattle.cert_sched.specs.declared.script.ScriptWord.{ScriptWord}
 use Rattle.cert_sched.specs.Parts.{last_of}
 use Rattle.cert_sched.specs.Schedule.{schedule_of}
 use Rattle.cert_sched.specs.Told.{Told, told, cluster_lost}
-use Rattle.cert_sched.specs.Legal.{IsLegalBy, MayFollow, MayStand}
+use Rattle.cert_sched.specs.Legal.{IsLegalBy, MayFollow, MayFollow}
 use Rattle.cert_sched.specs.Counted.{counted}
 use Rattle.cert_sched.specs.Scripted.{IsScriptedBy, has_counted, is_finished}
 use Rattle.report_text.specs.declared.run.Run.{Run}

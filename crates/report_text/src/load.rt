@@ -3,8 +3,7 @@ ghost use Rattle.std.specs.Prelude.{◌≡◌, IfOk, Some, true};
 ghost use Rattle.sys_text.specs.Valid.{is_system};
 ghost use Rattle.plain_kernel.specs.Apply.{plain_run};
 ghost use Rattle.plain_kernel.specs.Kernel.{Kernel};
-ghost use Rattle.cert_sched.specs.Legal.{MayStand};
-ghost use Rattle.cert_sched.specs.Legal.{IsLegalBy};
+ghost use Rattle.cert_sched.specs.Legal.{IsLegal};
 ghost use Rattle.cert_sched.specs.Schedule.{schedule_of};
 ghost use Rattle.report_text.specs.Load.{load_report as load_report_of};
 
@@ -20,7 +19,7 @@ use t32_base::streams::NoMemory;
 /// counted by the log alone.
 pub fn load_report(alloc: Global, system: &System, run: &Run, size: u32) -> Result<Text, NoMemory>
     requires valid { is_system system.now ≡ true }
-    requires legal { IsLegalBy MayStand system.now run.now.log }
+    requires legal { IsLegal system.now run.now.log }
     requires items { run.now.items ≡ schedule_of system.now run.now.log }
     ensures { IfOk result (λ text. (kernel : Kernel) × (plain_run system.now run.now.items ≡ Some kernel) × (text ≡ load_report_of size kernel)) }
 {

@@ -6,8 +6,7 @@ ghost use Rattle.bus_msg.specs.Text.{line_of};
 ghost use Rattle.sys_text.specs.Valid.{is_system};
 ghost use Rattle.plain_kernel.specs.Apply.{plain_run};
 ghost use Rattle.plain_kernel.specs.Kernel.{Kernel};
-ghost use Rattle.cert_sched.specs.Legal.{MayStand};
-ghost use Rattle.cert_sched.specs.Legal.{IsLegalBy};
+ghost use Rattle.cert_sched.specs.Legal.{IsLegal};
 ghost use Rattle.cert_sched.specs.Schedule.{schedule_of};
 ghost use Rattle.cert_sched.specs.Scripted.{is_finished};
 ghost use Rattle.report_text.specs.Report.{newline};
@@ -41,7 +40,7 @@ pub fn report(alloc: Global, plain: &Plain, run: &Run) -> Result<Text, NoMemory>
 /// move in the kernel that the schedule leads to, so the log tells what that holds.
 pub fn finished_report(alloc: Global, system: &System, run: &Run) -> Result<Text, NoMemory>
     requires valid { is_system system.now ≡ true }
-    requires legal { IsLegalBy MayStand system.now run.now.log }
+    requires legal { IsLegal system.now run.now.log }
     requires items { run.now.items ≡ schedule_of system.now run.now.log }
     requires finished { is_finished run.now.log ≡ true }
     ensures { IfOk result (λ text. (kernel : Kernel) × (plain_run system.now run.now.items ≡ Some kernel) × (text ≡ report_of kernel run.now)) }
@@ -56,7 +55,7 @@ pub fn finished_report(alloc: Global, system: &System, run: &Run) -> Result<Text
 /// process that has not ended has a step.
 pub fn replayed_report(alloc: Global, system: &System, run: &Run) -> Result<Text, NoMemory>
     requires valid { is_system system.now ≡ true }
-    requires legal { IsLegalBy MayStand system.now run.now.log }
+    requires legal { IsLegal system.now run.now.log }
     requires items { run.now.items ≡ schedule_of system.now run.now.log }
     ensures { IfOk result (λ text. (kernel : Kernel) × (plain_run system.now run.now.items ≡ Some kernel) × (text ≡ report_of kernel run.now)) }
 {

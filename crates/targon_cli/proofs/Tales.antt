@@ -20,6 +20,7 @@ use Rattle.cluster_run.specs.declared.life.Ran.{Ran}
 use Rattle.cluster_run.specs.Completed.{IsCompleted}
 use Rattle.targon_cli.specs.declared.reply.Reply.{Reply}
 use Rattle.targon_cli.specs.declared.runs.Read.TheVariants.{System as AsSystem}
+use Rattle.cert_sched.proofs.MayLaws.{legal_may_stand}
 use Rattle.targon_cli.specs.Reply.{IsRead, IsTextOf, MakesRun, TellsOf, status_of}
 
 -- a run that came to its end has a log that did
@@ -29,7 +30,7 @@ ends_finished system r e h = subst (λ (k : Ended). EndsAs system r.log k) e h
 -- nothing can move in the kernel of a good run that is finished
 still : (system : System) (script : List ScriptWord) (r : Run) (kernel : Kernel) → IsGood system script r → r.ended ≡ Finished → plain_run system r.items ≡ Some kernel → is_still kernel ≡ true
 still system script r kernel good ended runs =
-    finished_kernel_still system r.log kernel good.legal (ends_finished system r ended good.ended) (ap (plain_run system) (sym good.items) ∙ runs)
+    finished_kernel_still system r.log kernel (legal_may_stand system r.log good.legal) (ends_finished system r ended good.ended) (ap (plain_run system) (sym good.items) ∙ runs)
 
 -- a run is told of by its text
 tells : (system : System) (script : List ScriptWord) (print : Kernel → Run → List ℕ) (text : List ℕ) (ran : Ran) → IsCompleted system script ran → IsTextOf system print ran.run text → TellsOf system script print text ran

@@ -1,7 +1,6 @@
 //! What `load` makes of its size: the text of its workload, or the run of it.
 ghost use Rattle.std.specs.Prelude.{◌≡◌, IfOk, [], None, false, true};
-ghost use Rattle.cert_sched.specs.Legal.{MayStand};
-ghost use Rattle.cert_sched.specs.Legal.{IsLegalBy};
+ghost use Rattle.cert_sched.specs.Legal.{IsLegal};
 ghost use Rattle.cert_sched.specs.Schedule.{schedule_of};
 ghost use Rattle.sys_text.specs.declared.system.System.{System as ASystem};
 ghost use Rattle.sys_text.specs.Valid.{is_system};
@@ -99,7 +98,7 @@ fn tell(
     size: u32,
 ) -> Result<Reply, NoMemory>
     requires valid { is_system system.now ≡ true }
-    requires legal { IsLegalBy MayStand system.now run.now.log }
+    requires legal { IsLegal system.now run.now.log }
     requires items { run.now.items ≡ schedule_of system.now run.now.log }
     ensures done { IfOk result (λ r. (r.status ≡ status_of run.now.ended) × (r.why ≡ None)) }
     ensures text { IfOk result (λ r. IsTextOf system.now (load_text size) run.now r.text) }

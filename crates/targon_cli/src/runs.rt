@@ -1,7 +1,6 @@
 //! What `sim` and `run` make of the bytes of their input: a run of clusters, and what is written of it.
 ghost use Rattle.std.specs.Prelude.{ℕ, ◌≡◌, ◌<◌, ◌^◌, IfOk, List, None, Ok, true};
-ghost use Rattle.cert_sched.specs.Legal.{MayStand};
-ghost use Rattle.cert_sched.specs.Legal.{IsLegalBy};
+ghost use Rattle.cert_sched.specs.Legal.{IsLegal};
 ghost use Rattle.cert_sched.specs.Schedule.{schedule_of};
 ghost use Rattle.sys_text.specs.Reading.{reading_of as system_reading};
 ghost use Rattle.sys_text.specs.Valid.{is_system};
@@ -124,7 +123,7 @@ fn tell(
     log: bool,
 ) -> Result<Reply, NoMemory>
     requires valid { is_system system.now ≡ true }
-    requires legal { IsLegalBy MayStand system.now run.now.log }
+    requires legal { IsLegal system.now run.now.log }
     requires items { run.now.items ≡ schedule_of system.now run.now.log }
     requires ended { EndsAs system.now run.now.log run.now.ended }
     ensures done { IfOk result (λ r. (r.status ≡ status_of run.now.ended) × (r.why ≡ None)) }
@@ -153,7 +152,7 @@ pub fn status_of(ended: Ended) -> u8
 // What is written of a run, by its log.
 fn run_text(alloc: Global, system: &System, run: &Run, log: bool) -> Result<Text, NoMemory>
     requires valid { is_system system.now ≡ true }
-    requires legal { IsLegalBy MayStand system.now run.now.log }
+    requires legal { IsLegal system.now run.now.log }
     requires items { run.now.items ≡ schedule_of system.now run.now.log }
     requires ended { EndsAs system.now run.now.log run.now.ended }
     ensures { IfOk result (λ text. IsTextOf system.now (run_text_of log) run.now text) }
@@ -168,7 +167,7 @@ fn run_text(alloc: Global, system: &System, run: &Run, log: bool) -> Result<Text
 // The report of a run. Where nothing can move any more its log tells all; where a loss was not covered its schedule is run again.
 fn report(alloc: Global, system: &System, run: &Run) -> Result<Text, NoMemory>
     requires valid { is_system system.now ≡ true }
-    requires legal { IsLegalBy MayStand system.now run.now.log }
+    requires legal { IsLegal system.now run.now.log }
     requires items { run.now.items ≡ schedule_of system.now run.now.log }
     requires ended { EndsAs system.now run.now.log run.now.ended }
     ensures { IfOk result (λ text. IsTextOf system.now report_of run.now text) }

@@ -5,6 +5,7 @@ use Rattle.bus_order.specs.View.{BusView}
 use Rattle.cert_sched.specs.Scripted.{is_finished}
 use Rattle.cluster_turns.specs.Ends.{ends_lost}
 use Rattle.cluster_turns.proofs.CutOff.{run_out_parts}
+use Rattle.bus_order.proofs.Lawful.{lawful_stands}
 use Rattle.cluster_run.proofs.Ended.{last_crash, lost_ends, run_out_long}
 use Rattle.cluster_run.proofs.leaving.ended_of.Goals as goal
 
@@ -16,7 +17,7 @@ ended_by_loss b (inr ended) other = ended
 pub overflow_sub-length : goal.overflow_sub-length
 overflow_sub-length c =
     let b : BusView = c.args.bus.now in
-    let long = run_out_long b.system b.log c.length.ensures.lawful.legal c.requires in
+    let long = run_out_long b.system b.log (lawful_stands c.length.ensures.lawful) c.requires in
     omega (arith, long, c.length.ensures.length)
 
 pub lost_by-requires : goal.lost_by-requires
@@ -24,12 +25,12 @@ lost_by-requires c =
     let b : BusView = c.args.bus.now in
     let ended = ended_by_loss b (run_out_parts b.system b.log c.requires) (λ finished. true≢false (sym finished ∙ sym c.is_finished.ensures ∙ c.if-is_finished.false)) in
     let at : slice_get b.log (length b.log - 1) ≡ Some c.in-Some.last.now = ap (λ n. slice_get b.log (n - 1)) (sym c.length.ensures.length) ∙ sym c.entry.ensures ∙ ap option_copied c.in-Some.is in
-    last_crash b.system b.log c.in-Some.last.now c.length.ensures.lawful.legal ended at
+    last_crash b.system b.log c.in-Some.last.now (lawful_stands c.length.ensures.lawful) ended at
 
 pub unreachable-requires : goal.unreachable-requires
 unreachable-requires c =
     let b : BusView = c.args.bus.now in
-    let long = run_out_long b.system b.log c.length.ensures.lawful.legal c.requires in
+    let long = run_out_long b.system b.log (lawful_stands c.length.ensures.lawful) c.requires in
     let at : slice_get b.log (length b.log - 1) ≡ None = ap (λ n. slice_get b.log (n - 1)) (sym c.length.ensures.length) ∙ sym c.entry.ensures ∙ ap option_copied c.in-None.is in
     elim (slice_get_cases b.log (length b.log - 1)).1 [
       | inl there ↦ (let both : None ≡ Some there.0 = sym at ∙ there.2 in cc)
@@ -41,4 +42,4 @@ returns c =
     let b : BusView = c.args.bus.now in
     let ended = ended_by_loss b (run_out_parts b.system b.log c.requires) (λ finished. true≢false (sym finished ∙ sym c.is_finished.ensures ∙ c.if-is_finished.false)) in
     let at : slice_get b.log (length b.log - 1) ≡ Some c.in-Some.last.now = ap (λ n. slice_get b.log (n - 1)) (sym c.length.ensures.length) ∙ sym c.entry.ensures ∙ ap option_copied c.in-Some.is in
-    lost_ends b.system b.log c.in-Some.last.now c.lost_by.result c.length.ensures.lawful.legal ended at c.lost_by.ensures
+    lost_ends b.system b.log c.in-Some.last.now c.lost_by.result (lawful_stands c.length.ensures.lawful) ended at c.lost_by.ensures

@@ -6,6 +6,7 @@ use Rattle.cert_sched.specs.Legal.{IsLegalBy, Stands}
 use Rattle.cert_sched.specs.Counted.{counted}
 use Rattle.log_laws.proofs.records.Standing.{all_stand}
 use Rattle.report_text.specs.Good.{EndsAs}
+use Rattle.bus_order.proofs.Lawful.{lawful_stands}
 use Rattle.cluster_run.proofs.Ended.{ends_finished}
 use Rattle.cluster_run.proofs.GoodRun.{good_run}
 use Rattle.cluster_turns.proofs.Worded.{spread_closes}
@@ -18,7 +19,7 @@ pub counts_of-requires-clause-legal : goal.counts_of-requires-clause-legal
 counts_of-requires-clause-legal c =
     let Of : System → Type 0 = λ system. IsLegalBy Stands system c.args.bus.log in
     let At : List Entry → Type 0 = λ log. IsLegalBy Stands c.args.system.now log in
-    subst At (sym (c.as_slice.ensures ∙ c.in_ok-log.ensures.log)) (subst Of c.requires.system (all_stand c.args.bus.system c.args.bus.log c.in_ok-log.ensures.lawful.legal))
+    subst At (sym (c.as_slice.ensures ∙ c.in_ok-log.ensures.log)) (subst Of c.requires.system (all_stand c.args.bus.system c.args.bus.log (lawful_stands c.in_ok-log.ensures.lawful)))
 
 pub returns-clause-good : goal.returns-clause-good
 returns-clause-good c =
@@ -36,4 +37,4 @@ returns-clause-spread c spread =
     let b = c.args.bus in
     let lawful = c.in_ok-log.ensures.lawful in
     let ends : EndsAs b.system b.log c.ended_of-ended.result = c.ended_of-ended.ensures in
-    ends_finished b.system b.log c.ended_of-ended.result lawful.legal (λ over. spread_closes b c.requires.left.valid lawful spread over) ends
+    ends_finished b.system b.log c.ended_of-ended.result (lawful_stands lawful) (λ over. spread_closes b c.requires.left.valid lawful spread over) ends
