@@ -44,6 +44,10 @@ pub fn next_standing(
 fn first_stated(owed: &BTreeSet<u32>, here: &Residents) -> Option<Pid>
     ensures { result ≡ first_stated here.now.here owed.now.keys }
 {
+    // Mostly none waits, and each turn of a cluster asks.
+    if owed.is_empty() {
+        return None;
+    }
     for pid in owed {
         if is_stated(here, *pid) {
             return Some(Pid(*pid));
