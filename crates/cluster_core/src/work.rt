@@ -141,10 +141,11 @@ fn stuck(alloc: Global, here: &mut Residents) -> Result<Worked, NoMemory>
     ensures worked { IfOk result (λ worked. worked ≡ (if any_waits here.old.here then Worked.Waits else Worked.Rests)) }
     ensures same { here.new ≡ here.old }
 {
+    // What they tell is made first: where it is kept, none is asked whether it waits.
+    here.keep_told(alloc)?;
     if here.waits() {
         return Ok(Worked::Waits);
     }
-    here.keep_told(alloc)?;
     Ok(Worked::Rests)
 }
 

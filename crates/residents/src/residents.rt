@@ -256,6 +256,17 @@ impl Residents {
         !self.is_able(pid, resident) && !resident.waits()
     }
 
+    // The same of one that is here: where none is ready it can have no turn, and is not asked. Takes no memory.
+    fn is_at_rest(&self, pid: u32, resident: &Resident) -> bool
+        requires { is_able self.now.duty (pid_of pid, resident.now) ≡ true → list_any (at_key pid) self.now.ready ≡ true }
+        ensures { result ≡ is_settled self.now.duty (pid_of pid, resident.now) }
+    {
+        if self.ready.is_empty() {
+            return !resident.waits();
+        }
+        self.is_settled(pid, resident)
+    }
+
     // Whether a process, which is this one, can have a turn by itself. Takes no memory.
     fn is_able(&self, pid: u32, resident: &Resident) -> bool
         ensures { result ≡ is_able self.now.duty (pid_of pid, resident.now) }
@@ -282,8 +293,9 @@ impl Residents {
         ensures ordered { are_rising (pids_in self.now.here) ≡ true }
         ensures owed { result ≡ owed_at self.now.duty self.now.here (pid_of pid) }
     {
+        let to = self.duty.backup_owed(pid)?;
         if self.runs(Pid(pid)) {
-            self.duty.backup_owed(pid)
+            Some(to)
         } else {
             None
         }
@@ -942,7 +954,7 @@ impl Residents {
         for (pid, key) in &self.keys {
             match self.residents.get(*key) {
                 Some(resident) => {
-                    if !self.is_settled(*pid, resident) {
+                    if !self.is_at_rest(*pid, resident) {
                         return Ok(None);
                     }
                     rests.push((Pid(*pid), resident.steps()))?;
