@@ -54,7 +54,10 @@ pub fn begin_lives(
     Ok(())
 }
 
-// Begins the next life of a cluster that was lost behind its cursor and has come back.
+// Begins the next life of a cluster that was lost behind its cursor and has come back. It stands by itself so that no other turn pays
+// for it.
+#[cold]
+#[inline(never)]
 fn begin_life(
     bus: &Bus,
     cluster: &mut Member,
