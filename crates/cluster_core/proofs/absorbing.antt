@@ -12,6 +12,7 @@ pub mod Renewed
 pub mod Returned
 pub mod Absorbed
 pub mod Arriving
+pub mod PassingBy
 pub mod Noting
 pub mod KnownPlaces
 pub mod ByKind

@@ -1,11 +1,11 @@
 -- Which entries concern the processes and the records of a cluster.
-use Rattle.std.specs.Prelude.{◌≡◌, Bool, true, false, ◌==◌, List, Some, ⊤}
+use Rattle.std.specs.Prelude.{◌≡◌, Bool, true, false, ◌==◌, List, Some, ⊤, not}
 use Rattle.std.specs.Int.{bit_at}
 use Rattle.t32_base.specs.declared.process.Pid.{Pid}
 use Rattle.t32_base.specs.declared.process.ClusterNo.{ClusterNo}
 use Rattle.t32_base.specs.declared.letter.BackRec.{BackRec}
 use Rattle.bus_msg.specs.declared.entry.What.{What}
-use Rattle.bus_msg.specs.declared.entry.What.TheVariants.{Mail, Birth, Exit, PageIs, Crash, Return, Rebackup}
+use Rattle.bus_msg.specs.declared.entry.What.TheVariants.{Mail, Birth, Exit, Page, Fetch, PageIs, Crash, Return, Rebackup}
 use Rattle.bus_msg.specs.declared.entry.Dests.{Dests}
 use Rattle.bus_msg.specs.declared.entry.Entry.{Entry}
 use Rattle.bus_msg.specs.PlacedAfter.{what}
@@ -31,6 +31,13 @@ ComesHere k e here = (p : Pid) (h : Held) → held_of here p ≡ Some h → is_l
 -- where an entry does not go to this cluster it leaves the records as they are
 abbrev pub IsNotedHere : ClusterNo → Entry → List BackRec → Type 0
 IsNotedHere k e recs = goes_to e.dests k ≡ false → records_after k (what e) recs ≡ recs
+
+-- an entry changes nothing here but what a page server keeps: a letter that does not go to this cluster, a page, and a fetch
+abbrev pub passes_by : ClusterNo → Dests → What → Bool
+passes_by k dests (Mail at letter) = not (goes_to dests k)
+passes_by k dests (Page p at i bytes) = true
+passes_by k dests (Fetch p i) = true
+passes_by k dests w = false
 
 -- a page that an entry tells of may come to its process, if that is here
 abbrev pub CanCome : What → List (Pid × Held) → Type 0

@@ -74,8 +74,8 @@ pub fn note(number: ClusterNo, records: &mut Records, entry: &Entry) -> Result<(
     }
 }
 
-// Whether the cluster with a number is one of those that an entry goes to.
-fn goes_to(dests: &Dests, number: ClusterNo) -> bool
+/// Whether the cluster with a number is one of those that an entry goes to. Takes no memory.
+pub fn goes_to(dests: &Dests, number: ClusterNo) -> bool
     requires { number.0 < 16 }
     ensures { result ≡ goes_to dests.now number }
 {

@@ -294,6 +294,7 @@ impl<D: PageDisk + Drop> Cluster<D> {
     /// lives. A new backup brings its records here where it is to this cluster. A queued post that
     /// falls at the entry is to be sent no more. A call of its disk that fails leaves a cluster that has failed, in which there is no
     /// process. After want of memory nothing is said of the cluster but that it can be dropped.
+    #[inline(always)]
     pub fn absorb(&mut self, entry: &Entry) -> Result<(), Hurt>
         requires room { self.old.cursor < 2 ^ 64 - 1 }
         requires ready { ReadyFor entry.now self.old }
@@ -310,6 +311,7 @@ impl<D: PageDisk + Drop> Cluster<D> {
     }
 
     // The same, but that a call of the disk that fails is not noted.
+    #[inline(always)]
     fn take_in(&mut self, entry: &Entry) -> Result<(), Hurt>
         requires room { self.old.cursor < 2 ^ 64 - 1 }
         requires ready { ReadyFor entry.now self.old }

@@ -228,6 +228,7 @@ fn is_lost_next<P: Port>(port: &P, cluster: &Member) -> bool
 }
 
 // Takes in the entry at the cursor. Answers whether a call of its disk failed at that.
+#[inline(always)]
 fn take_next<P: Port>(port: &P, cluster: &mut Member) -> Result<bool, NoMemory>
     requires shows { P.shows port.now }
     requires from { P.from port.now ≤ cluster.old.cursor }
