@@ -22,9 +22,7 @@ use t32_base::process::{ClusterNo, Pid};
 /// Takes in an entry of the log; the placement is the one before it. A page is put, by one call of the disk; a cut
 /// of a process commits its pages; a fetch waits until its page has come; the pages of a process that ended go; and
 /// those of a process that a crash moves go back to its last cut, and its fetches wait no longer. Only a page may be
-/// refused by the disk, and only a page and a fetch for want of memory: every account and every fetch is then as it was. It stands by
-/// itself, so that a cluster without a disk does not pay for its room.
-#[inline(never)]
+/// refused by the disk, and only a page and a fetch for want of memory: every account and every fetch is then as it was.
 pub fn note<D: PageDisk>(
     pager: &mut Pager<D>,
     before: &Placement,
