@@ -3,7 +3,9 @@ import re
 from dataclasses import dataclass, field
 from typing import Dict, List, Optional, Sequence, Tuple
 
+import coverage
 import runs
+from t32log.system import System
 
 # How many answers of `plain` are kept.
 KEPT = 4096
@@ -27,7 +29,7 @@ class Loss:
 
 @dataclass
 class Outcome:
-    """What came of one run. Where it is not explained, `why` says so, and both outputs are there."""
+    """What came of one run, and its terminals and processes. Where it is not explained, `why` says so, and both outputs are there."""
 
     is_lost: bool = False
     is_same: bool = False
@@ -37,17 +39,19 @@ class Outcome:
     withheld: int = 0
     recovery: int = 0
     why: str = ""
+    front: bytes = b""
     printed: bytes = b""
     wanted: bytes = b""
 
 
 @dataclass
 class Setting:
-    """What every run needs: the program, the text, and the run without a loss."""
+    """What every run needs: the program, the text, what its roots and page servers are, and the run without a loss."""
 
     program: str
     text: bytes
     seconds: float
+    system: Optional[System] = None
     base: Optional[runs.Report] = None
     plains: Dict[bytes, runs.Answer] = field(default_factory=dict)
 
@@ -112,6 +116,20 @@ def wrong_notes(said: bytes, report: runs.Report, script: Sequence[str]) -> str:
     return ""
 
 
+def wrong_end(setting: Setting, status: Optional[int], report: runs.Report) -> str:
+    """How the status differs from what the report and its log tell, or nothing."""
+    if report.lost != (status == 7):
+        return f"it ended with status {status}, and a line says {'lost' if report.lost else 'nothing of lost'}"
+    if setting.system is None or not report.log:
+        return ""
+    wanted = coverage.status_by(setting.system, report.log)
+    if wanted == status:
+        return ""
+    return f"it ended with status {status}, and by its log " + (
+        "something stands behind a loss that was not covered" if wanted is None else
+        f"{'each loss was' if wanted == 0 else 'its last entry is a loss that was not'} covered")
+
+
 def judged(setting: Setting, loss: Loss) -> Outcome:
     """Runs one loss, and asks `plain` about it."""
     answer = setting.run(*loss.words)
@@ -126,15 +144,13 @@ def judged(setting: Setting, loss: Loss) -> Outcome:
         outcome.why = str(unreadable)
         return outcome
     plain = setting.plain(report.schedule)
-    outcome.wanted = plain.output
+    outcome.front, outcome.wanted = report.front, plain.output
     if plain.status != 0:
         outcome.why = f"`plain` refuses the printed schedule: {plain.ending()}"
     elif plain.output != report.front:
         outcome.why = f"`plain` prints other terminals or processes by the printed schedule, {first_difference(plain.output, report.front)}"
-    elif report.lost != (answer.status == 7):
-        outcome.why = f"it ended with status {answer.status}, and a line says {'lost' if report.lost else 'nothing of lost'}"
     else:
-        outcome.why = wrong_turns(report, loss.script())
+        outcome.why = wrong_end(setting, answer.status, report) or wrong_turns(report, loss.script())
     if not outcome.why and answer.status == 0:
         outcome.why = wrong_notes(answer.said, report, loss.script())
     if not outcome.why and not report.losses and loss.kind in REACHED:
