@@ -1,6 +1,6 @@
-//! What is wanted of a run by any words that lose clusters and bring them back: it ends with status 0 or, where its own log tells of a loss that was not
-//! covered, with 7; its terminals and processes are those that `plain` prints on the text with the printed schedule behind it; and where it came
-//! to its end, they are also those of the text alone, or of its other order.
+//! What is wanted of a run by any words that lose clusters and bring them back: it ends with status 0 or, where its own log tells of a loss
+//! that was not covered, with 7; its terminals and processes are those that `plain` prints on the text with the printed schedule behind it;
+//! and where it came to its end, they are also those of the text alone, or of its other order.
 use crate::placement::{Placement, log_in, place_of, status_by};
 use program_calls::answer;
 use std::sync::Wait;
@@ -8,8 +8,9 @@ use std::test::Fail;
 use std::thread::Threads;
 use test_asserts::same;
 
-/// A system: its text with the mode `quarter`, what it prints where its letters come in another order, whether its processes may get other pids, how many
-/// roots it has, its page servers and clusters, and some more than the places of its log and the steps of its clusters without a loss.
+/// A system: its text with the mode `quarter`, what it prints where its letters come in another order, whether its processes may get other
+/// pids, how many roots it has, its page servers and clusters, and some more than the places of its log and the steps of its clusters
+/// without a loss.
 pub struct Case {
     pub text: &'static str,
     pub other: &'static str,
@@ -29,7 +30,7 @@ pub struct Subject<'a> {
     alone: Vec<u8>,
 }
 
-pub fn subject<'a, R: AllocGlobal + Threads + Wait + Sync>(
+pub fn in_mode<'a, R: AllocGlobal + Threads + Wait + Sync>(
     rt: &R,
     case: &'a Case,
     mode: &str,
@@ -43,9 +44,9 @@ pub fn subject<'a, R: AllocGlobal + Threads + Wait + Sync>(
 pub fn explained<R: AllocGlobal + Threads + Wait + Sync>(
     rt: &R,
     subject: &Subject,
-    line: &[u8],
+    line: &str,
 ) -> Result<Vec<u8>, Fail> {
-    let (status, report) = answer(rt, line, subject.text.as_bytes())?;
+    let (status, report) = answer(rt, line.as_bytes(), subject.text.as_bytes())?;
     assert_explained(rt, subject, line, status, report.as_slice())?;
     Ok(report)
 }
@@ -53,7 +54,7 @@ pub fn explained<R: AllocGlobal + Threads + Wait + Sync>(
 fn assert_explained<R: AllocGlobal + Threads + Wait + Sync>(
     rt: &R,
     subject: &Subject,
-    line: &[u8],
+    line: &str,
     status: u8,
     report: &[u8],
 ) -> Result<(), Fail> {
@@ -70,7 +71,7 @@ fn assert_explained<R: AllocGlobal + Threads + Wait + Sync>(
 fn assert_status<R: AllocGlobal + Threads + Wait + Sync>(
     rt: &R,
     case: &Case,
-    line: &[u8],
+    line: &str,
     status: u8,
     report: &[u8],
 ) -> Result<(), Fail> {
@@ -87,7 +88,7 @@ fn assert_status<R: AllocGlobal + Threads + Wait + Sync>(
 fn assert_plain<R: AllocGlobal + Threads + Wait + Sync>(
     rt: &R,
     subject: &Subject,
-    line: &[u8],
+    line: &str,
     report: &[u8],
     head: &[u8],
 ) -> Result<(), Fail> {
@@ -114,7 +115,7 @@ fn schedule_in(report: &[u8]) -> &[u8] {
     let (Some(at), Some(log)) = (place_of(end, b"\nschedule "), place_of(end, b"\nlog ")) else {
         return b"";
     };
-    end.get(at + 1..=log).unwrap_or(b"")
+    end.get(at.saturating_add(1)..=log).unwrap_or(b"")
 }
 
 // What a run that came to its end says is what is said without clusters, or in the other order.

@@ -1,5 +1,5 @@
 //! Each pair of places of two losses, with and without a return between them, and the same with a loss before a kernel step, in each mode.
-use crate::explained::{Case, Subject, explained, subject};
+use crate::explained::{Case, Subject, explained, in_mode};
 use std::alloc::{AllocError, Global};
 use std::sync::Wait;
 use std::test::Fail;
@@ -58,8 +58,8 @@ pub const HALF: &str = " half ";
 
 pub const FULL: &str = " full ";
 
-// The kinds of a run: two losses at places, with a return of the first cluster half way between them, and the same with the second loss, or
-// both, before a kernel step.
+// The kinds of a run: two losses at places, the same with a return of the first cluster half way between them, both with the second loss
+// before a kernel step, and two losses before steps.
 const KINDS: u32 = 5;
 
 fn is_of_places(kind: u32) -> bool {
@@ -101,11 +101,11 @@ fn assert_pair<R: AllocGlobal + Threads + Wait + Sync>(
     second: (u32, u32),
 ) -> Result<(), Fail> {
     let line = line_of(rt.alloc(), kind, first, second)?;
-    let _ = explained(rt, subject, line.as_bytes())?;
+    let _ = explained(rt, subject, line.as_str())?;
     Ok(())
 }
 
-// All places of the second loss: those from the first one on, and some behind where the run without a loss ends, or every fifth step.
+// All places of the second loss: those from the first one on, up to some behind the end of the run without a loss; or every fifth step.
 fn assert_seconds<R: AllocGlobal + Threads + Wait + Sync>(
     rt: &R,
     subject: &Subject,
@@ -149,7 +149,7 @@ fn assert_all<R: AllocGlobal + Threads + Wait + Sync>(
     case: &Case,
     mode: &str,
 ) -> Result<(), Fail> {
-    let subject = subject(rt, case, mode)?;
+    let subject = in_mode(rt, case, mode)?;
     for a in 0..case.clusters {
         for b in 0..case.clusters {
             assert_clusters(rt, &subject, a, b)?;

@@ -1,5 +1,5 @@
-//! Which losses of a printed log were covered, by the lines of the log and the placement of the roots alone: a loss is covered where each process of
-//! the lost cluster that has not ended has a backup that lives, and a page server lives after it.
+//! Which losses of a printed log were covered, by the lines of the log and the placement of the roots alone: a loss is covered where each
+//! process of the lost cluster that has not ended has a backup that lives, and a page server lives after it.
 use std::alloc::{AllocError, Global};
 
 // Where a process is at home and where its backup stands, until it ends.
@@ -37,7 +37,7 @@ fn number(field: &[u8]) -> Option<u32> {
 }
 
 impl Placement {
-    /// So many roots, the first in cluster 0 and each next one in the next cluster, with the backup in the cluster behind its own.
+    /// So many roots, the first in cluster 0 and each next one in the next cluster, with its backup in the cluster behind that.
     pub fn at_start(
         alloc: Global,
         roots: u32,
@@ -164,9 +164,9 @@ pub fn log_in(report: &[u8]) -> &[u8] {
     let Some(at) = place_of(report, b"\nlog ") else {
         return b"";
     };
-    let counted = report.get(at + 1..).unwrap_or(b"");
+    let counted = report.get(at.saturating_add(1)..).unwrap_or(b"");
     match place_of(counted, b"\n") {
-        Some(end) => counted.get(end + 1..).unwrap_or(b""),
+        Some(end) => counted.get(end.saturating_add(1)..).unwrap_or(b""),
         None => b"",
     }
 }
@@ -182,8 +182,8 @@ pub fn last_page(report: &[u8]) -> u32 {
     last
 }
 
-/// The status with which a run has to end, by its log: 7 where its last entry is a loss that is not covered, 0 where each loss is covered. None
-/// where something stands behind a loss that is not covered.
+/// The status with which a run has to end, by its log: 7 where its last entry is a loss that is not covered, 0 where each loss is covered.
+/// None where something stands behind a loss that is not covered.
 pub fn status_by(mut placement: Placement, report: &[u8]) -> Result<Option<u8>, AllocError> {
     let mut status = 0;
     for line in log_in(report).split(|b| *b == b'\n') {

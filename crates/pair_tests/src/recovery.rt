@@ -1,5 +1,6 @@
-//! Losses within a recovery: behind each first loss each place up to the last page that was asked for, and behind that second loss again, in each mode.
-use crate::explained::{Case, Subject, explained, subject};
+//! Losses within a recovery: behind each first loss each place up to the last page that was asked for, and a third loss within the
+//! recovery of the second, in each mode.
+use crate::explained::{Case, Subject, explained, in_mode};
 use crate::pairs::{CHILDREN, FULL, HALF, QUARTER, SIGNALS};
 use crate::placement::last_page;
 use std::alloc::{AllocError, Global};
@@ -22,8 +23,8 @@ static LARGE: Case = Case {
     steps: 20,
 };
 
-// What comes behind the first loss, by its kind: a second loss alone, with a return of the first cluster before it or behind it, and a third
-// loss right behind the second or some entries further.
+// What comes behind the first loss, by its kind: a second loss, with a return of the first cluster before it or behind it, or of the second
+// behind it, and a third loss right behind the second or some entries further.
 const KINDS: u32 = 5;
 
 fn line_of(
@@ -67,7 +68,7 @@ fn assert_cut<R: AllocGlobal + Threads + Wait + Sync>(
     for kind in 0..KINDS {
         for third in 0..subject.case.clusters {
             let line = line_of(rt.alloc(), kind, first, second, third)?;
-            let _ = explained(rt, subject, line.as_bytes())?;
+            let _ = explained(rt, subject, line.as_str())?;
         }
     }
     Ok(())
@@ -81,7 +82,7 @@ fn assert_recovery<R: AllocGlobal + Threads + Wait + Sync>(
     p: u32,
 ) -> Result<(), Fail> {
     let line = format!(in rt.alloc(); "sim --log crash:{a}@bus:{p}")?;
-    let report = explained(rt, subject, line.as_bytes())?;
+    let report = explained(rt, subject, line.as_str())?;
     let last = last_page(report.as_slice()).min(1000);
     for q in p..last + 2 {
         for b in 0..subject.case.clusters {
@@ -96,7 +97,7 @@ fn assert_all<R: AllocGlobal + Threads + Wait + Sync>(
     case: &Case,
     mode: &str,
 ) -> Result<(), Fail> {
-    let subject = subject(rt, case, mode)?;
+    let subject = in_mode(rt, case, mode)?;
     for a in 0..case.clusters {
         for p in 0..case.places {
             assert_recovery(rt, &subject, a, p)?;

@@ -1,5 +1,5 @@
-//! Whole outputs of one process that writes two lines, in systems that its mode tells apart: the log, by hand, of each new backup, of a return, and of
-//! losses of which the second cuts the recovery of the first short.
+//! Whole outputs of one process that writes two lines, by hand: the log of a new backup of either kind, of a return, and of two losses of
+//! which the second cuts the recovery of the first short.
 use program_calls::assert_answer;
 use std::alloc::{AllocError, Global};
 use std::sync::Wait;
@@ -119,7 +119,8 @@ fn assert_row<R: AllocGlobal + Threads + Wait + Sync>(rt: &R, row: &Row) -> Resu
     )
 }
 
-// By `run` all but the log is the same: one cluster alone has anything to send, and losses and returns stand where the words name them.
+// By `run` all but the log is the same: one cluster alone has anything to send, and losses and returns stand where the words name
+// them.
 fn assert_run<R: AllocGlobal + Threads + Wait + Sync>(rt: &R, row: &Row) -> Result<(), Fail> {
     let text = system(rt.alloc(), row.head, row.mode)?;
     let [said, losses, items, _] = row.parts;

@@ -1,5 +1,5 @@
 //! Words that are due at one place, in both orders, and as many words as there may be, and one more.
-use crate::explained::{Case, Subject, explained, subject};
+use crate::explained::{Case, Subject, explained, in_mode};
 use crate::pairs::{CHILDREN, CIRCLE, FULL, HALF, QUARTER, SIGNALS, TALK};
 use crate::placement::place_of;
 use program_calls::assert_answer;
@@ -46,13 +46,13 @@ fn assert_order<R: AllocGlobal + Threads + Wait + Sync>(
     words: &[String; 2],
 ) -> Result<(), Fail> {
     let [line, told] = words;
-    let report = explained(rt, subject, line.as_bytes())?;
+    let report = explained(rt, subject, line.as_str())?;
     let found = place_of(report.as_slice(), told.as_bytes()).is_some();
     let none = place_of(report.as_slice(), b"\ncrash none\n").is_some();
     same(
         "the order of two words",
-        &(line.as_bytes(), found || none),
-        &(line.as_bytes(), true),
+        &(line.as_str(), found || none),
+        &(line.as_str(), true),
     )
 }
 
@@ -76,7 +76,7 @@ fn assert_both_orders<R: AllocGlobal + Threads + Wait + Sync>(
     case: &Case,
     mode: &str,
 ) -> Result<(), Fail> {
-    let subject = subject(rt, case, mode)?;
+    let subject = in_mode(rt, case, mode)?;
     for a in 0..case.clusters {
         for b in 0..case.clusters {
             if a != b {
@@ -122,12 +122,12 @@ fn assert_many<R: AllocGlobal + Threads + Wait + Sync>(
     case: &Case,
     mode: &str,
 ) -> Result<(), Fail> {
-    let subject = subject(rt, case, mode)?;
+    let subject = in_mode(rt, case, mode)?;
     for gap in 1..12 {
         let line = many(rt.alloc(), "sim --log", 32, gap, case.clusters)?;
-        let _ = explained(rt, &subject, line.as_bytes())?;
+        let _ = explained(rt, &subject, line.as_str())?;
         let line = many(rt.alloc(), "run --log", 32, gap, case.clusters)?;
-        let _ = explained(rt, &subject, line.as_bytes())?;
+        let _ = explained(rt, &subject, line.as_str())?;
     }
     Ok(())
 }
