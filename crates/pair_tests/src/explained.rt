@@ -1,7 +1,8 @@
 //! What is wanted of a run by any words that lose clusters and bring them back: it ends with status 0 or, where its own log tells of a loss
 //! that was not covered, with 7; its terminals and processes are those that `plain` prints on the text with the printed schedule behind it;
 //! and where it came to its end, they are also those of the text alone, or of its other order.
-use crate::placement::{Placement, log_in, place_of, status_by};
+use crate::placement::{Placement, status_by};
+use crate::report::{Parts, parts_of, place_of};
 use program_calls::answer;
 use std::sync::Wait;
 use std::test::Fail;
@@ -47,7 +48,7 @@ pub fn explained<R: AllocGlobal + Threads + Wait + Sync>(
     line: &str,
 ) -> Result<Vec<u8>, Fail> {
     let (status, report) = answer(rt, line.as_bytes(), subject.text.as_bytes())?;
-    assert_explained(rt, subject, line, status, report.as_slice())?;
+    assert_explained(rt, subject, line, status, &parts_of(report.as_slice()))?;
     Ok(report)
 }
 
@@ -56,15 +57,15 @@ fn assert_explained<R: AllocGlobal + Threads + Wait + Sync>(
     subject: &Subject,
     line: &str,
     status: u8,
-    report: &[u8],
+    report: &Parts,
 ) -> Result<(), Fail> {
-    let head = head_in(report);
     assert_status(rt, subject.case, line, status, report)?;
-    assert_plain(rt, subject, line, report, head)?;
+    assert_plain(rt, subject, line, report)?;
+    let head = report.head;
     same(
         "what is said at the end",
-        &(line, head, true),
         &(line, head, status == 7 || is_said(subject, head)),
+        &(line, head, true),
     )
 }
 
@@ -73,11 +74,11 @@ fn assert_status<R: AllocGlobal + Threads + Wait + Sync>(
     case: &Case,
     line: &str,
     status: u8,
-    report: &[u8],
+    report: &Parts,
 ) -> Result<(), Fail> {
     let placement = Placement::at_start(rt.alloc(), case.roots, case.clusters, case.servers)?;
-    let wanted = status_by(placement, report)?;
-    let is_lost = place_of(report, b"\nlost ").is_some();
+    let wanted = status_by(placement, report.log)?;
+    let is_lost = place_of(report.turns, b"\nlost ").is_some();
     same(
         "the status",
         &(line, Some(status), is_lost),
@@ -89,33 +90,15 @@ fn assert_plain<R: AllocGlobal + Threads + Wait + Sync>(
     rt: &R,
     subject: &Subject,
     line: &str,
-    report: &[u8],
-    head: &[u8],
+    report: &Parts,
 ) -> Result<(), Fail> {
-    let whole = [subject.text.as_bytes(), schedule_in(report)].concat(rt.alloc())?;
+    let whole = [subject.text.as_bytes(), report.schedule].concat(rt.alloc())?;
     let (_, plain) = answer(rt, b"plain", whole.as_slice())?;
     same(
         "what plain prints",
         &(line, plain.as_slice()),
-        &(line, head),
+        &(line, report.head),
     )
-}
-
-// The terminals and the processes of a report: what stands before the lines that tell of losses.
-fn head_in(report: &[u8]) -> &[u8] {
-    match place_of(report, b"\ncrash ") {
-        Some(at) => report.get(..=at).unwrap_or(b""),
-        None => b"",
-    }
-}
-
-// The schedule of a report with `--log`.
-fn schedule_in(report: &[u8]) -> &[u8] {
-    let end = report.strip_suffix(log_in(report)).unwrap_or(b"");
-    let (Some(at), Some(log)) = (place_of(end, b"\nschedule "), place_of(end, b"\nlog ")) else {
-        return b"";
-    };
-    end.get(at.saturating_add(1)..=log).unwrap_or(b"")
 }
 
 // What a run that came to its end says is what is said without clusters, or in the other order.

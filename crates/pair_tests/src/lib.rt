@@ -11,6 +11,8 @@ mod placement;
 #[cfg(test)]
 mod recovery;
 #[cfg(test)]
+mod report;
+#[cfg(test)]
 mod rows;
 #[cfg(test)]
 mod words;

@@ -152,29 +152,10 @@ impl Placement {
     }
 }
 
-// Where these bytes first stand in a report.
-pub fn place_of(report: &[u8], mark: &[u8]) -> Option<usize> {
-    report
-        .windows(mark.len().max(1))
-        .position(|part| part == mark)
-}
-
-/// The lines of the log in a report, behind the line that counts them.
-pub fn log_in(report: &[u8]) -> &[u8] {
-    let Some(at) = place_of(report, b"\nlog ") else {
-        return b"";
-    };
-    let counted = report.get(at.saturating_add(1)..).unwrap_or(b"");
-    match place_of(counted, b"\n") {
-        Some(end) => counted.get(end.saturating_add(1)..).unwrap_or(b""),
-        None => b"",
-    }
-}
-
-/// The place of the last page that the log in a report tells of, or 0.
-pub fn last_page(report: &[u8]) -> u32 {
+/// The place of the last page that a log tells of, or 0.
+pub fn last_page(log: &[u8]) -> u32 {
     let mut last = 0;
-    for line in log_in(report).split(|b| *b == b'\n') {
+    for line in log.split(|b| *b == b'\n') {
         if field(line, 2) == b"pageis".as_slice() {
             last = number(field(line, 0)).unwrap_or(0);
         }
@@ -184,9 +165,9 @@ pub fn last_page(report: &[u8]) -> u32 {
 
 /// The status with which a run has to end, by its log: 7 where its last entry is a loss that is not covered, 0 where each loss is covered.
 /// None where something stands behind a loss that is not covered.
-pub fn status_by(mut placement: Placement, report: &[u8]) -> Result<Option<u8>, AllocError> {
+pub fn status_by(mut placement: Placement, log: &[u8]) -> Result<Option<u8>, AllocError> {
     let mut status = 0;
-    for line in log_in(report).split(|b| *b == b'\n') {
+    for line in log.split(|b| *b == b'\n') {
         if line.is_empty() {
             return Ok(Some(status));
         }

@@ -3,6 +3,7 @@
 use crate::explained::{Case, Subject, explained, in_mode};
 use crate::pairs::{CHILDREN, FULL, HALF, QUARTER, SIGNALS};
 use crate::placement::last_page;
+use crate::report::parts_of;
 use std::alloc::{AllocError, Global};
 use std::sync::Wait;
 use std::test::Fail;
@@ -83,7 +84,7 @@ fn assert_recovery<R: AllocGlobal + Threads + Wait + Sync>(
 ) -> Result<(), Fail> {
     let line = format!(in rt.alloc(); "sim --log crash:{a}@bus:{p}")?;
     let report = explained(rt, subject, line.as_str())?;
-    let last = last_page(report.as_slice()).min(1000);
+    let last = last_page(parts_of(report.as_slice()).log).min(1000);
     for q in p..last + 2 {
         for b in 0..subject.case.clusters {
             assert_cut(rt, subject, (a, p), (b, q))?;

@@ -1,7 +1,7 @@
 //! Words that are due at one place, in both orders, and as many words as there may be, and one more.
 use crate::explained::{Case, Subject, explained, in_mode};
 use crate::pairs::{CHILDREN, CIRCLE, FULL, HALF, QUARTER, SIGNALS, TALK};
-use crate::placement::place_of;
+use crate::report::place_of;
 use program_calls::assert_answer;
 use std::alloc::{AllocError, Global};
 use std::sync::Wait;
