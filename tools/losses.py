@@ -122,7 +122,10 @@ def wrong_end(setting: Setting, status: Optional[int], report: runs.Report) -> s
         return f"it ended with status {status}, and a line says {'lost' if report.lost else 'nothing of lost'}"
     if setting.system is None or not report.log:
         return ""
-    wanted = coverage.status_by(setting.system, report.log)
+    try:
+        wanted = coverage.status_by(setting.system, report.log)
+    except (KeyError, IndexError, ValueError):
+        return "its log has a line that cannot stand there"
     if wanted == status:
         return ""
     return f"it ended with status {status}, and by its log " + (
