@@ -60,9 +60,7 @@ pub fn take_entry(
     if passes_by(number, entry) {
         return Ok(());
     }
-    take_heard(
-        alloc, number, places, records, family, owed, here, entry,
-    )
+    take_heard(alloc, number, places, records, family, owed, here, entry)
 }
 
 // Whether an entry changes none of these parts: a letter that goes elsewhere, and what page servers alone take in. Takes no memory.

@@ -294,11 +294,7 @@ impl Residents {
         ensures owed { result ≡ owed_at self.now.duty self.now.here (pid_of pid) }
     {
         let to = self.duty.backup_owed(pid)?;
-        if self.runs(Pid(pid)) {
-            Some(to)
-        } else {
-            None
-        }
+        if self.runs(Pid(pid)) { Some(to) } else { None }
     }
 
     // Whether a process is here and runs. Takes no memory.
