@@ -17,7 +17,8 @@ use Rattle.bus_msg.specs.declared.entry.Entry.{Entry}
 use Rattle.bus_msg.specs.PlacedAfter.{what}
 use Rattle.cert_sched.specs.Parts.{last_of}
 use Rattle.cert_sched.specs.Told.{Told, cluster_lost, told}
-use Rattle.cert_sched.specs.Legal.{MayStand}
+use Rattle.cert_sched.specs.Legal.{MayFollow}
+use Rattle.cert_sched.proofs.MayLaws.{legal_may_stand}
 use Rattle.entry_lines.specs.Told.{Fits, IsSmall, WhatFits, told_of, told_what}
 use Rattle.report_text.specs.declared.run.Ended.{Ended as RunEnd}
 use Rattle.report_text.specs.declared.run.Ended.TheVariants.{Finished, Lost}
@@ -58,7 +59,7 @@ ended_fits system log (Lost k at) all ends = by_last (last_of (told system log))
         let fits = last_fits (told system log) t all is in
         (lost_small (what t.entry) k fits.2 ends.0, subst IsSmall ends.2 fits.0)
 
-module _ (system : System) (section : List ℕ) (valid : is_system system ≡ true) (short : length section < 2 ^ 64) (is : ExplainedBy MayStand system section) where
+module _ (system : System) (section : List ℕ) (valid : is_system system ≡ true) (short : length section < 2 ^ 64) (is : ExplainedBy MayFollow system section) where
   within : (n : ℕ) → n ≤ length (report_of is.kernel is.run ++ log_text_of (is.run).log) → IsSmall n
   within n less =
       let same : length section ≡ length (report_of is.kernel is.run ++ log_text_of (is.run).log) =
@@ -72,15 +73,15 @@ module _ (system : System) (section : List ℕ) (valid : is_system system ≡ tr
   entries = within (length (is.run).log) (entries_fit is.kernel is.run)
 
   small : AllSmallIn system is.log
-  small = all_small system is.log valid is.legal (subst (λ (log : List Entry). length log < 2 ^ 64) is.is entries) fits.0
+  small = all_small system is.log valid (legal_may_stand system is.log is.legal) (subst (λ (log : List Entry). length log < 2 ^ 64) is.is entries) fits.0
 
   pub kernel_small : KernelFits is.kernel
   kernel_small = record {
     ttys = λ t bytes there. within (length bytes) (tty_fits is.kernel is.run t bytes (ttys_fit system is.log is.kernel valid is.plain t bytes there) there);
     processes = λ p s there.
         let after = ap (option_and_then (λ k. process_at k p)) is.plain ∙ there in
-        let f = states_fit system is.log p s valid is.legal after in
-        (word_small p.0 (there_fits system is.log p s valid is.legal after), status_fits (s.small).status f.status);
+        let f = states_fit system is.log p s valid (legal_may_stand system is.log is.legal) after in
+        (word_small p.0 (there_fits system is.log p s valid (legal_may_stand system is.log is.legal) after), status_fits (s.small).status f.status);
   }
 
   pub run_small : RunFits is.run

@@ -27,7 +27,7 @@ use Rattle.cert_sched.specs.Steps.{silent_upto, emission_at, before_fork_at}
 use Rattle.cert_sched.specs.Rules.{is_over}
 use Rattle.cert_sched.specs.Kinds.{IsSent, KindHolds}
 use Rattle.cert_sched.specs.Scripted.{is_done}
-use Rattle.cert_sched.specs.Legal.{IsLegalBy, MayStand}
+use Rattle.cert_sched.specs.Legal.{IsLegalBy, MayFollow}
 use Rattle.cert_sched.proofs.Systems.{cluster, hi_system}
 use Rattle.report_text.specs.declared.run.Run.{Run}
 use Rattle.report_text.specs.declared.run.Ended.{Ended}
@@ -62,32 +62,33 @@ hi_1 = entry 1 (Cluster (cluster 0)) 3 None (Exit pid 10 (Exited 0))
 abbrev hi_2 : Entry
 hi_2 = entry 2 Bus 3 None (Done [])
 
-follows_0 : MayStand hi_system [] hi_0
+follows_0 : MayFollow hi_system [] hi_0
 unfolding boot one_step steps silently plain_after schedule_of placement told is_over silent_upto emission_at before_fork_at backup_record account_after
-follows_0 = record { stands = record { placed = (refl, refl, refl); by_right = refl; applies = refl; kind = refl }; limits = refl; new_page = refl; pages = refl }
+follows_0 = record { stands = record { placed = (refl, refl, refl); by_right = refl; applies = refl; kind = refl }; limits = refl; backup = refl; new_page = refl; pages = refl }
 
-follows_1 : MayStand hi_system (hi_0 ∷ []) hi_1
+follows_1 : MayFollow hi_system (hi_0 ∷ []) hi_1
 unfolding boot one_step steps silently plain_after schedule_of placement told is_over silent_upto emission_at before_fork_at backup_record account_after
-follows_1 = record { stands = record { placed = (refl, refl, refl); by_right = refl; applies = refl; kind = (refl, refl) }; limits = refl; new_page = refl; pages = refl }
+follows_1 = record { stands = record { placed = (refl, refl, refl); by_right = refl; applies = refl; kind = (refl, refl) }; limits = refl; backup = refl; new_page = refl; pages = refl }
 
-follows_2 : MayStand hi_system (hi_0 ∷ hi_1 ∷ []) hi_2
+follows_2 : MayFollow hi_system (hi_0 ∷ hi_1 ∷ []) hi_2
 unfolding boot one_step steps silently plain_after schedule_of placement told is_over silent_upto emission_at before_fork_at backup_record account_after
 follows_2 = record {
   stands = record { placed = (refl, refl, refl); by_right = refl; applies = refl; kind = record { named = refl; silent = refl; still = refl } };
   limits = refl;
+  backup = refl;
   new_page = refl;
   pages = refl;
 }
 
-none_legal : IsLegalBy MayStand hi_system []
+none_legal : IsLegalBy MayFollow hi_system []
 unfolding IsLegalBy
 none_legal = tt
 
-two_legal : IsLegalBy MayStand hi_system (hi_0 ∷ hi_1 ∷ [])
+two_legal : IsLegalBy MayFollow hi_system (hi_0 ∷ hi_1 ∷ [])
 unfolding IsLegalBy
 two_legal = (follows_0, (follows_1, tt))
 
-hi_legal : IsLegalBy MayStand hi_system (hi_0 ∷ hi_1 ∷ hi_2 ∷ [])
+hi_legal : IsLegalBy MayFollow hi_system (hi_0 ∷ hi_1 ∷ hi_2 ∷ [])
 unfolding IsLegalBy
 hi_legal = (follows_0, (follows_1, (follows_2, tt)))
 
@@ -100,7 +101,7 @@ hi_section =
 abbrev hi_run : Run
 hi_run = record { log = hi_0 ∷ hi_1 ∷ hi_2 ∷ []; items = Runs pid 6 ∷ Runs pid 4 ∷ []; ended = Finished; steps = []; disk_calls = []; withheld = 0 }
 
-hi_explained : ExplainedBy MayStand hi_system hi_section
+hi_explained : ExplainedBy MayFollow hi_system hi_section
 unfolding digits hex_on_literals boot one_step steps silently plain_after schedule_of placement told is_over silent_upto emission_at before_fork_at backup_record account_after
 hi_explained = record {
   log = hi_0 ∷ hi_1 ∷ hi_2 ∷ [];
@@ -122,10 +123,10 @@ not_none : (front rest : List ℕ) (c : ℕ) → [] ≡ front ++ c ∷ rest → 
 not_none [] rest c is = cc
 not_none (b ∷ front) rest c is = cc
 
-none_unexplained : ExplainedBy MayStand hi_system [] → ⊥
+none_unexplained : ExplainedBy MayFollow hi_system [] → ⊥
 none_unexplained is = not_none (report_of is.kernel is.run) _ _ is.section_is
 
-none_found : AuditCause MayStand hi_system [] Form
+none_found : AuditCause MayFollow hi_system [] Form
 none_found = refl
 
 -- ---- the letter comes a step too early: its entry may not stand
@@ -148,7 +149,7 @@ none_sent : option_map (λ (r : Emission × _). r.0) (emission_at hi_system [] p
 unfolding boot one_step steps silently plain_after emission_at
 none_sent = refl
 
-early_refused : (log : List Entry) (e : Entry) → map told_of log ≡ [] → told_of e ≡ early_line → MayStand hi_system log e → ⊥
+early_refused : (log : List Entry) (e : Entry) → map told_of log ≡ [] → told_of e ≡ early_line → MayFollow hi_system log e → ⊥
 early_refused (f ∷ log) e none said may = cc
 early_refused [] e none said may = by_what (what e) refl (ap (λ (t : Told). t.what) said)
   where
@@ -165,7 +166,7 @@ early_refused [] e none said may = by_what (what e) refl (ap (λ (t : Told). t.w
     by_what (Rebackup to false recs) is line = cc
     by_what _ is line = cc
 
-early_found : AuditCause MayStand hi_system early_section (Refused 0)
+early_found : AuditCause MayFollow hi_system early_section (Refused 0)
 early_found = (
   early_lines,
   early_form,
@@ -209,5 +210,5 @@ goes_on (e ∷ f ∷ []) lines ended is = by_end ended is
     by_end Finished is = true≢false (sym is ∙ (exit_line (what f) line).0)
     by_end (Lost k at) is = let lost : None ≡ Some k = sym (exit_line (what f) line).1 ∙ is.0 in cc
 
-open_found : AuditCause MayStand hi_system open_section Unended
+open_found : AuditCause MayFollow hi_system open_section Unended
 open_found = (open_lines, open_form, record { log = hi_0 ∷ hi_1 ∷ []; all = record { legal = two_legal; said = refl }; none = λ log has ended. goes_on log has.said ended.0 ended.1 })
