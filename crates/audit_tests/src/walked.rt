@@ -254,3 +254,93 @@ fn a_changed_line_is_refused(rt: HostRuntime) -> Result<(), Fail> {
     assert_rows(rt.alloc(), RENEWED, &RENEWED_LOG, &RENEWED_ROWS)?;
     assert_rows(rt.alloc(), SIGNALS, &SIGNALS_LOG, &SIGNALS_ROWS)
 }
+
+// ---- new backups
+
+// Two fullbacks, each of which reads a letter that never comes.
+const RESTING: &str =
+    "clusters 3\npager 0 1\nsyncreads 32\nsyncsteps 4096\nimage wait 1\nwords 00300893 00100513 000105b7 00100613 00000073\nend\nroot 0 1 full wait 1000 0 0\nroot 1 2 full wait 1000 0 0\nchan 1 2\n";
+
+// The lines before, and one behind them.
+type Behind = (&'static str, &'static [&'static str], &'static str);
+
+// A fullback that a loss moved sends or ends before its new backup, and the run ends before a fullback has its own.
+static TOO_SOON: [Behind; 3] = [
+    (
+        RENEWED,
+        &[
+            "0 0 mail 16 at 7 out 0 tty 0 610a",
+            "1 bus crash 0 place",
+            "2 1 fetch 16 0",
+            "3 2 pageis 16 0",
+        ],
+        "4 1 mail 16 at 20 out 0 tty 0 620a",
+    ),
+    (
+        RENEWED,
+        &[
+            "0 0 mail 16 at 7 out 0 tty 0 610a",
+            "1 0 mail 16 at 20 out 0 tty 0 620a",
+            "2 0 mail 16 at 33 out 0 tty 0 630a",
+            "3 bus crash 0 place",
+            "4 1 fetch 16 0",
+            "5 2 pageis 16 0",
+        ],
+        "6 1 exit 16 at 44 exit 0",
+    ),
+    (RESTING, &["0 bus crash 0 place"], "1 bus done"),
+];
+
+// The same lines behind the new backups.
+static IN_TIME: [Behind; 3] = [
+    (
+        RENEWED,
+        &[
+            "0 0 mail 16 at 7 out 0 tty 0 610a",
+            "1 bus crash 0 place",
+            "2 1 rebackup 16 to 2 standing",
+            "3 1 fetch 16 0",
+            "4 2 pageis 16 0",
+        ],
+        "5 1 mail 16 at 20 out 0 tty 0 620a",
+    ),
+    (
+        RENEWED,
+        &[
+            "0 0 mail 16 at 7 out 0 tty 0 610a",
+            "1 0 mail 16 at 20 out 0 tty 0 620a",
+            "2 0 mail 16 at 33 out 0 tty 0 630a",
+            "3 bus crash 0 place",
+            "4 1 fetch 16 0",
+            "5 2 pageis 16 0",
+            "6 1 rebackup 16 to 2 standing",
+        ],
+        "7 1 exit 16 at 44 exit 0",
+    ),
+    (
+        RESTING,
+        &["0 bus crash 0 place", "1 1 rebackup 16 to 2 standing"],
+        "2 bus done",
+    ),
+];
+
+fn taken_behind(alloc: Global, row: &Behind) -> Result<bool, Fail> {
+    let system = read_system(alloc, row.0.as_bytes())?;
+    let mut state = started(alloc, &system)?;
+    take_all(alloc, &mut state, row.1)?;
+    take(alloc, &mut state, row.2)
+}
+
+fn assert_behind(alloc: Global, rows: &[Behind], wanted: bool) -> Result<(), Fail> {
+    for row in rows {
+        let taken = taken_behind(alloc, row)?;
+        same("a line", &(row.2, taken), &(row.2, wanted))?;
+    }
+    Ok(())
+}
+
+#[test]
+fn who_is_owed_a_backup_waits_for_it(rt: HostRuntime) -> Result<(), Fail> {
+    assert_behind(rt.alloc(), &TOO_SOON, false)?;
+    assert_behind(rt.alloc(), &IN_TIME, true)
+}

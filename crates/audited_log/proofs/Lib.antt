@@ -12,3 +12,5 @@ pub mod Taking
 pub mod Ending
 pub mod Walking
 pub mod Concerned
+pub mod Owed
+pub mod Awaiting

@@ -5,7 +5,7 @@ use Rattle.sys_text.specs.declared.system.System.{System}
 use Rattle.sys_text.specs.Valid.{is_system}
 use Rattle.bus_msg.specs.declared.entry.Entry.{Entry}
 use Rattle.bus_msg.specs.PlacedAfter.{what}
-use Rattle.cert_sched.specs.Legal.{IsLegalBy, MayStand}
+use Rattle.cert_sched.specs.Legal.{IsLegalBy, MayFollow, MayStand}
 use Rattle.entry_lines.specs.declared.told.Told.{Told}
 use Rattle.entry_lines.specs.declared.told.ToldBy.{ToldBy}
 use Rattle.entry_lines.specs.declared.told.ToldWhat.{ToldWhat}
@@ -21,6 +21,12 @@ use Rattle.audited_log.specs.Processes.{AreLed, BearsAs}
 use Rattle.audited_log.specs.State.{IsOfSomeLog, IsStateOf}
 
 -- the answer is right for each legal log of which this is kept
+abbrev pub FollowsTold : AuditedLog → Told → Option Entry → Type 0
+FollowsTold state told result = Decides MayFollow (λ system log. IsStateOf system log state) told result
+
+-- ---- by all rules but that of new backups
+
+-- the answer is right for each log of which this is kept
 abbrev pub AnswersTold : AuditedLog → Told → Option Entry → Type 0
 AnswersTold state told result = Decides MayStand (λ system log. IsStateOf system log state) told result
 

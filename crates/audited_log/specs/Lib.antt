@@ -5,3 +5,4 @@ pub mod State
 pub mod Named
 pub mod One
 pub mod Answers
+pub mod Backups

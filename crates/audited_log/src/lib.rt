@@ -3,6 +3,7 @@
 #![tactic(auto)]
 
 mod answer;
+mod backups;
 mod births;
 pub mod common;
 mod cuts;

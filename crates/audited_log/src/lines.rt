@@ -192,8 +192,8 @@ fn first(numbers: &[u64]) -> Option<u64>
     numbers.first().copied()
 }
 
-// The pid with a number, if it has so few bits.
-fn pid_no(number: u64) -> Option<Pid>
+/// The pid with a number, if it has so few bits.
+pub(crate) fn pid_no(number: u64) -> Option<Pid>
     ensures { IsPidOf number result }
 {
     if number <= u64::from(u32::MAX) {

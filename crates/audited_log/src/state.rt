@@ -3,9 +3,10 @@ ghost use Rattle.std.specs.Prelude.{◌≡◌, [], true, IfOk};
 ghost use Rattle.std.specs.Option.{IfSome};
 ghost use Rattle.sys_text.specs.Valid.{is_system};
 ghost use Rattle.audited_log.specs.State.{IsOfSomeLog, IsStateOf, KeepsState};
-ghost use Rattle.audited_log.specs.Answers.{AnswersTold, CanTake, IsReady, Leads, TakesAnswer, entry_of};
+ghost use Rattle.audited_log.specs.Answers.{AnswersTold, CanTake, FollowsTold, IsReady, Leads, TakesAnswer, entry_of};
 
 use crate::answer::Answer;
+use crate::backups::keeps_backups;
 use crate::common::Common;
 use crate::lines::answer_to;
 use crate::processes::{self, Processes};
@@ -40,7 +41,7 @@ impl AuditedLog {
     /// nothing is said of what is kept, as after want of memory. A log with as many entries as there are places has no memory for one more.
     pub fn next(&mut self, alloc: Global, told: &Told) -> Result<Option<Entry>, NoMemory>
         requires { IsOfSomeLog self.old }
-        ensures decides { IfOk result (AnswersTold self.old told.now) }
+        ensures decides { IfOk result (FollowsTold self.old told.now) }
         ensures keeps { IfOk result (λ answer. IfSome answer (KeepsState self.old self.new)) }
         ensures some { IfOk result (λ answer. IfSome answer (λ _. IsOfSomeLog self.new)) }
     {
@@ -49,6 +50,9 @@ impl AuditedLog {
         }
         if told.place == u64::MAX {
             return Err(NoMemory);
+        }
+        if !keeps_backups(told, self) {
+            return Ok(None);
         }
         match answer_to(alloc, told, self)? {
             Some(answer) => Ok(Some(self.take(alloc, answer)?)),

@@ -230,7 +230,7 @@ fn handles_shared(
     requires within { upto ≤ length entries.now.items }
     ensures { IfOk result (λ news. map arc_value news.items ≡ drop from (take upto (map arc_value entries.now.items))) }
 {
-    let mut news = Vec::new(*entries.allocator());
+    let mut news = Vec::with_capacity(*entries.allocator(), (upto - from) as usize)?;
     for place in from..upto {
         let entry = Arc::try_clone(&entries[place as usize])?;
         news.push(entry)?;
@@ -251,7 +251,7 @@ pub fn into_list(entries: Entries) -> Result<Vec<Entry>, NoMemory>
 fn owned(entries: Vec<Arc<Entry>>) -> Result<Vec<Entry>, NoMemory>
     ensures { IfOk result (λ all. all.items ≡ map arc_value entries.items) }
 {
-    let mut all = Vec::new(*entries.allocator());
+    let mut all = Vec::with_capacity(*entries.allocator(), entries.len())?;
     for entry in entries {
         all.push(unshared(entry)?)?;
     }

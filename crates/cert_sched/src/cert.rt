@@ -1,5 +1,5 @@
 //! The schedule of a log, kept entry by entry.
-ghost use Rattle.std.specs.Prelude.{◌≡◌, ◌∷◌, ◌++◌, [], OnOk, OnErr, take, length, option_map, Some};
+ghost use Rattle.std.specs.Prelude.{◌≡◌, ◌-◌, ◌∷◌, ◌++◌, [], OnOk, OnErr, take, length, max, option_map, Some};
 ghost use Rattle.cert_sched.specs.Schedule.{run_of, take_of, steps_in};
 ghost use Rattle.bus_msg.specs.PlacedAfter.{what};
 ghost use Rattle.cert_sched.specs.Steps.{first_record};
@@ -99,21 +99,9 @@ fn try_entry(
     ensures items_stay { OnErr result (take (length items.old.items) items.new.items ≡ items.old.items) }
     ensures done_stay { OnErr result (done.new.entries ≡ done.old.entries) }
 {
-    push_items(items, done, what)?;
-    match count_of(what) {
-        Some((pid, at)) => raise(done, pid, at),
-        None => Ok(()),
-    }
-}
-
-// Puts the items of an entry at the end. After want of memory some of them may be there.
-fn push_items(items: &mut Vec<Item>, done: &BTreeMap<u32, u64>, what: &What) -> Result<(), NoMemory>
-    ensures ok { OnOk result (items.new.items ≡ items.old.items ++ added (steps_of done.now.entries) what.now) }
-    ensures err { OnErr result (take (length items.old.items) items.new.items ≡ items.old.items) }
-{
     match what {
-        What::Mail { at, letter } => push_run(items, done, letter.from, *at),
-        What::Exit { pid, at, .. } => push_run(items, done, *pid, *at),
+        What::Mail { at, letter } => run_up(items, done, letter.from, *at),
+        What::Exit { pid, at, .. } => run_up(items, done, *pid, *at),
         What::Birth {
             parent,
             at,
@@ -121,7 +109,8 @@ fn push_items(items: &mut Vec<Item>, done: &BTreeMap<u32, u64>, what: &What) -> 
             ..
         } => {
             push_run(items, done, *parent, at.saturating_sub(1))?;
-            push(items, Item::Fork(*parent, *child))
+            push(items, Item::Fork(*parent, *child))?;
+            raise(done, *parent, *at)
         }
         What::Sync {
             pid,
@@ -130,11 +119,12 @@ fn push_items(items: &mut Vec<Item>, done: &BTreeMap<u32, u64>, what: &What) -> 
             ..
         } => {
             push_run(items, done, *pid, steps_made(small.get()))?;
-            push_take(items, *pid, *took)
+            push_take(items, *pid, *took)?;
+            raise(done, *pid, steps_made(small.get()))
         }
         What::Rebackup { fresh, recs, .. } => {
             if *fresh {
-                push_first(items, done, recs.get().as_slice())
+                run_up_first(items, done, recs.get().as_slice())
             } else {
                 Ok(())
             }
@@ -146,32 +136,6 @@ fn push_items(items: &mut Vec<Item>, done: &BTreeMap<u32, u64>, what: &What) -> 
         | What::Crash { .. }
         | What::Return { .. }
         | What::Stop => Ok(()),
-    }
-}
-
-// The process whose count an entry raises, and to what.
-fn count_of(what: &What) -> Option<(Pid, u64)>
-    ensures { result ≡ count_in what.now }
-{
-    match what {
-        What::Mail { at, letter } => Some((letter.from, *at)),
-        What::Birth { parent, at, .. } => Some((*parent, *at)),
-        What::Exit { pid, at, .. } => Some((*pid, *at)),
-        What::Sync { pid, small, .. } => Some((*pid, steps_made(small.get()))),
-        What::Rebackup { fresh, recs, .. } => {
-            if *fresh {
-                count_in_first(recs.get().as_slice())
-            } else {
-                None
-            }
-        }
-        What::Page { .. }
-        | What::Fetch { .. }
-        | What::PageIs { .. }
-        | What::Crash { .. }
-        | What::Return { .. }
-        | What::Done { .. }
-        | What::Stop => None,
     }
 }
 
@@ -189,15 +153,6 @@ fn steps_recorded(backup: &BackRec) -> u64
     match &backup.state {
         Some(small) => steps_made(small),
         None => 0,
-    }
-}
-
-fn count_in_first(recs: &[BackRec]) -> Option<(Pid, u64)>
-    ensures { result ≡ option_map (λ r. (r.pid, steps_in r.state)) (first_record recs.now) }
-{
-    match recs.first() {
-        Some(backup) => Some((backup.pid, steps_recorded(backup))),
-        None => None,
     }
 }
 
@@ -260,17 +215,69 @@ fn push_take(items: &mut Vec<Item>, pid: Pid, took: Option<u8>) -> Result<(), No
     }
 }
 
-// Puts the run of the first record at the end.
-fn push_first(
+// Puts the run of a process up to a step count at the end, and raises its count to that, with one search for a process that has a count. After
+// want of memory the count is as it was, and the run may be there.
+fn run_up(
     items: &mut Vec<Item>,
-    done: &BTreeMap<u32, u64>,
+    done: &mut BTreeMap<u32, u64>,
+    pid: Pid,
+    at: u64,
+) -> Result<(), NoMemory>
+    ensures items { OnOk result (items.new.items ≡ items.old.items ++ run_to (steps_of done.old.entries) pid at) }
+    ensures done { OnOk result (done.new.entries ≡ raised (Some (pid, at)) done.old.entries) }
+    ensures items_stay { OnErr result (take (length items.old.items) items.new.items ≡ items.old.items) }
+    ensures done_stay { OnErr result (done.new.entries ≡ done.old.entries) }
+{
+    match done.get_mut(&pid.0) {
+        Some(steps) => run_from(items, steps, pid, at),
+        None => run_first(items, done, pid, at),
+    }
+}
+
+// The same for a process with a count.
+fn run_from(items: &mut Vec<Item>, steps: &mut u64, pid: Pid, at: u64) -> Result<(), NoMemory>
+    ensures items { OnOk result (items.new.items ≡ items.old.items ++ run_of pid (at - steps.old)) }
+    ensures steps { OnOk result (steps.new ≡ max at steps.old) }
+    ensures items_stay { OnErr result (items.new.items ≡ items.old.items) }
+    ensures steps_stay { OnErr result (steps.new ≡ steps.old) }
+{
+    if at <= *steps {
+        return Ok(());
+    }
+    push(items, Item::Run(pid, at - *steps))?;
+    *steps = at;
+    Ok(())
+}
+
+// The same for a process that has no count yet.
+fn run_first(
+    items: &mut Vec<Item>,
+    done: &mut BTreeMap<u32, u64>,
+    pid: Pid,
+    at: u64,
+) -> Result<(), NoMemory>
+    ensures items { OnOk result (items.new.items ≡ items.old.items ++ run_to (steps_of done.old.entries) pid at) }
+    ensures done { OnOk result (done.new.entries ≡ raised (Some (pid, at)) done.old.entries) }
+    ensures items_stay { OnErr result (take (length items.old.items) items.new.items ≡ items.old.items) }
+    ensures done_stay { OnErr result (done.new.entries ≡ done.old.entries) }
+{
+    push_run(items, done, pid, at)?;
+    raise(done, pid, at)
+}
+
+// The same for the first record.
+fn run_up_first(
+    items: &mut Vec<Item>,
+    done: &mut BTreeMap<u32, u64>,
     recs: &[BackRec],
 ) -> Result<(), NoMemory>
-    ensures ok { OnOk result (items.new.items ≡ items.old.items ++ run_to_record (steps_of done.now.entries) (first_record recs.now)) }
-    ensures err { OnErr result (items.new.items ≡ items.old.items) }
+    ensures items { OnOk result (items.new.items ≡ items.old.items ++ run_to_record (steps_of done.old.entries) (first_record recs.now)) }
+    ensures done { OnOk result (done.new.entries ≡ raised (option_map (λ r. (r.pid, steps_in r.state)) (first_record recs.now)) done.old.entries) }
+    ensures items_stay { OnErr result (take (length items.old.items) items.new.items ≡ items.old.items) }
+    ensures done_stay { OnErr result (done.new.entries ≡ done.old.entries) }
 {
     match recs.first() {
-        Some(backup) => push_run(items, done, backup.pid, steps_recorded(backup)),
+        Some(backup) => run_up(items, done, backup.pid, steps_recorded(backup)),
         None => Ok(()),
     }
 }

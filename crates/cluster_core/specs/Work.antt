@@ -119,6 +119,10 @@ WorksUnowed k places family old server Moved new served queue = NoPages k places
 WorksUnowed k places family old server IsWaiting new served queue = NoPages k places old server served × RunsNext k places family old IsWaiting new queue
 WorksUnowed k places family old server Rests new served queue = NoPages k places old server served × RunsNext k places family old Rests new queue
 
+-- so it is whatever the cluster keeps as a page server, where it owes no answer
+abbrev pub WorksHere : ClusterNo → Places → List (Pid × Pid) → ResidentsView → Worked → ResidentsView → List Post → Type 0
+WorksHere k places family old worked new queue = (server : Option PagerState) → owes_answer places k server ≡ false → WorksUnowed k places family old server worked new server queue
+
 -- a new backup that a process waits for comes first
 abbrev pub WorksOn : ClusterNo → Places → List (Pid × Pid) → List ℕ → ResidentsView → Option PagerState → Worked → ResidentsView → Option PagerState → List Post → Type 0
 WorksOn k places family owed old server worked new served queue =

@@ -1,5 +1,5 @@
 //! The processes here that wait for their new backup, as an entry changes them.
-ghost use Rattle.std.specs.Prelude.{◌≡◌, ◌∷◌, [], IfOk, OnOk};
+ghost use Rattle.std.specs.Prelude.{◌≡◌, ◌∷◌, [], IfOk, OnOk, true};
 ghost use Rattle.bus_msg.specs.PlacedAfter.{what};
 ghost use Rattle.cert_sched.specs.Rules.{is_full};
 ghost use Rattle.standing_backups.specs.Standing.{CanBeNext, IsNextStanding};
@@ -40,6 +40,13 @@ impl Owed {
         Owed {
             pids: BTreeSet::new(alloc),
         }
+    }
+
+    /// Whether none waits. Takes no memory.
+    pub fn has_none(&self) -> bool
+        ensures { result ≡ true → self.now ≡ [] }
+    {
+        self.pids.is_empty()
     }
 
     /// At the loss of another cluster each fullback waits that it moves to the cluster with a number. The placement is

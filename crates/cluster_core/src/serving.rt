@@ -106,6 +106,7 @@ fn post_of(alloc: Global, number: ClusterNo, answer: Answer) -> Result<Post, NoM
 
 /// Takes in an entry; the placement is the one before it. A page is one call of the disk, and no other entry is any: where
 /// that call fails the error has its number. After an error nothing is said but that the value can be dropped.
+#[inline(always)]
 pub fn serve<D: PageDisk>(
     server: &mut Option<Pager<D>>,
     before: &Placement,

@@ -18,7 +18,7 @@ pub fn standing_posts_follow()
     // There can be one: where some wait one has a state, it is to get a backup, and its family waits beside it;
     ensures can { (c : ClusterView) (log : List Entry) → is_system c.system ≡ true → IsLegalBy Stands c.system log → Follows c.system log c
         → AllOwn c.cursor c.here → CanBeNext c.places c.family c.here c.owed }
-    // it may follow by the rule that is in force,
+    // it may follow by all rules but that of new backups,
     ensures may { (c : ClusterView) (log : List Entry) → is_system c.system ≡ true → IsOpen MayStand c.system log → Follows c.system log c
         → (post : Post) → IsNextStanding c.number c.places c.family c.here c.owed (Some post)
         → SentMayStand c.system log (entry_of c.system log post) }

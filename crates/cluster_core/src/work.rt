@@ -4,7 +4,7 @@ ghost use Rattle.std.specs.VecDeque.{deque_len, deque_capacity};
 ghost use Rattle.residents.specs.ForkingAgain.{CanForkAgain};
 ghost use Rattle.residents.specs.Quantum.{post_told};
 ghost use Rattle.cluster_core.specs.Serving.{CanAnswer, HurtsServer};
-ghost use Rattle.cluster_core.specs.Work.{RunsNext, WorksOn, WorksUnowed, birth_told, fetch_post, next_pid};
+ghost use Rattle.cluster_core.specs.Work.{RunsNext, WorksHere, WorksOn, WorksUnowed, birth_told, fetch_post, next_pid};
 ghost use Rattle.standing_backups.specs.Standing.{CanBeNext};
 ghost use Rattle.residents.specs.Asking.{any_waits};
 
@@ -52,14 +52,18 @@ pub fn work_on<D: PageDisk>(
     ensures hurts { IfErr result (HurtsServer server.old) }
 {
     make_room(queue)?;
-    if let Some(post) = owed.next_post(alloc, number, places, family, here)? {
-        queue.push_back_reserved(post);
-        return Ok(Worked::Queued);
+    // Where none waits no room for its post is cleared: so it is at nearly every turn.
+    if !owed.has_none() {
+        if let Some(post) = owed.next_post(alloc, number, places, family, here)? {
+            queue.push_back_reserved(post);
+            return Ok(Worked::Queued);
+        }
     }
     work_unowed(alloc, number, places, family, here, server, queue)
 }
 
 // The same, where no process waits for its new backup.
+#[inline(always)]
 fn work_unowed<D: PageDisk>(
     alloc: Global,
     number: ClusterNo,
@@ -80,15 +84,42 @@ fn work_unowed<D: PageDisk>(
     ensures queue { OnErr result (queue.new.items ≡ []) }
     ensures hurts { IfErr result (HurtsServer server.old) }
 {
-    if let Some(post) = answer_next(alloc, number, places, server)? {
-        queue.push_back_reserved(post);
-        return Ok(Worked::Queued);
+    if server.is_some() {
+        if let Some(post) = answer_next(alloc, number, places, server)? {
+            queue.push_back_reserved(post);
+            return Ok(Worked::Queued);
+        }
     }
+    Ok(work_here(alloc, number, places, family, here, queue)?)
+}
+
+// The same, where no answer is owed: a fetch of a page that a process here lacks, or the turn of one of them.
+#[inline(always)]
+fn work_here(
+    alloc: Global,
+    number: ClusterNo,
+    places: &Placement,
+    family: &Family,
+    here: &mut Residents,
+    queue: &mut VecDeque<Post>,
+) -> Result<Worked, NoMemory>
+    requires queue { queue.old.items ≡ [] }
+    requires room { deque_len queue.old < deque_capacity queue.old }
+    requires pids { next_pid number places.now < 2 ^ 32 }
+    requires forks { CanForkAgain here.old.here }
+    ensures ok { IfOk result (λ worked. WorksHere number places.now family.now here.old worked here.new queue.new.items) }
+    ensures here { OnErr result (here.new.here ≡ here.old.here) }
+    ensures duty { here.new.duty ≡ here.old.duty }
+    ensures queue { OnErr result (queue.new.items ≡ []) }
+{
     if let Some((pid, index)) = here.ask() {
         queue.push_back_reserved(fetch_of(number, pid, index));
         return Ok(Worked::Queued);
     }
-    Ok(run_next(alloc, number, places, family, here, queue)?)
+    if here.none_is_ready() {
+        return stuck(alloc, here);
+    }
+    run_next(alloc, number, places, family, here, queue)
 }
 
 // Room for one post more.
@@ -137,6 +168,7 @@ fn run_next(
 }
 
 // Nothing can move: a process waits for its pages, or all rest, and what they tell is kept.
+#[inline(always)]
 fn stuck(alloc: Global, here: &mut Residents) -> Result<Worked, NoMemory>
     ensures worked { IfOk result (λ worked. worked ≡ (if any_waits here.old.here then Worked.Waits else Worked.Rests)) }
     ensures same { here.new ≡ here.old }

@@ -1,7 +1,5 @@
 -- By words for losses alone each cluster has one life, from the boot on.
-use Rattle.std.proofs.Common.{◌≡◌, ℕ, zero, suc, refl, sym, ◌∙◌, ap, List, [], ◌∷◌, take, drop, slice_get, is_some, Bool, false, cond, ◌||◌, None}
-use Rattle.std.specs.Option.{option_map_or}
-use Rattle.std.proofs.lemmas.Bool.{or_parts}
+use Rattle.std.proofs.Common.{◌≡◌, ℕ, sym, ◌∙◌, ap, List, take, drop, is_some, Bool, false, ◌||◌, None}
 use Rattle.std.proofs.lemmas.List.{take-append-drop}
 use Rattle.std.proofs.lemmas.List.Folds.{list_any-append}
 use Rattle.t32_base.specs.declared.process.ClusterNo.{ClusterNo}
@@ -11,7 +9,6 @@ use Rattle.cert_sched.specs.Losses.{is_crash_of, was_lost_in}
 use Rattle.bus_order.specs.Script.{off_at}
 use Rattle.script_laws.specs.Off.{comes_back, has_returned_in}
 use Rattle.script_laws.proofs.OffLosses.{lost_off, not_off_not_lost}
-use Rattle.cluster_turns.specs.Lives.{begin_of_life}
 use Rattle.cluster_turns.proofs.Prefixes.{any_front}
 
 abbrev its_loss : ClusterNo → Entry → Bool
@@ -31,13 +28,3 @@ module _ (log : List Entry) (k : ClusterNo) (n : ℕ) (unreturned : has_returned
   -- and by the end it is off where it was
   pub off_behind : was_lost_in (drop n log) k ≡ is_some (off_at log k)
   off_behind = sym lost_behind ∙ lost_off log k unreturned
-
--- where nothing brings it back it is in its first life
-pub first_life : (log : List Entry) (k : ClusterNo) (n : ℕ) → has_returned_in log k ≡ false → begin_of_life log k n ≡ 0
-first_life log k zero unreturned = refl
-first_life log k (suc n) unreturned = ap (λ b. cond b (suc n) (begin_of_life log k n)) (none_there log n unreturned) ∙ first_life log k n unreturned
-  where
-    none_there : (log : List Entry) (n : ℕ) → has_returned_in log k ≡ false → option_map_or (λ (e : Entry). comes_back k (what e)) (slice_get log n) false ≡ false
-    none_there [] n none = refl
-    none_there (e ∷ log) zero none = (or_parts (comes_back k (what e)) (has_returned_in log k) none).0
-    none_there (e ∷ log) (suc n) none = none_there log n (or_parts (comes_back k (what e)) (has_returned_in log k) none).1

@@ -353,8 +353,7 @@ renewed_lighter (Runs process) = by_tests (has_moved process) (nat_lt (process.s
     by_tests moved true is = absurd (let less : (process.small).steps < (process.small).steps = ltb-true (process.small).steps (process.small).steps is in omega (arith, less))
     by_tests true false is = omega arith
     by_tests false false is = omega arith
-renewed_lighter (Rolls process counts births) = omega arith
-renewed_lighter (Waits waiting) = omega arith
+renewed_lighter _ = omega arith
 
 -- all that is left of those that are here
 abbrev weigh : List (Pid × Held) → ℕ

@@ -239,7 +239,7 @@ told_own a alone b after c m t own sound along seen answered adds v =
 -- ---- turns
 
 -- a cluster took in what was new, and nothing else changed
-taken_most : (b : BusView) (c caught : ClusterView) → TakesIn b c caught → IsAtMost (remaining_of b c) (remaining_of b caught)
+pub taken_most : (b : BusView) (c caught : ClusterView) → TakesIn b c caught → IsAtMost (remaining_of b c) (remaining_of b caught)
 taken_most b c caught takes = by_taken takes.some
   where
     by_taken : (c.cursor < caught.cursor) ⊎ (caught ≡ c) → IsAtMost (remaining_of b c) (remaining_of b caught)

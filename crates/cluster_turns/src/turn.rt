@@ -146,8 +146,9 @@ fn is_named<P: Port>(port: &P, cluster: &Member) -> bool
     cluster.steps() < u64::MAX && port.names_step(cluster)
 }
 
-// Looks for what is new, and takes it in. Answers whether the cluster was lost before a step, or by its disk.
-fn catch_up<P: Port>(port: &mut P, cluster: &mut Member) -> Result<bool, NoMemory>
+/// Looks for what is new, and takes it in. Answers whether the cluster was lost before a step, or by its disk: it has stopped then. After
+/// want of memory nothing is said of it.
+pub fn catch_up<P: Port>(port: &mut P, cluster: &mut Member) -> Result<bool, NoMemory>
     requires sits { P.sits cluster.old.number port.old }
     requires shown { IsShown (P.shows port.old) (P.from port.old) (P.bus port.old) cluster.old }
     ensures root { P.root port.new ≡ P.root port.old }

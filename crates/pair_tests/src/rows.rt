@@ -102,6 +102,21 @@ static ROWS: [Row; 5] = [
     },
 ];
 
+// A cluster that is lost and comes back within the look of its own letter begins anew in the same turn, and is lost there before it takes
+// in what stands behind its return.
+static AT_ONCE: Row = Row {
+    words: "crash:0@bus:0 return:0@bus:1 crash:3@bus:2 crash:0@step:2",
+    head: FOUR_CLUSTERS,
+    mode: "quarter",
+    status: 0,
+    parts: [
+        SAID,
+        "crash 0 at 0\nreturn 0 at 1\ncrash 3 at 2\ncrash 0 at 3\nbus 10 syncs 0 withheld 0\n",
+        ITEMS,
+        "log 10\n0 bus crash 0 place\n1 bus return 0\n2 bus crash 3 place\n3 bus crash 0 step 2\n4 1 fetch 16 0\n5 2 pageis 16 0\n6 1 mail 16 at 6 out 0 tty 0 610a\n7 1 mail 16 at 9 out 0 tty 0 620a\n8 1 exit 16 at 13 exit 0\n9 bus done\n",
+    ],
+};
+
 fn rows() -> &'static [Row; 5] {
     &ROWS
 }
@@ -142,4 +157,9 @@ fn new_backups_and_returns_by_their_logs(rt: HostRuntime) -> Result<(), Fail> {
         assert_run(&rt, row)?;
     }
     Ok(())
+}
+
+#[test]
+fn a_cluster_that_is_back_in_its_turn_goes_on_in_it(rt: HostRuntime) -> Result<(), Fail> {
+    assert_row(&rt, &AT_ONCE)
 }

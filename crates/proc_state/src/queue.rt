@@ -51,6 +51,7 @@ impl Queue {
     }
 
     /// Puts a letter last. After want of memory the queue is as it was, and the letter is dropped.
+    #[inline(always)]
     pub fn push(&mut self, arrived: Arrived) -> Result<(), NoMemory>
         ensures ok { OnOk result (self.new ≡ self.old ++ arrived ∷ []) }
         ensures err { OnErr result (self.new ≡ self.old) }

@@ -57,10 +57,8 @@ lacks_listed duty slots ready asking n key was (e ∷ es) found there kept some 
 
 not_moved : (m : ℕ) (between new : Held) → RunsTo m between new → is_some (page_lacked new) ≡ true → ⊥
 not_moved m (Runs p) (Runs q) runs some = false≢true some
-not_moved m (Runs p) (Rolls q left unborn) runs some = runs
-not_moved m (Runs p) (Waits w) runs some = runs
 not_moved m (Rolls p counts births) new runs some = false≢true (ap (λ (h : Held). is_some (page_lacked h)) (sym runs.1) ∙ some)
-not_moved m (Waits w) new runs some = runs
+not_moved m between new runs some = runs
 
 -- one that lacks a page after a quantum lacked it before
 pub ran_lacks : (limits : Limits) (by : ClusterNo) (childless : Bool) (made : ℕ) (was now : Held) (r : Result Quantum NoMemory) → RunsQuantum limits by 64 childless made was r now → is_some (page_lacked now) ≡ true → is_some (page_lacked was) ≡ true

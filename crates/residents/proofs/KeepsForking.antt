@@ -10,7 +10,7 @@ use Rattle.residents.specs.Bearing.{forked}
 use Rattle.residents.specs.Changed.{with_changed}
 use Rattle.residents.specs.ForkingAgain.{going_held, with_fork_again, AtForks, CanBeginAgain, CanForkAgainAt, CanForkAgainNow, ForksAgain, RollsPart, StandsAtForkAgain}
 use Rattle.residents.specs.Quantum.{RollsTo}
-use Rattle.residents.specs.Held.{Held, Runs, Rolls, Waits, held_of, is_waiting}
+use Rattle.residents.specs.Held.{Held, Runs, Rolls, held_of, is_waiting}
 use Rattle.residents.proofs.ForkedHere.{begins_after_fork, begins_beside}
 use Rattle.residents.proofs.Changing.{changed_there}
 use Rattle.residents.proofs.KeptForks.{at_fork_now, at_forks_after, at_forks_less, at_forks_on}
@@ -30,20 +30,15 @@ on_less old new _ less on = tt
 
 -- after steps
 rolled_on_forks : (old : List (Pid × Held)) (p : Pid) (n : ℕ) (was now : Held) → held_of old p ≡ Some was → RollsTo n was now → CanForkAgainAt old p → ForksOn old now
-rolled_on_forks old p n (Runs q) (Runs r) there rolls can = tt
-rolled_on_forks old p n (Runs q) (Rolls r left unborn) there rolls can = absurd rolls
-rolled_on_forks old p n (Runs q) (Waits w) there rolls can = absurd rolls
-rolled_on_forks old p n (Rolls q counts births) (Runs r) there rolls can = tt
 rolled_on_forks old p n (Rolls q counts births) (Rolls r left unborn) there rolls can = λ m. at_forks_on (CanBeginAgain old) n rolls.0 q counts births r left unborn rolls.2 (can q counts births there) m
-rolled_on_forks old p n (Rolls q counts births) (Waits w) there rolls can = absurd rolls
-rolled_on_forks old p n (Waits w) now there rolls can = absurd rolls
+rolled_on_forks old p n was (Runs r) there rolls can = tt
+rolled_on_forks old p n was now there rolls can = absurd rolls
 
 unwaiting : (n : ℕ) (was now : Held) → RollsTo n was now → is_waiting now ≡ false
-unwaiting n was (Runs q) rolls = refl
-unwaiting n was (Rolls q counts births) rolls = refl
-unwaiting n (Runs q) (Waits w) rolls = absurd rolls
-unwaiting n (Rolls q counts births) (Waits w) rolls = absurd rolls
-unwaiting n (Waits v) (Waits w) rolls = absurd rolls
+unwaiting n (Runs p) (Runs q) rolls = refl
+unwaiting n (Rolls p counts births) (Runs q) rolls = refl
+unwaiting n (Rolls p counts births) (Rolls q left unborn) rolls = refl
+unwaiting n was now rolls = absurd rolls
 
 -- after a fork
 forked_on : (old : List (Pid × Held)) (process : Process) (counts : Counts) (births : List Pid) → ((n : ℕ) → AtForks (CanBeginAgain old) n (state_of process) counts births) → ForksOn old (going_held process counts births)

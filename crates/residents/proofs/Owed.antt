@@ -1,5 +1,5 @@
 -- Who is to get a new backup: it can have a turn by that, and comes after its children.
-use Rattle.std.proofs.Common.{◌≡◌, ℕ, refl, sym, ◌∙◌, ap, arith, cond, Bool, ◌||◌, ◌&&◌, not, ltb, eqb-true, List, [], ◌∷◌, Option, Some, None, is_none, is_some, true, false, true≢false, Ok, Err, inl}
+use Rattle.std.proofs.Common.{◌≡◌, ℕ, refl, sym, ◌∙◌, ap, arith, cond, Bool, ◌||◌, ◌&&◌, not, ltb, eqb-true, List, [], ◌∷◌, Option, Some, None, is_none, is_some, true, false, Ok, Err, inl}
 use Rattle.std.specs.Prelude.{Result, IfOk, OnErr, find, option_map}
 use Rattle.std.specs.Option.{option_map_or}
 use Rattle.std.specs.List.{list_all, list_any}
@@ -25,7 +25,7 @@ use Rattle.residents.specs.Quantum.{SyncsNow}
 use Rattle.residents.specs.Residents.{GivenTurnIs, RunsAt, are_rising, is_stuck, is_stuck_at, pids_in, stays_at}
 use Rattle.residents.specs.Slots.{IsKept, IsSlot}
 use Rattle.residents.proofs.ChildFirst.{comes_acts, syncs_acts}
-use Rattle.residents.proofs.Slots.{all_more, at_key_is}
+use Rattle.residents.proofs.Slots.{all_more}
 
 -- ---- who can have a turn
 
@@ -133,19 +133,6 @@ owed_runs duty here p to is = by_runs (runs_at here p) is
 -- each of those that are to get one is ready, or still to come
 abbrev pub AreReady : List (ℕ × ClusterNo) → List (ℕ × ClusterNo) → List ℕ → Type 0
 AreReady owing left ready = (n : ℕ) → is_some (lookup (at_key n) owing) ≡ true → (is_some (lookup (at_key n) left) || list_any (at_key n) ready) ≡ true
-
-pub ready_begin : (owing : List (ℕ × ClusterNo)) (ready : List ℕ) → AreReady owing owing ready
-ready_begin owing ready n some = ap (λ b. b || list_any (at_key n) ready) some
-
--- the next of them is ready now, and the others as before
-pub ready_next : (owing left : List (ℕ × ClusterNo)) (e : ℕ × ClusterNo) (ready more : List ℕ) → AreReady owing (e ∷ left) ready → list_any (at_key e.0) more ≡ true → ((n : ℕ) → list_any (at_key n) ready ≡ true → list_any (at_key n) more ≡ true) → AreReady owing left more
-ready_next owing left e ready more before there others n some = by_key (at_key n e.0) refl (is_some (lookup (at_key n) left)) refl (list_any (at_key n) ready) refl (before n some)
-  where
-    by_key : (b : Bool) → at_key n e.0 ≡ b → (c : Bool) → is_some (lookup (at_key n) left) ≡ c → (d : Bool) → list_any (at_key n) ready ≡ d → (is_some (cond b (Some e.1) (lookup (at_key n) left)) || d) ≡ true → (c || list_any (at_key n) more) ≡ true
-    by_key b at true left_is d ready_is has = refl
-    by_key true at false left_is d ready_is has = ap (λ m. list_any (at_key m) more) (sym (eqb-true e.0 n (sym (at_key_is n e.0) ∙ at))) ∙ there
-    by_key false at false left_is true ready_is has = others n ready_is
-    by_key false at false left_is false ready_is has = absurd (true≢false (sym has ∙ ap (λ b. b || false) left_is))
 
 -- where all are ready what is kept is so by what is owed then
 pub kept_owing : (duty : DutyView) (owing : List (ℕ × ClusterNo)) (slots : Slab Held) (keys : List (ℕ × ℕ)) (ready asking : List ℕ) → AreReady owing [] ready → IsKept duty slots keys ready asking → IsKept (record duty { owing = owing }) slots keys ready asking

@@ -13,7 +13,7 @@ use Rattle.quanta.specs.declared.limits.Limits.{Limits}
 use Rattle.quanta.specs.Limited.{is_due}
 use Rattle.residents.specs.declared.quantum.Forking.{Forking}
 use Rattle.residents.specs.declared.quantum.Sending.{Sending}
-use Rattle.residents.specs.Held.{Held, Runs, Rolls, Waits, can_act}
+use Rattle.residents.specs.Held.{Held, Runs, Rolls, can_act}
 use Rattle.residents.specs.Quantum.{ComesToFork, Moves, Sends, Syncs}
 
 -- ---- silent steps
@@ -68,10 +68,8 @@ step_acts limits p has = or_left (has_step (next_step (state_of p))) (is_due lim
 -- who moved could act, where it made no step before
 pub moves_can : (limits : Limits) (most : ℕ) (old new : Held) → Moves limits most 0 old new → can_act limits old ≡ true
 moves_can limits most (Runs p) (Runs q) m = step_acts limits p (some_has m.silent (state_of p) (state_of q) (omega (arith, m.some)) (m.runs).silent)
-moves_can limits most (Runs p) (Rolls q left unborn) m = absurd m.runs
-moves_can limits most (Runs p) (Waits waiting) m = absurd m.runs
 moves_can limits most (Rolls p counts births) new m = refl
-moves_can limits most (Waits waiting) new m = absurd m.runs
+moves_can limits most old new m = absurd m.runs
 
 -- who sent something could act
 pub sends_can : (limits : Limits) (most made : ℕ) (old : Held) (sending : Sending) (new : Held) → Sends limits most made old sending new → can_act limits old ≡ true

@@ -145,10 +145,8 @@ pub record RollsThere (p : Pid) (here : List (Pid × Held)) : Type 0 where
 -- who makes a step again rolls forward
 rolled_some : (n : ℕ) (p : Pid) (old : List (Pid × Held)) (was now : Held) → 1 ≤ n → held_of old p ≡ Some was → RollsTo n was now → RollsThere p old
 rolled_some n p old (Runs q) (Runs r) some there rolls = absurd (omega (arith, some, rolls.0))
-rolled_some n p old (Runs q) (Rolls r left unborn) some there rolls = absurd rolls
-rolled_some n p old (Runs q) (Waits waiting) some there rolls = absurd rolls
 rolled_some n p old (Rolls q counts births) now some there rolls = record { process = q; counts = counts; births = births; there = there }
-rolled_some n p old (Waits waiting) now some there rolls = absurd rolls
+rolled_some n p old was now some there rolls = absurd rolls
 
 pub part_rolls : (p : Pid) (n : ℕ) (old new : List (Pid × Held)) → RollsPart p n old new → RollsThere p old
 part_rolls p n old new (inl steps) = rolled_some n p old steps.was steps.now steps.some steps.there steps.rolls
@@ -205,11 +203,9 @@ part_runs : (p : Pid) (n : ℕ) (old new : List (Pid × Held)) → RollsPart p n
 part_runs p n old new (inl steps) stopped = by_now steps.was steps.now steps.rolls (ap (λ hs. held_of hs p) steps.here ∙ changed_there p steps.now old steps.was steps.there)
   where
     by_now : (was now : Held) → RollsTo n was now → held_of new p ≡ Some now → runs_at new p ≡ true
+    by_now (Rolls p counts births) (Rolls q left unborn) rolls there = absurd (true≢false (sym (ap (λ o. option_map_or is_rolling o false) there) ∙ stopped))
     by_now was (Runs q) rolls there = ap (λ o. option_map_or is_running o false) there
-    by_now was (Rolls q left unborn) rolls there = absurd (true≢false (sym (ap (λ o. option_map_or is_rolling o false) there) ∙ stopped))
-    by_now (Runs q) (Waits waiting) rolls there = absurd rolls
-    by_now (Rolls q counts births) (Waits waiting) rolls there = absurd rolls
-    by_now (Waits w) (Waits waiting) rolls there = absurd rolls
+    by_now was now rolls there = absurd rolls
 part_runs p n old new (inr fork) stopped = by_going (nothing_left f.counts f.births) refl
   where
     f : ForksAgain p old new

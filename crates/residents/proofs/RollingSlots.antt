@@ -25,12 +25,9 @@ use Rattle.residents.proofs.Slots.{no_entry, nobody_changed, nobody_held, one_ke
 
 rolled_to_lacks : (n : ℕ) (was now : Held) → RollsTo n was now → is_some (page_lacked now) ≡ true → is_some (page_lacked was) ≡ true
 rolled_to_lacks n (Runs p) (Runs q) rolls some = some
-rolled_to_lacks n (Runs p) (Rolls q left unborn) rolls some = absurd rolls
-rolled_to_lacks n (Runs p) (Waits w) rolls some = absurd rolls
 rolled_to_lacks n (Rolls p counts births) (Runs q) rolls some = some
 rolled_to_lacks n (Rolls p counts births) (Rolls q left unborn) rolls some = some
-rolled_to_lacks n (Rolls p counts births) (Waits w) rolls some = absurd rolls
-rolled_to_lacks n (Waits w) now rolls some = absurd rolls
+rolled_to_lacks n was now rolls some = absurd rolls
 
 -- one that lacks a page after steps lacked it before
 pub rolled_lacks : (most : ℕ) (was now : Held) (r : Result ℕ NoMemory) → IfOk r (λ n. HasRolled most n was now) → OnErr r (now ≡ was) → is_some (page_lacked now) ≡ true → is_some (page_lacked was) ≡ true

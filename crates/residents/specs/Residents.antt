@@ -137,6 +137,10 @@ TurnIs by family old (Ok (Forks forking)) new = ChosenTurn by family old (Forks 
 TurnIs by family old (Ok Stuck) new = (none_has_turn old.duty family old.here ≡ true) × (new.here ≡ old.here) × (new.last ≡ old.last)
 TurnIs by family old (Err fault) new = new.here ≡ old.here
 
+-- none of them can have a turn, whichever children never synchronised
+abbrev pub NoneHasTurn : ResidentsView → Type 0
+NoneHasTurn r = (family : List (Pid × Pid)) → none_has_turn r.duty family r.here ≡ true
+
 -- it cannot have a turn, and does not wait for a page
 abbrev pub is_settled : DutyView → Pid × Held → Bool
 is_settled duty e = is_stuck duty e && not (is_waiting e.1)

@@ -15,7 +15,7 @@ ghost use Rattle.residents.specs.ChildrenFirst.{child_before, comes_after, comes
 ghost use Rattle.residents.specs.Duty.{is_able, is_owed, owed_at};
 ghost use Rattle.residents.specs.Owing.{duty_in, owing_in};
 ghost use Rattle.residents.specs.Records.{record_at};
-ghost use Rattle.residents.specs.Residents.{AsksOf, GivenTurnIs, HasRoom, NextAble, RenewsAt, RunsAt, RunsOnAt, SyncsAt, TurnIs, are_rising, are_settled, is_settled, is_stuck_at, lacks_none_at, next_ready, none_has_turn, pids_in};
+ghost use Rattle.residents.specs.Residents.{AsksOf, GivenTurnIs, HasRoom, NextAble, NoneHasTurn, RenewsAt, RunsAt, RunsOnAt, SyncsAt, TurnIs, are_rising, are_settled, is_settled, is_stuck_at, lacks_none_at, next_ready, none_has_turn, pids_in};
 ghost use Rattle.residents.specs.Changed.{with_more};
 ghost use Rattle.residents.specs.Resident.{CanComeTo};
 ghost use Rattle.residents.specs.Held.{Held, arrived_held, held_of, runs_at, with_renewed};
@@ -176,6 +176,13 @@ impl Residents {
             }
         }
         Ok(Quantum::Stuck)
+    }
+
+    /// Whether none of them is ready, so that none can have a turn. Takes no memory.
+    pub fn none_is_ready(&self) -> bool
+        ensures { result ≡ true → NoneHasTurn self.now }
+    {
+        self.ready.is_empty()
     }
 
     // The next of those that may move, but for those that a child hinders. Takes no memory.
@@ -946,7 +953,7 @@ impl Residents {
     fn listed(&self, alloc: Global) -> Result<Option<List<(Pid, u64)>>, NoMemory>
         ensures { IfOk result (λ rests. rests ≡ (if are_settled self.now.duty self.now.here then Some (rests_in self.now.here) else None)) }
     {
-        let mut rests = List::new(alloc);
+        let mut rests = List::from_vec(Vec::with_capacity(alloc, self.keys.len())?);
         for (pid, key) in &self.keys {
             match self.residents.get(*key) {
                 Some(resident) => {

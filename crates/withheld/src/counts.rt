@@ -58,7 +58,11 @@ fn raise(counts: &mut Counts, pid: Pid) -> Result<(), NoMemory>
     requires { count_of counts.old pid < 2 ^ 64 - 1 }
     ensures { OnOk result (ChangesOnly counts.old counts.new pid (count_of counts.old pid + 1)) }
 {
-    *counts.entry(pid.0)?.or_insert(0) += 1;
+    if let Some(count) = counts.get_mut(&pid.0) {
+        *count += 1;
+        return Ok(());
+    }
+    counts.insert(pid.0, 1)?;
     Ok(())
 }
 

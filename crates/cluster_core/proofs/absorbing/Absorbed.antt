@@ -1,5 +1,5 @@
 -- A cluster that takes in the next entry of a log goes on to follow it, whichever kind the entry is of.
-use Rattle.std.proofs.Common.{◌≡◌, ◌⊎◌, ℕ, ◌+◌, refl, sym, ◌∙◌, ap, subst, List, [], ◌∷◌, ◌++◌, true, false, Bool, cond, eqb-true, Option, Some, None, is_some, inl, inr, true≢false}
+use Rattle.std.proofs.Common.{◌≡◌, ℕ, ◌+◌, refl, sym, ◌∙◌, ap, subst, List, [], ◌∷◌, ◌++◌, true, false, Bool, cond, eqb-true, Option, Some, None, is_some, inl, inr, true≢false}
 use Rattle.std.specs.Prelude.{filter, option_map}
 use Rattle.t32_base.specs.declared.process.Pid.{Pid}
 use Rattle.proc_state.specs.declared.process.Process.{Process}
@@ -389,8 +389,3 @@ ready_own c e r own = by_loss (one_of c.system r.log e r.open_next)
     by_loss (inr (inr (inr (inr (inr (inl y)))))) = subst (λ w. AllOwn (c.cursor + 1) (here_after w c.here)) (sym y.same) later
     by_loss (inr (inr (inr (inr (inr (inr y)))))) = subst (λ w. AllOwn (c.cursor + 1) (here_after w c.here)) (sym y.same) later
     by_loss (inr (inr (inr (inr (inl b))))) = subst (λ w. AllOwn (c.cursor + 1) (here_after w c.here)) (sym b.same) (own_born (c.cursor + 1) b.parent b.child c.here later)
-
--- what is here as it was, or nothing, is its own
-pub own_either : (cursor : ℕ) (was now : List (Pid × Held)) → AllOwn cursor was → (now ≡ was) ⊎ (now ≡ []) → AllOwn cursor now
-own_either cursor was now own (inl same) = subst (AllOwn cursor) (sym same) own
-own_either cursor was now own (inr none) = subst (AllOwn cursor) (sym none) tt

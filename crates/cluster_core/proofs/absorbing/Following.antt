@@ -438,8 +438,7 @@ begun_before w p was = by_kind (λ w. has_begun (arrival_at w p was) ≡ has_beg
   where
     by_held : (letter : Letter) (h : Held) → has_begun (arrived_held h letter) ≡ has_begun h
     by_held letter (Runs s) = refl
-    by_held letter (Rolls s counts births) = refl
-    by_held letter (Waits waiting) = refl
+    by_held letter _ = refl
 
     by_test : (letter : Letter) (b : Bool) → has_begun (cond b (arrived_held was letter) was) ≡ has_begun was
     by_test letter true = by_held letter was

@@ -24,7 +24,7 @@ use Rattle.cert_sched.specs.Scripted.{is_server}
 use Rattle.cluster_core.specs.Holds.{HoldsAccounts, KeepsIfThere}
 use Rattle.cluster_core.specs.Queue.{AreTogether, Queued, Nothing, One, is_lone, posts_of, is_rebackup, with_queue}
 use Rattle.cluster_core.specs.Serving.{BeginsToServe, IsAheadThere, Serves}
-use Rattle.cluster_core.specs.View.{ClusterView, failing_in}
+use Rattle.cluster_core.specs.View.{ClusterView}
 use Rattle.cluster_core.specs.Work.{AnswersNext}
 use Rattle.page_accounts.proofs.Counts.{ahead_passed}
 use Rattle.cluster_core.proofs.absorbing.Counted.{count_by-snoc, lost_before}
@@ -225,12 +225,6 @@ pub ahead_after : (before : Places) (e : Entry) (old new : Option PagerState) �
 ahead_after before e None new serves ahead = subst IsAheadThere (sym serves) tt
 ahead_after before e (Some old) None serves ahead = absurd serves
 ahead_after before e (Some old) (Some new) serves ahead = (after_note (what e) old.counts new.counts serves.counts).0 ahead
-
--- and leaves which calls fail
-pub failing_after : (before : Places) (e : Entry) (old new : Option PagerState) → Serves before e old new → failing_in new ≡ failing_in old
-failing_after before e None new serves = ap failing_in serves
-failing_after before e (Some old) None serves = absurd serves
-failing_after before e (Some old) (Some new) serves = ap Some (after_note (what e) old.counts new.counts serves.counts).1
 
 -- the call of an answer did not fail
 pub ahead_answered : (k : ClusterNo) (old new : Option PagerState) (post : Post) → AnswersNext k old new post → IsAheadThere old → IsAheadThere new

@@ -78,8 +78,6 @@ none_left counts (b ∷ bs) none = absurd (true≢false (sym none))
 
 pub rolled_forks : (n : ℕ) (was between : Held) → RollsTo n was between → SameForks was between
 rolled_forks n (Runs p) (Runs q) rolls = record { waits = refl; bears = λ child. refl }
-rolled_forks n (Runs p) (Rolls q left unborn) rolls = absurd rolls
-rolled_forks n (Runs p) (Waits w) rolls = absurd rolls
 rolled_forks n (Rolls p counts births) (Runs q) rolls =
     let left = rolls.0 in
     let unborn = rolls.1 in
@@ -88,15 +86,12 @@ rolled_forks n (Rolls p counts births) (Runs q) rolls =
     record { waits = refl; bears = λ child. ap (list_any (same_pid child)) (sym none ∙ same) }
 rolled_forks n (Rolls p counts births) (Rolls q left unborn) rolls =
     record { waits = refl; bears = λ child. ap (list_any (same_pid child)) (rolled_births n (going p counts births) (going q left unborn) (rolls.2).rolled) }
-rolled_forks n (Rolls p counts births) (Waits w) rolls = absurd rolls
-rolled_forks n (Waits w) between rolls = absurd rolls
+rolled_forks n was between rolls = absurd rolls
 
 pub ran_forks : (m : ℕ) (between now : Held) → RunsTo m between now → SameForks between now
 ran_forks m (Runs p) (Runs q) runs = record { waits = refl; bears = λ child. refl }
-ran_forks m (Runs p) (Rolls q left unborn) runs = absurd runs
-ran_forks m (Runs p) (Waits w) runs = absurd runs
 ran_forks m (Rolls p counts births) now runs = subst (SameForks (Rolls p counts births)) (sym runs.1) (same_forks (Rolls p counts births))
-ran_forks m (Waits w) now runs = absurd runs
+ran_forks m between now runs = absurd runs
 
 -- one that runs on has none to make
 pub run_forks : (was now : Process) → SameForks (Runs was) (Runs now)

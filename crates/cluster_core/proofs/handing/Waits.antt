@@ -30,7 +30,7 @@ use Rattle.replay_laws.proofs.forks.EitherWait.{kept_so}
 use Rattle.replay_laws.proofs.rolling.FromStart.{record_stated}
 use Rattle.backup_laws.proofs.AwaitedFamilies.{child_awaited}
 use Rattle.backup_laws.proofs.Given.{waiting_owed}
-use Rattle.residents.specs.Held.{Held, Runs, Rolls, Waits, is_waiting}
+use Rattle.residents.specs.Held.{Held, Waits, is_waiting}
 use Rattle.residents.specs.Records.{record_at, record_told}
 use Rattle.residents.proofs.Slots.{at_key_is}
 use Rattle.standing_backups.specs.Standing.{CanBeNext, CanHandOn, first_stated, is_stated_at}
@@ -94,8 +94,7 @@ module _ (c : ClusterView) (log : List Entry) (valid : is_system c.system ≡ tr
 
   waits_so : (p : Pid) → HomeHere here p c.number → (h : Held) → held_at c p ≡ Some h → is_waiting h ≡ true → WaitsHere p
   waits_so p home (Waits w) there is = record { home = home; waiting = w; there = there }
-  waits_so p home (Runs s) there is = absurd (true≢false (sym is))
-  waits_so p home (Rolls s counts births) there is = absurd (true≢false (sym is))
+  waits_so p home _ there is = absurd (true≢false (sym is))
 
   -- one that waits for its new backup has not begun
   pub owed_waits : (p : Pid) → is_owed c.system log c.number p ≡ true → WaitsHere p
@@ -109,8 +108,7 @@ module _ (c : ClusterView) (log : List Entry) (valid : is_system c.system ≡ tr
 
       not_begun : (h : Held) → held_at c p ≡ Some h → is_waiting h ≡ true
       not_begun (Waits w) there = refl
-      not_begun (Runs s) there = absurd (true≢false (sym (begun p (Runs s) there refl) ∙ waits))
-      not_begun (Rolls s counts births) there = absurd (true≢false (sym (begun p (Rolls s counts births) there refl) ∙ waits))
+      not_begun h there = absurd (true≢false (sym (begun p h there refl) ∙ waits))
 
       by_found : (o : Option Placed) → unended_at here p ≡ o → option_map_or (λ (q : Placed). same_cluster q.home c.number) o false ≡ true → WaitsHere p
       by_found None found home = absurd (true≢false (sym home))
@@ -157,10 +155,8 @@ module _ (c : ClusterView) (log : List Entry) (valid : is_system c.system ≡ tr
   recorded p r at = by_held (held_at c p) refl at
     where
       by_held : (o : Option Held) → held_at c p ≡ o → option_and_then record_told o ≡ Some r → backup_record c.system log p ≡ Some r
-      by_held None there is = cc
-      by_held (Some (Runs s)) there is = cc
-      by_held (Some (Rolls s counts births)) there is = cc
       by_held (Some (Waits w)) there is = kept_so c.system log p (is_fetch_queued p c.queue) w ((f.processes).held p (Waits w) there).1 ∙ is
+      by_held _ there is = cc
 
   record_there : (p : Pid) (w : WaitsHere p) → record_at c.here p ≡ Some (w.waiting).kept
   record_there p w = ap (option_and_then record_told) w.there
@@ -287,7 +283,5 @@ module _ (c : ClusterView) (log : List Entry) (valid : is_system c.system ≡ tr
         named p r at = by_held (held_at c p) refl at
           where
             by_held : (o : Option Held) → held_at c p ≡ o → option_and_then record_told o ≡ Some r → r.pid ≡ p
-            by_held None there is = cc
-            by_held (Some (Runs s)) there is = cc
-            by_held (Some (Rolls s counts births)) there is = cc
             by_held (Some (Waits w)) there is = ap (λ (r : BackRec). r.pid) (sym (same_Some w.kept r is)) ∙ (own_at c.cursor c.here p (Waits w) own there).pid_is
+            by_held _ there is = cc

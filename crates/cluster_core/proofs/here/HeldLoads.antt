@@ -78,20 +78,15 @@ fewer_loads was now fewer = omega (arith, fewer, (load_bounds was).0, (load_boun
 -- steps that are withheld leave so many fewer
 pub rolled_leaves : (n : ℕ) (was between : Held) → RollsTo n was between → held_weight between + n ≤ held_weight was
 rolled_leaves n (Runs p) (Runs q) rolls = omega (arith, rolls.0, ap (λ (x : Process). weight_with_children x.small) rolls.1)
-rolled_leaves n (Runs p) (Rolls q left unborn) rolls = absurd rolls
-rolled_leaves n (Runs p) (Waits waiting) rolls = absurd rolls
 rolled_leaves n (Rolls p counts births) (Runs q) rolls = rolled_lightens n (going p counts births) (going q rolls.0 rolls.1) (rolls.2).rolled
 rolled_leaves n (Rolls p counts births) (Rolls q left unborn) rolls = rolled_lightens n (going p counts births) (going q left unborn) (rolls.2).rolled
-rolled_leaves n (Rolls p counts births) (Waits waiting) rolls = absurd rolls
-rolled_leaves n (Waits waiting) between rolls = absurd rolls
+rolled_leaves n was between rolls = absurd rolls
 
 -- and so do silent ones
 pub silent_leaves : (m : ℕ) (between now : Held) → RunsTo m between now → held_weight now + m ≤ held_weight between
 silent_leaves m (Runs p) (Runs q) runs = silently_lightens m (state_of p) (state_of q) runs.silent
-silent_leaves m (Runs p) (Rolls q left unborn) runs = absurd runs
-silent_leaves m (Runs p) (Waits waiting) runs = absurd runs
 silent_leaves m (Rolls p counts births) now runs = omega (arith, runs.0, ap held_weight runs.1)
-silent_leaves m (Waits waiting) now runs = absurd runs
+silent_leaves m between now runs = absurd runs
 
 -- where no step was made all is as it was
 same_load : (p q : Process) (counts left : Counts) (births unborn : List Pid) → rolled_on 0 (going p counts births) ≡ Some (going q left unborn) → q.since ≡ p.since → process_load q ≡ process_load p
@@ -113,7 +108,5 @@ silent_load (suc m) p q runs =
 -- nor does one that rolls forward still, which makes none
 pub silent_no_heavier : (m : ℕ) (was now : Held) → RunsTo m was now → held_load now + 0 ≤ held_load was
 silent_no_heavier m (Runs p) (Runs q) runs = omega (arith, silent_load m p q runs)
-silent_no_heavier m (Runs p) (Rolls q left unborn) runs = absurd runs
-silent_no_heavier m (Runs p) (Waits waiting) runs = absurd runs
 silent_no_heavier m (Rolls p counts births) now runs = omega (arith, ap held_load runs.1)
-silent_no_heavier m (Waits waiting) now runs = absurd runs
+silent_no_heavier m was now runs = absurd runs

@@ -102,8 +102,7 @@ module _ (c : ClusterView) (valid : is_system c.system ≡ true) (some : Follows
 
       runs : (h : Held) → comes_after (duty_of c) (p, h) ≡ true → is_running h ≡ true
       runs (Runs process) comes = refl
-      runs (Rolls process counts births) comes = by_owed (is_some (backup_owed (duty_of c) p)) comes
-      runs (Waits waiting) comes = by_owed (is_some (backup_owed (duty_of c) p)) comes
+      runs _ comes = by_owed (is_some (backup_owed (duty_of c) p)) comes
 
   unhindered : (p : Pid) → is_hindered (duty_of c) c.family c.here p ≡ false
   unhindered p = by_child (child_before (duty_of c) c.family c.here p) refl

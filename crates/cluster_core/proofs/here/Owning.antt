@@ -165,19 +165,14 @@ own_rolled cursor pid was counts left births unborn n now rolled own =
 -- one that made steps that are withheld is its own
 pub own_between : (cursor : ℕ) (pid : Pid) (n : ℕ) (was between : Held) → IsHeldOwn cursor pid was → RollsTo n was between → IsHeldOwn cursor pid between
 own_between cursor pid n (Runs p) (Runs q) own rolls = subst (IsOwn cursor pid) (sym rolls.1) own
-own_between cursor pid n (Runs p) (Rolls q left unborn) own rolls = absurd rolls
-own_between cursor pid n (Runs p) (Waits kept) own rolls = absurd rolls
 own_between cursor pid n (Rolls p counts births) (Runs q) own rolls = own_rolled cursor pid p counts rolls.0 births rolls.1 n q (rolls.2).rolled own
 own_between cursor pid n (Rolls p counts births) (Rolls q left unborn) own rolls = own_rolled cursor pid p counts left births unborn n q (rolls.2).rolled own
-own_between cursor pid n (Rolls p counts births) (Waits kept) own rolls = absurd rolls
-own_between cursor pid n (Waits kept) between own rolls = absurd rolls
+own_between cursor pid n was between own rolls = absurd rolls
 
 own_after_silent : (cursor : ℕ) (pid : Pid) (m : ℕ) (between now : Held) → IsHeldOwn cursor pid between → RunsTo m between now → IsHeldOwn cursor pid now
 own_after_silent cursor pid m (Runs p) (Runs q) own runs = own_moved cursor pid p q m own runs.silent
-own_after_silent cursor pid m (Runs p) (Rolls q left unborn) own runs = absurd runs
-own_after_silent cursor pid m (Runs p) (Waits kept) own runs = absurd runs
 own_after_silent cursor pid m (Rolls p counts births) now own runs = subst (IsHeldOwn cursor pid) (sym runs.1) own
-own_after_silent cursor pid m (Waits kept) now own runs = absurd runs
+own_after_silent cursor pid m between now own runs = absurd runs
 
 -- so is one that had a quantum
 pub own_quantum : (limits : Limits) (cursor : ℕ) (pid : Pid) (made : ℕ) (was now : Held) → IsHeldOwn cursor pid was → Moves limits 64 made was now → IsHeldOwn cursor pid now
@@ -306,8 +301,7 @@ own_page cursor p i bytes (e ∷ here) own = (by_test (same_pid e.0 p), own_page
 
 one_renewed : (cursor : ℕ) (pid : Pid) (h : Held) → IsHeldOwn cursor pid h → IsHeldOwn cursor pid (renewed_held h)
 one_renewed cursor pid (Runs process) own = record { pid_is = own.pid_is; arrived = own.arrived }
-one_renewed cursor pid (Rolls process counts births) own = own
-one_renewed cursor pid (Waits waiting) own = own
+one_renewed cursor pid _ own = own
 
 own_counts : (cursor : ℕ) (p : Pid) (here : List (Pid × Held)) → AllOwn cursor here → AllOwn cursor (with_renewed p here)
 own_counts cursor p [] own = tt

@@ -31,7 +31,7 @@ use Rattle.checkpoint_laws.specs.posts.Running.{RunsMarked}
 use Rattle.checkpoint_laws.proofs.posts.SilentSizes.{silent_sizes}
 use Rattle.checkpoint_laws.specs.limits.Within.{is_within_by}
 use Rattle.checkpoint_laws.proofs.limits.OwnCounts.{own_limits}
-use Rattle.residents.specs.Held.{Held, Runs, Rolls, Waits, IsHeldWithin}
+use Rattle.residents.specs.Held.{Held, Runs, Rolls, IsHeldWithin}
 use Rattle.cluster_core.specs.View.{limits_of}
 use Rattle.residents.specs.Quantum.{RollsTo}
 use Rattle.cluster_core.specs.Holds.{CarriesMarks, IsHeldAs, MarkedIfThere, unended_process}
@@ -119,9 +119,6 @@ module _ (system : System) (log : List Entry) (p : Pid) (valid : is_system syste
   pub rolled_within : (n : ℕ) (was between : Held) → IsHeldAs system log [] p was → RollsTo n was between → IsHeldAs system log [] p between → MarkedIfThere CarriesMarks system log p (unended_process between)
       → IsHeldWithin (limits_of system) was → IsHeldWithin (limits_of system) between
   rolled_within n (Runs s) (Runs q) was_held rolls held marks within = subst (λ (x : Process). is_within (limits_of system) x ≡ true) (sym rolls.1) within
-  rolled_within n (Runs s) (Rolls q left unborn) was_held rolls held marks within = tt
-  rolled_within n (Runs s) (Waits waiting) was_held rolls held marks within = tt
   rolled_within n (Rolls s counts births) (Runs q) was_held rolls held marks within = caught_within n s counts births q was_held.1 rolls held marks
   rolled_within n (Rolls s counts births) (Rolls q left unborn) was_held rolls held marks within = tt
-  rolled_within n (Rolls s counts births) (Waits waiting) was_held rolls held marks within = tt
-  rolled_within n (Waits waiting) between was_held rolls held marks within = absurd rolls
+  rolled_within n was between was_held rolls held marks within = absurd rolls

@@ -353,9 +353,8 @@ module _ (system : System) (valid : is_system system ≡ true) (log : List Entry
       by_page (λ w. what e ≡ w → has_begun (page_at w p was) ≡ true → has_begun was ≡ true) (λ pid index is begun. begun) (λ pid index bytes is. by_pid pid index bytes is (same_pid pid p) refl) (what e) of refl
     where
       comes : (h : Held) (i : ℕ) (bytes : List ℕ) → what e ≡ PageIs p i bytes → ((w : WaitingState) → h ≡ Waits w → WaitsSo system log p queued w) → has_begun h ≡ true
-      comes (Runs s) i bytes is so = refl
-      comes (Rolls s counts births) i bytes is so = refl
       comes (Waits w) i bytes is so = come_asked system log e p i bytes queued w valid next.0 is (so w refl)
+      comes _ i bytes is so = refl
 
       by_pid : (pid : Pid) (index : ℕ) (bytes : List ℕ) → what e ≡ PageIs pid index bytes → (b : Bool) → same_pid pid p ≡ b → has_begun (cond b (page_held index bytes was) was) ≡ true → has_begun was ≡ true
       by_pid pid index bytes is true own begun = comes was index bytes (is ∙ ap (λ q. PageIs q index bytes) (pid_same pid p (eqb-true pid.0 p.0 own))) waits

@@ -18,7 +18,7 @@ use Rattle.replay_laws.specs.rolling.Behind.{RollsBehind}
 use Rattle.replay_laws.proofs.rolling.ByRule.{stand_caught_up, standing_behind}
 use Rattle.replay_laws.proofs.rolling.Reaching.{led_unended}
 use Rattle.replay_laws.proofs.rolling.Stepping.{went_on}
-use Rattle.residents.specs.Held.{Held, Runs, Rolls, Waits}
+use Rattle.residents.specs.Held.{Held, Runs, Rolls}
 use Rattle.residents.specs.Quantum.{RollsTo}
 use Rattle.cluster_core.specs.Follows.{IsOpen}
 use Rattle.cluster_core.specs.Holds.{IsHeldAs}
@@ -55,8 +55,6 @@ module _ (system : System) (log : List Entry) (p : Pid) (valid : is_system syste
   -- after steps that are withheld one that rolls forward is held as the log says, whether it still rolls forward or runs
   pub rolled_held : (n : ℕ) (was between : Held) → IsHeldAs system log [] p was → RollsTo n was between → IsHeldAs system log [] p between
   rolled_held n (Runs s) (Runs q) held rolls = subst (λ (x : Process). IsHeldAs system log [] p (Runs x)) (sym rolls.1) held
-  rolled_held n (Runs s) (Rolls q left unborn) held rolls = absurd rolls
-  rolled_held n (Runs s) (Waits waiting) held rolls = absurd rolls
   rolled_held n (Rolls s counts births) (Rolls q left unborn) held rolls =
       let on = rolls.2 in
       (refl, standing_behind system log p (n + rolls.0) n (going s counts births) (going q left unborn) valid stands unended held.1 on.runs_out (omega arith) on.rolled)
@@ -67,5 +65,4 @@ module _ (system : System) (log : List Entry) (p : Pid) (valid : is_system syste
       let behind = standing_behind system log p (n + 0) n (going s counts births) (going q left unborn) valid stands unended held.1 on.runs_out (omega arith) on.rolled in
       let none = none_left n (going s counts births) (going q left unborn) held.1 on.runs_out on.rolled in
       at_once system log p (state_of q) (stand_caught_up system log p (state_of q) left unborn valid open_log.0 open_log.1 unended behind none)
-  rolled_held n (Rolls s counts births) (Waits waiting) held rolls = absurd rolls
-  rolled_held n (Waits waiting) between held rolls = absurd rolls
+  rolled_held n was between held rolls = absurd rolls

@@ -30,7 +30,7 @@ use Rattle.checkpoint_laws.proofs.batches.RestMarks.{last_cuts}
 use Rattle.page_server.specs.Account.{PagerState}
 use Rattle.page_waits.specs.Waiting.{WaitingState}
 use Rattle.cluster_core.specs.View.{ClusterView, after_sent, head_of, held_at, with_server}
-use Rattle.residents.specs.Held.{Held, Runs, Rolls, Waits}
+use Rattle.residents.specs.Held.{Held, Runs, Waits}
 use Rattle.residents.specs.Residents.{pids_in}
 use Rattle.cluster_core.specs.Parts.{AllOwn}
 use Rattle.cluster_core.specs.Queue.{Nothing, IsQueueLegal, is_rebackup, move_of, state_by, state_now, with_queue}
@@ -54,10 +54,9 @@ use Rattle.cluster_core.proofs.absorbing.Served.{accounts_on, ahead_after, broug
 use Rattle.cluster_core.proofs.absorbing.Spared.{passed}
 use Rattle.cluster_core.proofs.syncs.Synchronising.{s as tells, differ, held_still, loses_none, pids_same, records_stay, stands, sync_taken}
 use Rattle.cluster_core.proofs.absorbing.Telling.{at_once}
-use Rattle.replay_laws.proofs.forks.EitherWait.{so_alike}
 use Rattle.cluster_core.proofs.forks.ForksAgain.{forks_synced}
 use Rattle.checkpoint_laws.proofs.limits.RestLimits.{page_leaves_sync}
-use Rattle.cluster_core.proofs.syncs.Batching.{batch_state}
+use Rattle.cluster_core.proofs.syncs.Batching.{batch_state, held_alike}
 use Rattle.cluster_core.proofs.awaiting.Awaited.{awaited_after}
 
 -- ---- what a batch leaves of the other processes
@@ -69,15 +68,11 @@ pub record AsideOf (p : Pid) (posts : List Post) : Type 0 where
 
 -- what is held of another process is what the log says without them
 unqueued : (system : System) (log : List Entry) (p q : Pid) (posts : List Post) (h : Held) → AsideOf p posts → same_pid p q ≡ false → IsHeldAs system log posts q h → IsHeldAs system log [] q h
-unqueued system log p q posts (Runs process) aside apart held = ap (state_by system log q (process.small).steps) (sym (aside.moves q apart)) ∙ held
-unqueued system log p q posts (Rolls process counts births) aside apart held = (refl, held.1)
-unqueued system log p q posts (Waits waiting) aside apart held = (refl, so_alike system log q (is_fetch_queued q posts) (is_fetch_queued q []) waiting (aside.fetches q) held.1)
+unqueued system log p q posts h aside apart held = held_alike system log posts [] q h (aside.moves q apart) refl (aside.fetches q) held
 
 -- and with them
 requeued : (system : System) (log : List Entry) (p q : Pid) (posts : List Post) (h : Held) → AsideOf p posts → same_pid p q ≡ false → IsHeldAs system log [] q h → IsHeldAs system log posts q h
-requeued system log p q posts (Runs process) aside apart held = ap (state_by system log q (process.small).steps) (aside.moves q apart) ∙ held
-requeued system log p q posts (Rolls process counts births) aside apart held = (aside.moves q apart, held.1)
-requeued system log p q posts (Waits waiting) aside apart held = (aside.moves q apart, so_alike system log q (is_fetch_queued q []) (is_fetch_queued q posts) waiting (λ i. sym (aside.fetches q i)) held.1)
+requeued system log p q posts h aside apart held = held_alike system log [] posts q h refl (aside.moves q apart) (λ i. sym (aside.fetches q i)) held
 
 none_aside : (p : Pid) → AsideOf p []
 none_aside p = record { moves = λ q apart. refl; fetches = λ q i. refl }

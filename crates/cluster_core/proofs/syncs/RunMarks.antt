@@ -27,7 +27,7 @@ use Rattle.checkpoint_laws.proofs.marks.SendingMarks.{sending_marked, sending_se
 use Rattle.cluster_core.specs.Holds.{CarriesMarks, IsHeldAs, MarkedIfThere, unended_process}
 use Rattle.quanta.specs.Quantum.{RunsOn}
 use Rattle.residents.specs.Quantum.{RollsTo, RunsTo}
-use Rattle.residents.specs.Held.{Held, Runs, Rolls, Waits}
+use Rattle.residents.specs.Held.{Held, Runs, Rolls}
 use Rattle.log_laws.proofs.letters.RollingReads.{rolling_reads, silent_next}
 use Rattle.replay_laws.proofs.rolling.Others.{rolls_next}
 
@@ -77,8 +77,6 @@ module _ (system : System) (log : List Entry) (p : Pid) (valid : is_system syste
   -- steps that are withheld
   pub marked_rolled : (n : ℕ) (was between : Held) → IsHeldAs system log [] p was → RollsTo n was between → MarkedIfThere CarriesMarks system log p (unended_process was) → MarkedIfThere CarriesMarks system log p (unended_process between)
   marked_rolled n (Runs s) (Runs q) held rolls m = subst (λ (x : Process). MarkedIfThere CarriesMarks system log p (unended_one x)) (sym rolls.1) m
-  marked_rolled n (Runs s) (Rolls q left unborn) held rolls m = absurd rolls
-  marked_rolled n (Runs s) (Waits waiting) held rolls m = absurd rolls
   marked_rolled n (Rolls s counts births) (Rolls q left unborn) held rolls m =
       let on = rolls.2 in
       let same = (held.1).rolls in
@@ -87,8 +85,7 @@ module _ (system : System) (log : List Entry) (p : Pid) (valid : is_system syste
       let on = rolls.2 in
       let same = (held.1).rolls in
       marked_over n s q counts rolls.0 births rolls.1 on.rolled on.since (λ runs. (rolling_reads system log p (state_of s) counts births valid legal unended same, rolls_next system log p (state_of s) counts births same)) m
-  marked_rolled n (Rolls s counts births) (Waits waiting) held rolls m = absurd rolls
-  marked_rolled n (Waits waiting) between held rolls m = absurd rolls
+  marked_rolled n was between held rolls m = absurd rolls
 
   -- silent steps
   pub marked_ran : (n : ℕ) (s t : Process) → silent_upto system log p (s.small).steps ≡ Some (state_of s) → RunsOn n s t → MarkedIfThere CarriesMarks system log p (unended_one s) → MarkedIfThere CarriesMarks system log p (unended_one t)
@@ -96,10 +93,8 @@ module _ (system : System) (log : List Entry) (p : Pid) (valid : is_system syste
 
   pub marked_runs : (n : ℕ) (between new : Held) → IsHeldAs system log [] p between → RunsTo n between new → MarkedIfThere CarriesMarks system log p (unended_process between) → MarkedIfThere CarriesMarks system log p (unended_process new)
   marked_runs n (Runs q) (Runs r) held runs m = marked_ran n q r held runs m
-  marked_runs n (Runs q) (Rolls r left unborn) held runs m = absurd runs
-  marked_runs n (Runs q) (Waits waiting) held runs m = absurd runs
   marked_runs n (Rolls q left unborn) new held runs m = subst (λ (x : Held). MarkedIfThere CarriesMarks system log p (unended_process x)) (sym runs.1) m
-  marked_runs n (Waits waiting) new held runs m = absurd runs
+  marked_runs n between new held runs m = absurd runs
 
   -- a step that sends something
   pub marked_sends : (s t : Process) (e : Emission) → next_step (state_of s) ≡ Emits e (state_of t) → t ≡ record s { small = t.small } → MarkedIfThere CarriesMarks system log p (unended_one s) → MarkedIfThere CarriesMarks system log p (unended_one t)

@@ -1,5 +1,6 @@
 use Rattle.std.proofs.Common.{◌≡◌, sym, subst}
 use Rattle.cert_sched.specs.Legal.{MayStand}
+use Rattle.cert_sched.proofs.MayLaws.{legal_may_stand}
 use Rattle.entry_lines.specs.declared.told.Told.{Told}
 use Rattle.entry_lines.specs.declared.told.ToldWhat.TheVariants.{PageIs}
 use Rattle.log_audit.specs.Decides.{Decides}
@@ -13,7 +14,7 @@ use Rattle.audited_log.proofs.lines.of_no_process.Goals as goal
 pub page_is-requires : goal.page_is-requires
 page_is-requires c =
     let some = c.requires.ready.some in
-    earliest_is_kept some.system some.log (c.args.state.now.common).pager some.valid (all_stand some.system some.log some.legal) ((some.is).common).accounts
+    earliest_is_kept some.system some.log (c.args.state.now.common).pager some.valid (all_stand some.system some.log (legal_may_stand some.system some.log some.legal)) ((some.is).common).accounts
 
 pub returns-in_ok-answer-in-PageIs-clause-leads : goal.returns-in_ok-answer-in-PageIs-clause-leads
 returns-in_ok-answer-in-PageIs-clause-leads c =

@@ -1,5 +1,6 @@
 use Rattle.std.proofs.Common.{◌≡◌, sym, ◌∙◌, ap, arith, subst, Some, None}
 use Rattle.t32_base.specs.declared.process.Pid.{Pid}
+use Rattle.cert_sched.proofs.MayLaws.{legal_may_stand}
 use Rattle.audited_log.specs.Processes.{kept_at}
 use Rattle.audited_log.proofs.Answering.{absent_refused, one_answers, one_leads, state_one}
 use Rattle.audited_log.proofs.lines.of_process.Goals as goal
@@ -20,7 +21,7 @@ pub of_kept-requires-clause-ahead : goal.of_kept-requires-clause-ahead
 of_kept-requires-clause-ahead c =
     let some = c.requires.ready.some in
     ((state_one c.args.state.now c.args.told.now c.in-Some.pid c.in-Some-get_mut.audited.now c.requires.ready.next
-    (sym c.in-Some-get_mut.ensures.value) some.system some.log some.valid some.legal some.is).one).ahead
+    (sym c.in-Some-get_mut.ensures.value) some.system some.log some.valid (legal_may_stand some.system some.log some.legal) some.is).one).ahead
 
 pub returns-clause-decides : goal.returns-clause-decides
 returns-clause-decides c =
