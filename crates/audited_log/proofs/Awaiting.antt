@@ -109,11 +109,6 @@ module _ (state : AuditedLog) (told : Told) (keeps : Bool) where
   end_says done is = λ system log e valid legal kept line may.
       is ∙ ap owes_no_backup ((kept.common).front).places ∙ sym (end_owes system log (what e) (ap (λ (t : Told). t.what) line ∙ sym done))
 
-pub others_say : (state : AuditedLog) (told : Told) → (told.what ≡ ToldDone → ⊥) → waiter told.what ≡ None → KeepsBackups state told true
-others_say state told goes none = λ system log e valid legal kept line may.
-    let same : told_what (what e) ≡ told.what = ap (λ (t : Told). t.what) line in
-    sym (none_waits system log (what e) (λ done. goes (sym same ∙ done)) (ap waiter same ∙ none))
-
 -- ---- the rule in force
 
 follow : (system : System) (log : List Entry) (e : Entry) → MayStand system log e → keeps_backups system log (what e) ≡ true → MayFollow system log e

@@ -105,16 +105,3 @@ pub alone_is : (places : Places) (p : Pid) (q : Placed) → unended_at places p 
 alone_is places p q there =
     sym (list_all-map (λ k. same_cluster k q.home || not (lives_in places k)) cluster_no (range_with_len 0 (length places.clusters)))
     ∙ ap (λ o. option_map_or (λ (q : Placed). list_all (λ k. same_cluster k q.home || not (lives_in places k)) (all_clusters places)) o false) (sym there)
-
--- with the last placement it says who waits
-pub waits_now : (system : System) (log : List Entry) (p : Pid) → (waited system log p && not (is_alone p (placement system log))) ≡ not (has_awaited_backup system log p)
-waits_now system log p =
-    parts (is_moved_fullback system log p) (any_since_moved system log p (names p)) (was_alone system log p) (is_alone p (placement system log))
-    ∙ ap (λ b. not (not (is_moved_fullback system log p) || any_since_moved system log p (names p) || b))
-    (sym (list_any-last (is_alone p) (map (λ (t : Told). t.places) (since_moved system log p)) (placement system log)))
-  where
-    parts : (m n a now : Bool) → (m && not (n || a) && not now) ≡ not (not m || n || (a || now))
-    parts false n a now = refl
-    parts true true a now = refl
-    parts true false true now = refl
-    parts true false false now = refl

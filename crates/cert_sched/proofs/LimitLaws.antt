@@ -366,10 +366,6 @@ legal_limits system log e may = (may.stands, may.limits)
 pub stand_limits : IsLimitingRule MayStand
 stand_limits system log e may = (may.stands, may.limits)
 
--- in a legal log each process that has not ended is within the limits of its last cut
-pub all_limited : (system : System) (log : List Entry) → is_system system ≡ true → IsLegal system log → AllLimited system log
-all_limited = all_limited_by MayFollow legal_limits
-
 -- and in a log of what is built
 pub stand_limited : (system : System) (log : List Entry) → is_system system ≡ true → IsLegalBy MayStand system log → AllLimited system log
 stand_limited = all_limited_by MayStand stand_limits

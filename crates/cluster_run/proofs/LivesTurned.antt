@@ -37,14 +37,6 @@ pub begun_empty : (b : BusView) (old new : ClusterView) → IsOrBegan b old new 
 begun_empty b old new (inl is) alive empty = ap (λ (v : ClusterView). v.queue) is ∙ empty (ap (λ (v : ClusterView). was_lost_in (drop v.cursor b.log) v.number) (sym is) ∙ alive)
 begun_empty b old new (inr (along, queue, later)) alive empty = queue
 
--- where it was not lost in its turn it is along its bus still
-pub stands_moving : (Shows : Type 0) (from : ℕ) (t : Turn) (b : BusView) (c : ClusterView) → t ≢ Lost → StandsAs Shows from t b c → IsAlong b c ⊎ IsFailed b c
-stands_moving Shows from Moved b c other shown = inl shown.along
-stands_moving Shows from Waits b c other shown = inl shown.along
-stands_moving Shows from Rests b c other shown = inl shown.along
-stands_moving Shows from Over b c other shown = inl shown.along
-stands_moving Shows from Lost b c other stopped = absurd (other refl)
-
 -- it is in the same life after it, so the lives that are over are those that were
 pub past_turned : (b after : BusView) (past : List Life) (c new : ClusterView) → IsSound after → HasGrown b after → new.number ≡ c.number → c.cursor ≤ length b.log → new.cursor ≤ length after.log → off_at (take c.cursor b.log) c.number ≡ None
     → StaysAlive c.number after.log c.cursor new.cursor → ArePastOf b past c → ArePastOf after past new

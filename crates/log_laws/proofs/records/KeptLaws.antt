@@ -33,7 +33,6 @@ use Rattle.backup_records.specs.Records.{CanCut, CanNote, cut_of_synced, record_
 use Rattle.backup_records.proofs.RecordLaws.{record_mapped, saved_pid, counted_pid}
 use Rattle.log_laws.specs.records.Kept.{KeepsRecords, has_backup_in, is_noted, is_renewed, changes_in_place}
 use Rattle.cert_sched.proofs.LogLaws.{IsLegal-before, IsLegal-last}
-use Rattle.cert_sched.proofs.LimitLaws.{all_limited}
 use Rattle.cert_sched.proofs.OpenLaws.{unended_open}
 use Rattle.cert_sched.proofs.ReplayLaws.{sharp_replays}
 use Rattle.cert_sched.proofs.RollLaws.{all_roll, rolls_steps}
