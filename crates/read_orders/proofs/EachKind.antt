@@ -27,7 +27,7 @@ use Rattle.cert_sched.specs.Moved.{is_fetch}
 use Rattle.cert_sched.specs.Schedule.{plain_after}
 use Rattle.cert_sched.specs.Steps.{first_record, numbers_read}
 use Rattle.cert_sched.specs.Rules.{is_full, is_moved_fullback}
-use Rattle.cert_sched.specs.Kinds.{AccountIs, BirthHolds, ChildrenSynced, DoneHolds, FetchHolds, FreshHolds, IsSent, KindHolds, PageHolds, PageIsHolds, RebackupHolds, StandingHolds, SyncHolds, after_take, is_done_by, next_child_at, took_is}
+use Rattle.cert_sched.specs.Kinds.{AccountIs, BirthHolds, ChildrenSynced, DoneHolds, FetchHolds, FreshHolds, IsSent, KindHolds, PageHolds, PageIsHolds, RebackupHolds, StandingHolds, SyncHolds, after_take, is_done_by, is_due, next_child_at, took_is}
 use Rattle.read_orders.specs.Alike.{AreAlike}
 use Rattle.read_orders.proofs.Blind.{blind}
 use Rattle.read_orders.proofs.Same.{alike-snoc, same_account, same_after, same_before_fork, same_children, same_done, same_emission, same_family, same_moved, same_moved_stated, same_pages, same_placement, same_plain, same_reads, same_record, same_saved, same_silent, same_since, same_stated, same_steps, same_waiting}
@@ -63,6 +63,11 @@ module _ (system : System) (log other : List Entry) (alike : AreAlike log other)
     page = sym (ap (option_map (λ (s : ProcState). page_at s.memory index)) (same_silent system log other alike p at)) ∙ h.page;
   }
 
+  same_due : (p : Pid) (took : Option ℕ) (s : ProcState) → is_due system log p took s ≡ is_due system other p took s
+  same_due p took s = λ i.
+      nat_le system.syncreads (same_reads system log other alike p s i) || nat_le system.syncsteps (same_steps system log other alike p s i)
+      || is_some took || not (same_stated system log other alike p i)
+
   sync : (p : Pid) (small : SmallState) (read : List ℕ) (took : Option ℕ) → SyncHolds system log p small read took → SyncHolds system other p small read took
   sync p small read took h =
       let silent = same_silent system log other alike p small.steps in
@@ -72,8 +77,7 @@ module _ (system : System) (log other : List Entry) (alike : AreAlike log other)
         reads = sym (λ i. option_map (λ (s : ProcState). numbers_read (same_saved system log other alike p i) (after_take took s).mail) (silent i)) ∙ h.reads;
         children = children p h.children;
         account = account_is p _ _ silent h.account;
-        due = sym (λ i. option_map (λ (s : ProcState). nat_le system.syncreads (same_reads system log other alike p s i) || nat_le system.syncsteps (same_steps system log other alike p s i) || is_some took || not (same_stated system log other alike p i)) (silent i))
-            ∙ h.due;
+        due = sym (λ i. option_map (λ (s : ProcState). same_due p took s i) (silent i)) ∙ h.due;
       }
 
   fetch : (p : Pid) (index : ℕ) → FetchHolds system log p index → FetchHolds system other p index
@@ -115,7 +119,8 @@ module _ (system : System) (log other : List Entry) (alike : AreAlike log other)
       account = account_is p _ _ (same_after system log other alike (what e)) h.account;
     }
 
-    rebackup : (to : ClusterNo) (is_fresh : Bool) (recs : List BackRec) (first : Option BackRec) → RebackupHolds system log e to is_fresh recs first → RebackupHolds system other e to is_fresh recs first
+    rebackup : (to : ClusterNo) (is_fresh : Bool) (recs : List BackRec) (first : Option BackRec) → RebackupHolds system log e to is_fresh recs first
+        → RebackupHolds system other e to is_fresh recs first
     rebackup to true recs None h = absurd h
     rebackup to false recs None h = absurd h
     rebackup to true recs (Some r) h = fresh r.pid to recs h

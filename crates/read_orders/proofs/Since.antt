@@ -42,20 +42,22 @@ told_kept system log = told_same [] (places_at_boot system) log
 
 -- ---- tests of one entry with what stood before it
 
-pub said_same : (test : What → Bool) → ((w : What) → test (reads_rising w) ≡ test w) → (t : Told) → test (what (told_rising t).entry) ≡ test (what t.entry)
-said_same test same t = same (what t.entry)
-
 moves_same : (p : Pid) (t : Told) → moves p (told_rising t) ≡ moves p t
 moves_same p t = blind (λ w. option_map_or (is_moved p t.places) (cluster_lost w) false) (λ q small read took. refl) (what t.entry)
 
 account_same : (p : Pid) (a : Account) (t : Told) → account_step p a (told_rising t) ≡ account_step p a t
-account_same p a t =
-    blind (λ w. cond (is_exit_of p w) no_pages (cond (is_cut p w) (committed a) (cond (option_map_or (is_moved p t.places) (cluster_lost w) false) (reverted a) (record { now = page_put p w a.now; kept = a.kept }))))
-    (λ q small read took. refl) (what t.entry)
+account_same p a t = blind after (λ q small read took. refl) (what t.entry)
+  where
+    after : What → Account
+    after w =
+        let moved = option_map_or (is_moved p t.places) (cluster_lost w) false in
+        cond (is_exit_of p w) no_pages (cond (is_cut p w) (committed a) (cond moved (reverted a) (record { now = page_put p w a.now; kept = a.kept })))
 
 pub account_kept : (system : System) (log : List Entry) (p : Pid) → account_after system (map with_reads_rising log) p ≡ account_after system log p
 unfolding account_after
-account_kept system log p = ap (fold (account_step p) (account_at_boot system p)) (told_kept system log) ∙ fold-same told_rising (account_step p) (account_same p) (account_at_boot system p) (told system log)
+account_kept system log p =
+    ap (fold (account_step p) (account_at_boot system p)) (told_kept system log)
+    ∙ fold-same told_rising (account_step p) (account_same p) (account_at_boot system p) (told system log)
 
 -- ---- since a crash moved a process
 
@@ -65,7 +67,8 @@ since_moved_kept system log p = ap (after_last (moves p)) (told_kept system log)
 pub any_since_kept : (system : System) (p : Pid) (test : What → Bool) → ((w : What) → test (reads_rising w) ≡ test w) → (log : List Entry)
     → any_since_moved system (map with_reads_rising log) p test ≡ any_since_moved system log p test
 any_since_kept system p test same log =
-    ap (list_any (λ (t : Told). test (what t.entry))) (since_moved_kept system log p) ∙ list_any-same told_rising (λ (t : Told). test (what t.entry)) (λ t. same (what t.entry)) (since_moved system log p)
+    ap (list_any (λ (t : Told). test (what t.entry))) (since_moved_kept system log p)
+    ∙ list_any-same told_rising (λ (t : Told). test (what t.entry)) (λ t. same (what t.entry)) (since_moved system log p)
 
 pub was_moved_kept : (system : System) (log : List Entry) (p : Pid) → was_moved system (map with_reads_rising log) p ≡ was_moved system log p
 was_moved_kept system log p = ap (list_any (moves p)) (told_kept system log) ∙ list_any-same told_rising (moves p) (moves_same p) (told system log)
@@ -83,7 +86,8 @@ moved_stated_kept system log p =
 
 pub places_since_kept : (system : System) (log : List Entry) (p : Pid) → places_since_moved system (map with_reads_rising log) p ≡ places_since_moved system log p
 places_since_kept system log p =
-    λ i. (ap (map (λ (t : Told). t.places)) (since_moved_kept system log p) ∙ map-same told_rising (λ (t : Told). t.places) (λ t. refl) (since_moved system log p)) i ++ placement_kept system log i ∷ []
+    λ i. (ap (map (λ (t : Told). t.places)) (since_moved_kept system log p) ∙ map-same told_rising (λ (t : Told). t.places) (λ t. refl) (since_moved system log p)) i
+    ++ placement_kept system log i ∷ []
 
 -- ---- fetches that wait
 

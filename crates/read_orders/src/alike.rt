@@ -20,7 +20,8 @@ pub fn logs_with_the_same_lines()
 
 /// A law and no code: what may follow in a log may follow in each log that is alike.
 pub fn alike_logs_go_on_alike()
-    ensures { (system : System) (log other : List Entry) (e : Entry) → AreAlike log other → MayFollow system log e → MayFollow system other e }
+    ensures { (system : System) (log other : List Entry) (e : Entry) → AreAlike log other →
+        MayFollow system log e → MayFollow system other e }
 {}
 
 /// A law and no code: logs that are alike say the same. They have one schedule,
